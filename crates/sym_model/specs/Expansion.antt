@@ -1,0 +1,49 @@
+-- The polynomial that a list of terms stands for, with its fractions cleared.
+use Rattle.std.specs.Prelude.{◌≡◌, ℕ, ◌*◌, ◌/◌, ℤ, pos, ◌*ℤ◌, List, [], ◌∷◌}
+use Rattle.sym_model.specs.Polynomial.{Poly, Same, nothing, plus, scale}
+use Rattle.sym_model.specs.Bases.{monomial, elementary, complete, power_sum}
+use Rattle.sym_model.specs.Schur.{schur}
+
+-- the five bases of symmetric functions, m, e, h, p and s (Macdonald, I.2 and I.3)
+pub data Basis : Type 0 where
+  monomials : Basis
+  elementaries : Basis
+  completes : Basis
+  power_sums : Basis
+  schurs : Basis
+
+-- the polynomial of a partition in a basis, in n variables
+abbrev pub basis_polynomial : Basis → List ℕ → ℕ → Poly
+basis_polynomial monomials parts n = monomial parts n
+basis_polynomial elementaries parts n = elementary parts n
+basis_polynomial completes parts n = complete parts n
+basis_polynomial power_sums parts n = power_sum parts n
+basis_polynomial schurs parts n = schur parts n
+
+-- a fraction: its numerator and its denominator
+abbrev pub Fraction : Type 0
+Fraction = ℤ × ℕ
+
+-- a list of terms: labels with their coefficients
+abbrev pub Terms : Type 0 → Type 0
+Terms Label = List (Label × Fraction)
+
+-- the product of the denominators of the coefficients; 1 for the empty list
+abbrev pub denominators : {Label : Type 0} → Terms Label → ℕ
+denominators [] = 1
+denominators (t ∷ terms) = t.1.1 * denominators terms
+
+-- the sum of num·(q/den) times the polynomial of the label, over the terms
+abbrev pub cleared : {Label : Type 0} → (Label → Poly) → ℕ → Terms Label → Poly
+cleared polynomial q [] = nothing
+cleared polynomial q (t ∷ terms) =
+    plus (scale (t.1.0 *ℤ pos (q / t.1.1)) (polynomial t.0)) (cleared polynomial q terms)
+
+-- the value of a list in n variables, labels read in the basis, times the product of its denominators
+abbrev pub value : Basis → Terms (List ℕ) → ℕ → Poly
+value basis terms n = cleared (λ label. basis_polynomial basis label n) (denominators terms) terms
+
+-- the list is the polynomial f divided by the number d, labels read in the basis
+abbrev pub IsExpansionOf : Basis → Terms (List ℕ) → ℕ → Poly → ℕ → Type 0
+IsExpansionOf basis terms n f d =
+    Same (scale (pos d) (value basis terms n)) (scale (pos (denominators terms)) f)

@@ -1,0 +1,10 @@
+pub mod Sum
+pub mod Polynomial
+pub mod Partition
+pub mod Bases
+pub mod Schur
+pub mod Expansion
+pub mod PrintedOrder
+pub mod Canonical
+pub mod PrintedBlock
+pub mod PowerSumCommand

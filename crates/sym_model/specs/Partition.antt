@@ -1,0 +1,79 @@
+-- Partitions and skew shapes (Macdonald, I.1; Fulton, Notation). Rows, columns and parts are counted from 1.
+use Rattle.std.specs.Prelude.{◌≡◌, ℕ, zero, suc, ◌+◌, ◌-◌, ◌<◌, ◌≤◌, nat_le, List, [], ◌∷◌, map, length, cond, slice_index}
+use Rattle.sym_model.specs.Sum.{each}
+
+-- no number is greater than the one before it
+abbrev pub Falls : List ℕ → Type 0
+Falls [] = Unit {0}
+Falls (a ∷ []) = Unit {0}
+Falls (a ∷ b ∷ parts) = (b ≤ a) × Falls (b ∷ parts)
+
+-- each number is positive
+abbrev pub ArePositive : List ℕ → Type 0
+ArePositive [] = Unit {0}
+ArePositive (a ∷ parts) = (0 < a) × ArePositive parts
+
+-- a partition is a weakly falling list of positive numbers, its parts (Macdonald)
+pub record IsPartition (parts : List ℕ) : Type 0 where
+  pub falls : Falls parts
+  pub positive : ArePositive parts
+
+-- the size of a partition, |λ|: the sum of its parts
+abbrev pub size : List ℕ → ℕ
+size [] = 0
+size (a ∷ parts) = a + size parts
+
+-- the number of rows: how many parts there are
+abbrev pub rows : List ℕ → ℕ
+rows parts = length parts
+
+-- part i, counted from 1; 0 past the last
+abbrev pub part : List ℕ → ℕ → ℕ
+part parts i = slice_index parts (i - 1)
+
+-- the number of columns: the first part
+abbrev pub columns : List ℕ → ℕ
+columns parts = part parts 1
+
+-- the shape of inner lies inside that of outer: no part of inner is greater than the part of outer in the same row
+abbrev pub Holds : List ℕ → List ℕ → Type 0
+Holds outer inner = (i : ℕ) → part inner i ≤ part outer i
+
+-- (row, column) is a cell of the skew shape outer/inner: a cell of outer and not of inner
+pub record IsCell (outer inner : List ℕ) (row column : ℕ) : Type 0 where
+  pub row_counts : 1 ≤ row
+  pub outside : part inner row < column
+  pub within : column ≤ part outer row
+
+-- the numbers from a + 1 to a + k, rising
+abbrev pub after : ℕ → ℕ → List ℕ
+after a zero = []
+after a (suc k) = (a + 1) ∷ after (a + 1) k
+
+-- the cells of outer/inner as pairs (row, column), row by row
+abbrev pub cells : List ℕ → List ℕ → List (ℕ × ℕ)
+cells outer inner =
+    each (λ row. map (λ column. (row, column)) (after (part inner row) (part outer row - part inner row)))
+    (after 0 (rows outer))
+
+-- the positive numbers of a list put in falling order: a into its place in a falling list
+abbrev pub insert_part : ℕ → List ℕ → List ℕ
+insert_part zero parts = parts
+insert_part (suc a) [] = suc a ∷ []
+insert_part (suc a) (b ∷ parts) = cond (nat_le b (suc a)) (suc a ∷ b ∷ parts) (b ∷ insert_part (suc a) parts)
+
+-- the partition that a list of exponents sorts to: its positive numbers in falling order
+abbrev pub sorted_parts : List ℕ → List ℕ
+sorted_parts [] = []
+sorted_parts (a ∷ α) = insert_part a (sorted_parts α)
+
+-- a number in front of a list; a zero in front of nothing is dropped
+abbrev pub in_front : ℕ → List ℕ → List ℕ
+in_front zero [] = []
+in_front zero (b ∷ numbers) = 0 ∷ b ∷ numbers
+in_front (suc a) numbers = suc a ∷ numbers
+
+-- the list without the zeros at its end
+abbrev pub without_last_zeros : List ℕ → List ℕ
+without_last_zeros [] = []
+without_last_zeros (a ∷ numbers) = in_front a (without_last_zeros numbers)
