@@ -8,3 +8,5 @@ pub mod PrintedOrder
 pub mod Canonical
 pub mod PrintedBlock
 pub mod PowerSumCommand
+pub mod WholeTerms
+pub mod PowerSumProduct
