@@ -8,6 +8,7 @@ use Rattle.std.proofs.Common.{◌≡◌, ℕ, zero, suc, ◌+◌, ◌≤◌, ◌
 use Rattle.std.proofs.lemmas.Int.{ints}
 use Rattle.sym_model.specs.Sum.{total, each, select, Among, Once, Within}
 use Rattle.sym_model.proofs.Ring.{distributes_left}
+use Rattle.std.proofs.lemmas.List.{length-map}
 use lib.IntN.{+ℤ_idl, *ℤ-zero}
 
 -- ---- sums
@@ -172,3 +173,113 @@ Once-each {A} {B} f (x ∷ xs) o p d =
   where
     apart : (y : B) → Among y (f x) → Among y (each f xs) → ⊥
     apart y m n = let r = Among_from_each f y xs n in o.0 (subst (λ z. Among z xs) (sym (d x r.0 y (inl refl) (inr r.1) m r.2)) r.1)
+
+-- ---- a member taken out once
+
+abbrev pub without : {A : Type 0} (x : A) (xs : List A) → Among x xs → List A
+without x [] m = []
+without x (y ∷ xs) (inl e) = xs
+without x (y ∷ xs) (inr m) = y ∷ without x xs m
+
+pub total-without : {A : Type 0} (f : A → ℤ) (x : A) (xs : List A) (m : Among x xs) → total f xs ≡ f x +ℤ total f (without x xs m)
+total-without f x [] m = absurd m
+total-without f x (y ∷ xs) (inl e) = ap (λ z. f z +ℤ total f xs) (sym e)
+total-without f x (y ∷ xs) (inr m) = let e = total-without f x xs m in omega (arith, ints)
+
+pub length-without : {A : Type 0} (x : A) (xs : List A) (m : Among x xs) → length xs ≡ suc (length (without x xs m))
+length-without x [] m = absurd m
+length-without x (y ∷ xs) (inl e) = refl
+length-without x (y ∷ xs) (inr m) = ap suc (length-without x xs m)
+
+pub Among-without : {A : Type 0} (z x : A) (xs : List A) (m : Among x xs) → Among z xs → (z ≡ x) ⊎ Among z (without x xs m)
+Among-without z x [] m n = absurd m
+Among-without z x (y ∷ xs) (inl e) (inl d) = inl (d ∙ sym e)
+Among-without z x (y ∷ xs) (inl e) (inr n) = inr n
+Among-without z x (y ∷ xs) (inr m) (inl d) = inr (inl d)
+Among-without z x (y ∷ xs) (inr m) (inr n) = elim (Among-without z x xs m n) [ inl e ↦ inl e | inr r ↦ inr (inr r) ]
+
+pub Among_from_without : {A : Type 0} (z x : A) (xs : List A) (m : Among x xs) → Among z (without x xs m) → Among z xs
+Among_from_without z x [] m n = absurd m
+Among_from_without z x (y ∷ xs) (inl e) n = inr n
+Among_from_without z x (y ∷ xs) (inr m) (inl d) = inl d
+Among_from_without z x (y ∷ xs) (inr m) (inr n) = inr (Among_from_without z x xs m n)
+
+pub Once-without : {A : Type 0} (x : A) (xs : List A) (m : Among x xs) → Once xs → Among x (without x xs m) → ⊥
+Once-without x [] m o n = m
+Once-without x (y ∷ xs) (inl e) o n = o.0 (subst (λ z. Among z xs) e n)
+Once-without x (y ∷ xs) (inr m) o (inl d) = o.0 (subst (λ z. Among z xs) d m)
+Once-without x (y ∷ xs) (inr m) o (inr n) = Once-without x xs m o.1 n
+
+-- ---- sums over lists with the same members
+
+-- the list without x still has each member of a list that x is not in
+Within-without : {A : Type 0} (x : A) (xs ys : List A) (m : Among x xs) → (Among x ys → ⊥) → Within ys xs → Within ys (without x xs m)
+Within-without x xs ys m d w z n = elim (Among-without z x xs m (w z n)) [ inl e ↦ absurd (d (subst (λ u. Among u ys) e n)) | inr r ↦ r ]
+
+-- a list without repeats within another is no longer than it
+pub length_within : {A : Type 0} (xs ys : List A) → Once ys → Within ys xs → length ys ≤ length xs
+length_within xs [] o w = omega arith
+length_within xs (y ∷ ys) o w =
+    let m = w y (inl refl) in
+    let e = length-without y xs m in
+    let r = length_within (without y xs m) ys o.1 (Within-without y xs ys m o.0 (Within_tail y ys xs w)) in
+    omega arith
+
+-- a list without repeats within another of the same length has its sums
+pub total_within : {A : Type 0} (f : A → ℤ) (xs ys : List A) → Once ys → Within ys xs → length ys ≡ length xs → total f ys ≡ total f xs
+total_within f [] [] o w l = refl
+total_within f (x ∷ xs) [] o w l = absurd (omega arith)
+total_within f xs (y ∷ ys) o w l =
+    let m = w y (inl refl) in
+    let e = length-without y xs m in
+    let k : length ys ≡ length (without y xs m) = omega arith in
+    let r = total_within f (without y xs m) ys o.1 (Within-without y xs ys m o.0 (Within_tail y ys xs w)) k in
+    ap (λ n. f y +ℤ n) r ∙ sym (total-without f y xs m)
+
+-- two lists without repeats with the same members have the same sums
+pub total_same_members : {A : Type 0} (f : A → ℤ) (xs ys : List A) → Once xs → Once ys → Within xs ys → Within ys xs → total f xs ≡ total f ys
+total_same_members f xs ys o p v w =
+    let a = length_within xs ys p w in
+    let b = length_within ys xs o v in
+    total_within f ys xs o v (omega arith)
+
+-- a one-to-one map of a list into itself
+pub total_reindex : {A : Type 0} (f : A → ℤ) (h : A → A) (xs : List A) → Once xs → ((x : A) → Among x xs → Among (h x) xs)
+    → ((x y : A) → Among x xs → Among y xs → h x ≡ h y → x ≡ y) → total (λ (x : A). f (h x)) xs ≡ total f xs
+total_reindex {A} f h xs o into inj = sym (total_map f h xs) ∙ total_within f xs (map h xs) (Once-map h xs inj o) within (length-map xs h)
+  where
+    within : Within (map h xs) xs
+    within z m = let r = Among_from_map h z xs m in subst (λ u. Among u xs) (sym r.2) (into r.0 r.1)
+
+-- a map from one list to another, undone by a map back
+pub total_bijection : {A B : Type 0} (f : B → ℤ) (h : A → B) (k : B → A) (xs : List A) (ys : List B) → Once xs → Once ys
+    → ((x : A) → Among x xs → Among (h x) ys) → ((y : B) → Among y ys → Among (k y) xs)
+    → ((x : A) → Among x xs → k (h x) ≡ x) → ((y : B) → Among y ys → h (k y) ≡ y) → total (λ (x : A). f (h x)) xs ≡ total f ys
+total_bijection {A} {B} f h k xs ys o p into back kh hk =
+    sym (total_map f h xs) ∙ total_same_members f (map h xs) ys (Once-map h xs inj o) p within reach
+  where
+    inj : (x y : A) → Among x xs → Among y xs → h x ≡ h y → x ≡ y
+    inj x y m n e = sym (kh x m) ∙ ap k e ∙ kh y n
+    within : Within (map h xs) ys
+    within z m = let r = Among_from_map h z xs m in subst (λ u. Among u ys) (sym r.2) (into r.0 r.1)
+    reach : Within ys (map h xs)
+    reach z m = subst (λ u. Among u (map h xs)) (hk z m) (Among-map h (k z) xs (back z m))
+
+-- a sum whose terms an involution turns into their negatives is 0
+pub total_cancel : {A : Type 0} (f : A → ℤ) (h : A → A) (xs : List A) → Once xs → ((x : A) → Among x xs → Among (h x) xs)
+    → ((x : A) → Among x xs → h (h x) ≡ x) → ((x : A) → Among x xs → f (h x) ≡ neg_ℤ (f x)) → total f xs ≡ pos 0
+total_cancel {A} f h xs o into twice turn =
+    let a = total_reindex f h xs o into (λ x y m n e. sym (twice x m) ∙ ap h e ∙ twice y n) in
+    let b = total_among (λ (x : A). f (h x)) (λ (x : A). neg_ℤ (f x)) xs turn in
+    let c = total_neg f xs in
+    omega (arith, ints)
+
+-- a sum in which only one member counts
+pub total_only : {A : Type 0} (f : A → ℤ) (a : A) (xs : List A) → Once xs → Among a xs → ((x : A) → Among x xs → (x ≡ a → ⊥) → f x ≡ pos 0) → total f xs ≡ f a
+total_only {A} f a xs o m zero_at = 
+    let e = total-without f a xs m in
+    let d = total_none f (without a xs m) others in
+    omega (arith, ints)
+  where
+    others : (x : A) → Among x (without a xs m) → f x ≡ pos 0
+    others x n = zero_at x (Among_from_without x a xs m n) (λ e. Once-without a xs m o (subst (λ u. Among u (without a xs m)) e n))
