@@ -8,7 +8,7 @@ use Rattle.sym_model.specs.Sum.{total, each, select, Among}
 use Rattle.sym_model.specs.Polynomial.{Term, Poly, same, coefficient, Same, In, nothing, no_exponents, one, join, plus, scale, negate, times, pair, resize, fits_in, restrict}
 use Rattle.sym_model.proofs.Ring.{ring, distributes_left, distributes_right, product_assoc, product_left_comm, negation-product, product-negation, product-one, one-product}
 use Rattle.sym_model.proofs.Sums.{total_ext, total_among, total_append, total_zero, total_none, total_add, total_neg, total_scale, total_map, total_each, total_select, total_exchange, Among_from_append, Among_from_map, Among_from_each, Among_from_select}
-use Rattle.sym_model.proofs.Exponents.{same_refl, same_true, same_from, same_false, same_apart, length-join_same, length-resize}
+use Rattle.sym_model.proofs.Exponents.{same_refl, same_true, same_from, same_false, same_apart, same_or_not, length-join_same, length-resize}
 use lib.IntN.{+ℤ_idl, *ℤ-zero, zero-*ℤ, *ℤ_comm}
 
 -- ---- pairing with changed test functions
@@ -99,3 +99,138 @@ pair_restrict n f φ =
     inside : (b : Bool) (c x : ℤ) → cond b (c *ℤ x) (pos 0) ≡ c *ℤ cond b x (pos 0)
     inside true c x = refl
     inside false c x = sym (*ℤ-zero c)
+
+-- ---- coefficients are pairings, and determine all of them
+
+-- the test function that is 1 at α and 0 elsewhere
+abbrev pub at_only : List ℕ → List ℕ → ℤ
+at_only α β = cond (same β α) (pos 1) (pos 0)
+
+pub coefficient_pair : (f : Poly) (α : List ℕ) → coefficient f α ≡ pair f (at_only α)
+coefficient_pair f α = total_ext (λ (t : Term). cond (same t.0 α) t.1 (pos 0)) (λ (t : Term). t.1 *ℤ at_only α t.0) (λ t. by (same t.0 α) t.1) f
+  where
+    by : (b : Bool) (c : ℤ) → cond b c (pos 0) ≡ c *ℤ cond b (pos 1) (pos 0)
+    by true c = sym (product-one c)
+    by false c = sym (*ℤ-zero c)
+
+pub same_from_pair : (f g : Poly) → ((φ : List ℕ → ℤ) → pair f φ ≡ pair g φ) → Same f g
+same_from_pair f g e α = coefficient_pair f α ∙ e (at_only α) ∙ sym (coefficient_pair g α)
+
+-- the terms at other exponents than α
+abbrev others : List ℕ → Poly → Poly
+others α f = select (λ (t : Term). not (same t.0 α)) f
+
+length_others : (α : List ℕ) (f : Poly) → length (others α f) ≤ length f
+length_others α [] = omega arith
+length_others α (t ∷ f) = by (same t.0 α) (length_others α f)
+  where
+    by : (b : Bool) → length (others α f) ≤ length f → length (cond (not b) (t ∷ others α f) (others α f)) ≤ suc (length f)
+    by true h = omega arith
+    by false h = omega arith
+
+others_there : (α : List ℕ) (f : Poly) → coefficient (others α f) α ≡ pos 0
+others_there α f =
+    total_select (λ (t : Term). cond (same t.0 α) t.1 (pos 0)) (λ (t : Term). not (same t.0 α)) f
+      ∙ total_none (λ (t : Term). cond (not (same t.0 α)) (cond (same t.0 α) t.1 (pos 0)) (pos 0)) f (λ t m. by (same t.0 α) t.1)
+  where
+    by : (b : Bool) (c : ℤ) → cond (not b) (cond b c (pos 0)) (pos 0) ≡ pos 0
+    by true c = refl
+    by false c = refl
+
+others_elsewhere : (α β : List ℕ) (f : Poly) → (α ≡ β → ⊥) → coefficient (others α f) β ≡ coefficient f β
+others_elsewhere α β f h =
+    total_select (λ (t : Term). cond (same t.0 β) t.1 (pos 0)) (λ (t : Term). not (same t.0 α)) f
+      ∙ total_ext (λ (t : Term). cond (not (same t.0 α)) (cond (same t.0 β) t.1 (pos 0)) (pos 0)) (λ (t : Term). cond (same t.0 β) t.1 (pos 0)) (λ t. by t (same t.0 α) refl) f
+  where
+    by : (t : Term) (b : Bool) → same t.0 α ≡ b → cond (not b) (cond (same t.0 β) t.1 (pos 0)) (pos 0) ≡ cond (same t.0 β) t.1 (pos 0)
+    by t true e = ap (λ d. cond d t.1 (pos 0)) (sym (same_apart t.0 β (λ d. h (sym (same_true t.0 α e) ∙ d))))
+    by t false e = refl
+
+-- a pairing is what the terms at α give, and the pairing of the others
+pair_others : (α : List ℕ) (f : Poly) (φ : List ℕ → ℤ) → pair f φ ≡ φ α *ℤ coefficient f α +ℤ pair (others α f) φ
+pair_others α f φ =
+    total_ext (λ (t : Term). t.1 *ℤ φ t.0) (λ (t : Term). φ α *ℤ here t +ℤ there t) (λ t. by t (same t.0 α) refl) f
+      ∙ total_add (λ (t : Term). φ α *ℤ here t) there f
+      ∙ ap₂ ◌+ℤ◌ (total_scale (φ α) here f) (sym (total_select (λ (t : Term). t.1 *ℤ φ t.0) (λ (t : Term). not (same t.0 α)) f))
+  where
+    here : Term → ℤ
+    here t = cond (same t.0 α) t.1 (pos 0)
+    there : Term → ℤ
+    there t = cond (not (same t.0 α)) (t.1 *ℤ φ t.0) (pos 0)
+    by : (t : Term) (b : Bool) → same t.0 α ≡ b → t.1 *ℤ φ t.0 ≡ φ α *ℤ cond b t.1 (pos 0) +ℤ cond (not b) (t.1 *ℤ φ t.0) (pos 0)
+    by t true e = let d = ap (λ γ. t.1 *ℤ φ γ) (same_true t.0 α e) in let k = *ℤ_comm t.1 (φ α) in omega (arith, ints)
+    by t false e = let z = *ℤ-zero (φ α) in omega (arith, ints)
+
+pair_nothing : (n : ℕ) (f : Poly) (φ : List ℕ → ℤ) → length f ≤ n → ((α : List ℕ) → coefficient f α ≡ pos 0) → pair f φ ≡ pos 0
+pair_nothing n [] φ h z = refl
+pair_nothing zero (t ∷ f) φ h z = absurd (omega arith)
+pair_nothing (suc n) (t ∷ f) φ h z =
+    let c = coefficient f t.0 in
+    let first : t.1 +ℤ c ≡ pos 0 = ap (λ b. cond b t.1 (pos 0) +ℤ c) (sym (same_refl t.0)) ∙ z t.0 in
+    let rest : pair (others t.0 f) φ ≡ pos 0 = pair_nothing n (others t.0 f) φ (omega (arith, length_others t.0 f)) left in
+    let all = pair_others t.0 f φ in
+    let d : φ t.0 *ℤ t.1 +ℤ φ t.0 *ℤ c ≡ pos 0 = sym (distributes_left (φ t.0) t.1 c) ∙ ap (λ x. φ t.0 *ℤ x) first ∙ *ℤ-zero (φ t.0) in
+    let k = *ℤ_comm t.1 (φ t.0) in
+    omega (arith, ints)
+  where
+    left : (β : List ℕ) → coefficient (others t.0 f) β ≡ pos 0
+    left β = elim (same_or_not t.0 β) [
+        inl e ↦ subst (λ γ. coefficient (others t.0 f) γ ≡ pos 0) e (others_there t.0 f)
+      | inr e ↦ others_elsewhere t.0 β f e ∙ sym (+ℤ_idl (coefficient f β)) ∙ ap (λ b. cond b t.1 (pos 0) +ℤ coefficient f β) (sym (same_apart t.0 β e)) ∙ z β
+      ]
+
+pub pair_determined : (f g : Poly) (φ : List ℕ → ℤ) → Same f g → pair f φ ≡ pair g φ
+pair_determined f g φ e =
+    let z = pair_nothing (length (f ++ negate g)) (f ++ negate g) φ (omega arith) none in
+    let a = pair_plus f (negate g) φ in
+    let b = pair_negate g φ in
+    omega (arith, ints)
+  where
+    none : (α : List ℕ) → coefficient (f ++ negate g) α ≡ pos 0
+    none α =
+        let a = pair_plus f (negate g) (at_only α) in
+        let b = pair_negate g (at_only α) in
+        let c = coefficient_pair f α in
+        let d = coefficient_pair g α in
+        let k = e α in
+        coefficient_pair (f ++ negate g) α ∙ omega (arith, ints)
+
+-- ---- one polynomial: an equivalence that sums, products and restrictions respect
+
+pub Same_refl : (f : Poly) → Same f f
+Same_refl f α = refl
+
+pub Same_sym : (f g : Poly) → Same f g → Same g f
+Same_sym f g e α = sym (e α)
+
+pub Same_trans : (f g h : Poly) → Same f g → Same g h → Same f h
+Same_trans f g h d e α = d α ∙ e α
+
+-- equal formal sums are one polynomial
+pub same_of_equal : (f g : Poly) → f ≡ g → Same f g
+same_of_equal f g e α = ap (λ h. coefficient h α) e
+
+pub plus_respects : (f g h k : Poly) → Same f g → Same h k → Same (plus f h) (plus g k)
+plus_respects f g h k d e =
+    same_from_pair (plus f h) (plus g k) (λ φ. pair_plus f h φ ∙ ap₂ ◌+ℤ◌ (pair_determined f g φ d) (pair_determined h k φ e) ∙ sym (pair_plus g k φ))
+
+pub scale_respects : (c : ℤ) (f g : Poly) → Same f g → Same (scale c f) (scale c g)
+scale_respects c f g e =
+    same_from_pair (scale c f) (scale c g) (λ φ. pair_scale c f φ ∙ ap (λ n. c *ℤ n) (pair_determined f g φ e) ∙ sym (pair_scale c g φ))
+
+pub negate_respects : (f g : Poly) → Same f g → Same (negate f) (negate g)
+negate_respects f g e =
+    same_from_pair (negate f) (negate g) (λ φ. pair_negate f φ ∙ ap neg_ℤ (pair_determined f g φ e) ∙ sym (pair_negate g φ))
+
+pub times_respects : (f g h k : Poly) → Same f g → Same h k → Same (times f h) (times g k)
+times_respects f g h k d e =
+    same_from_pair (times f h) (times g k) (λ φ.
+      pair_times f h φ
+        ∙ pair_ext f (λ α. pair h (λ β. φ (join α β))) (λ α. pair k (λ β. φ (join α β))) (λ α. pair_determined h k (λ β. φ (join α β)) e)
+        ∙ pair_determined f g (λ α. pair k (λ β. φ (join α β))) d
+        ∙ sym (pair_times g k φ))
+
+pub restrict_respects : (n : ℕ) (f g : Poly) → Same f g → Same (restrict n f) (restrict n g)
+restrict_respects n f g e =
+    same_from_pair (restrict n f) (restrict n g) (λ φ.
+      pair_restrict n f φ ∙ pair_determined f g (λ α. cond (fits_in n α) (φ (resize n α)) (pos 0)) e ∙ sym (pair_restrict n g φ))
