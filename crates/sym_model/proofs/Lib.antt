@@ -4,3 +4,5 @@ pub mod Exponents
 pub mod Polynomials
 pub mod SortedParts
 pub mod Monomials
+pub mod WholeTerms
+pub mod PowerSums
