@@ -3,6 +3,7 @@
 -- a pairing of its parts, so that a law of polynomials is a law of finite sums.
 use Rattle.std.proofs.Common.{◌≡◌, ℕ, zero, suc, ◌+◌, ◌≤◌, ◌⊎◌, Bool, true, false, cond, not, List, [], ◌∷◌, ◌++◌, map, length, replicate, sym, ◌∙◌, ap, ap₂, subst, refl, inl, inr, arith, ℤ, pos, ◌+ℤ◌, ◌*ℤ◌, neg_ℤ, append_assoc}
 use Rattle.std.proofs.lemmas.Int.{ints}
+use Rattle.std.proofs.lemmas.Bool.{cases_eq}
 use Rattle.std.proofs.lemmas.List.{length-replicate}
 use Rattle.sym_model.specs.Sum.{total, each, select, Among}
 use Rattle.sym_model.specs.Polynomial.{Term, Poly, same, coefficient, Same, In, nothing, no_exponents, one, join, plus, scale, negate, times, pair, resize, fits_in, restrict}
@@ -234,3 +235,69 @@ pub restrict_respects : (n : ℕ) (f g : Poly) → Same f g → Same (restrict n
 restrict_respects n f g e =
     same_from_pair (restrict n f) (restrict n g) (λ φ.
       pair_restrict n f φ ∙ pair_determined f g (λ α. cond (fits_in n α) (φ (resize n α)) (pos 0)) e ∙ sym (pair_restrict n g φ))
+
+-- ---- polynomials in n variables
+
+pub In_nothing : (n : ℕ) → In n nothing
+In_nothing n t m = absurd m
+
+pub In_one : (n : ℕ) → In n (one n)
+In_one n t (inl e) = ap (λ (s : Term). length s.0) e ∙ length-replicate n 0
+In_one n t (inr m) = absurd m
+
+pub In_tail : (n : ℕ) (t : Term) (f : Poly) → In n (t ∷ f) → In n f
+In_tail n t f i s m = i s (inr m)
+
+pub In_plus : (n : ℕ) (f g : Poly) → In n f → In n g → In n (plus f g)
+In_plus n f g i j t m = elim (Among_from_append t f g m) [ inl l ↦ i t l | inr r ↦ j t r ]
+
+-- a map of the terms that keeps the numbers of places
+pub In_map : {A : Type 0} (n : ℕ) (h : A → Term) (xs : List A) → ((x : A) → Among x xs → length (h x).0 ≡ n) → In n (map h xs)
+In_map n h xs i t m = let r = Among_from_map h t xs m in ap (λ (s : Term). length s.0) r.2 ∙ i r.0 r.1
+
+pub In_each : {A : Type 0} (n : ℕ) (h : A → Poly) (xs : List A) → ((x : A) → Among x xs → In n (h x)) → In n (each h xs)
+In_each n h xs i t m = let r = Among_from_each h t xs m in i r.0 r.1 t r.2
+
+pub In_select : (n : ℕ) (test : Term → Bool) (f : Poly) → In n f → In n (select test f)
+In_select n test f i t m = i t (Among_from_select test t f m).0
+
+pub In_scale : (n : ℕ) (c : ℤ) (f : Poly) → In n f → In n (scale c f)
+In_scale n c f i = In_map n (λ (t : Term). (t.0, c *ℤ t.1)) f i
+
+pub In_negate : (n : ℕ) (f : Poly) → In n f → In n (negate f)
+In_negate n f i = In_map n (λ (t : Term). (t.0, neg_ℤ t.1)) f i
+
+pub In_times : (n : ℕ) (f g : Poly) → In n f → In n g → In n (times f g)
+In_times n f g i j =
+    In_each n (λ (s : Term). map (λ (t : Term). (join s.0 t.0, s.1 *ℤ t.1)) g) f (λ s m.
+      In_map n (λ (t : Term). (join s.0 t.0, s.1 *ℤ t.1)) g (λ t k. length-join_same n s.0 t.0 (i s m) (j t k)))
+
+pub In_restrict : (n : ℕ) (f : Poly) → In n (restrict n f)
+In_restrict n f = In_map n (λ (t : Term). (resize n t.0, t.1)) (select (λ (t : Term). fits_in n t.0) f) (λ t m. length-resize n t.0)
+
+-- a polynomial in n variables has no coefficient at a list of another length
+pub coefficient_outside : (n : ℕ) (f : Poly) (α : List ℕ) → In n f → (length α ≡ n → ⊥) → coefficient f α ≡ pos 0
+coefficient_outside n f α i h =
+    total_none (λ (t : Term). cond (same t.0 α) t.1 (pos 0)) f (λ t m.
+      ap (λ b. cond b t.1 (pos 0)) (same_apart t.0 α (λ e. h (ap length (sym e) ∙ i t m))))
+
+-- two polynomials in n variables are one where their coefficients at lists of n places agree
+pub same_in : (n : ℕ) (f g : Poly) → In n f → In n g → ((α : List ℕ) → length α ≡ n → coefficient f α ≡ coefficient g α) → Same f g
+same_in n f g i j e α =
+    elim (cases_eq (length α) n) [
+      inl d ↦ e α d
+    | inr d ↦ coefficient_outside n f α i d ∙ sym (coefficient_outside n g α j d)
+    ]
+
+pub coefficient_plus : (f g : Poly) (α : List ℕ) → coefficient (plus f g) α ≡ coefficient f α +ℤ coefficient g α
+coefficient_plus f g α = total_append (λ (t : Term). cond (same t.0 α) t.1 (pos 0)) f g
+
+pub coefficient_scale : (c : ℤ) (f : Poly) (α : List ℕ) → coefficient (scale c f) α ≡ c *ℤ coefficient f α
+coefficient_scale c f α = coefficient_pair (scale c f) α ∙ pair_scale c f (at_only α) ∙ ap (λ n. c *ℤ n) (sym (coefficient_pair f α))
+
+pub coefficient_negate : (f : Poly) (α : List ℕ) → coefficient (negate f) α ≡ neg_ℤ (coefficient f α)
+coefficient_negate f α = coefficient_pair (negate f) α ∙ pair_negate f (at_only α) ∙ ap neg_ℤ (sym (coefficient_pair f α))
+
+-- the coefficients of a restriction are those of the polynomial, at lists padded with zeros
+pub coefficient_restrict : (n : ℕ) (f : Poly) (α : List ℕ) → coefficient (restrict n f) α ≡ pair f (λ β. cond (fits_in n β) (at_only α (resize n β)) (pos 0))
+coefficient_restrict n f α = coefficient_pair (restrict n f) α ∙ pair_restrict n f (at_only α)
