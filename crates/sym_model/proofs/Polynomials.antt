@@ -118,10 +118,10 @@ pub same_from_pair : (f g : Poly) → ((φ : List ℕ → ℤ) → pair f φ ≡
 same_from_pair f g e α = coefficient_pair f α ∙ e (at_only α) ∙ sym (coefficient_pair g α)
 
 -- the terms at other exponents than α
-abbrev others : List ℕ → Poly → Poly
+abbrev pub others : List ℕ → Poly → Poly
 others α f = select (λ (t : Term). not (same t.0 α)) f
 
-length_others : (α : List ℕ) (f : Poly) → length (others α f) ≤ length f
+pub length_others : (α : List ℕ) (f : Poly) → length (others α f) ≤ length f
 length_others α [] = omega arith
 length_others α (t ∷ f) = by (same t.0 α) (length_others α f)
   where
@@ -129,7 +129,7 @@ length_others α (t ∷ f) = by (same t.0 α) (length_others α f)
     by true h = omega arith
     by false h = omega arith
 
-others_there : (α : List ℕ) (f : Poly) → coefficient (others α f) α ≡ pos 0
+pub others_there : (α : List ℕ) (f : Poly) → coefficient (others α f) α ≡ pos 0
 others_there α f =
     total_select (λ (t : Term). cond (same t.0 α) t.1 (pos 0)) (λ (t : Term). not (same t.0 α)) f
       ∙ total_none (λ (t : Term). cond (not (same t.0 α)) (cond (same t.0 α) t.1 (pos 0)) (pos 0)) f (λ t m. by (same t.0 α) t.1)
@@ -138,7 +138,7 @@ others_there α f =
     by true c = refl
     by false c = refl
 
-others_elsewhere : (α β : List ℕ) (f : Poly) → (α ≡ β → ⊥) → coefficient (others α f) β ≡ coefficient f β
+pub others_elsewhere : (α β : List ℕ) (f : Poly) → (α ≡ β → ⊥) → coefficient (others α f) β ≡ coefficient f β
 others_elsewhere α β f h =
     total_select (λ (t : Term). cond (same t.0 β) t.1 (pos 0)) (λ (t : Term). not (same t.0 α)) f
       ∙ total_ext (λ (t : Term). cond (not (same t.0 α)) (cond (same t.0 β) t.1 (pos 0)) (pos 0)) (λ (t : Term). cond (same t.0 β) t.1 (pos 0)) (λ t. by t (same t.0 α) refl) f
@@ -162,27 +162,48 @@ pair_others α f φ =
     by t true e = let d = ap (λ γ. t.1 *ℤ φ γ) (same_true t.0 α e) in let k = *ℤ_comm t.1 (φ α) in omega (arith, ints)
     by t false e = let z = *ℤ-zero (φ α) in omega (arith, ints)
 
-pair_nothing : (n : ℕ) (f : Poly) (φ : List ℕ → ℤ) → length f ≤ n → ((α : List ℕ) → coefficient f α ≡ pos 0) → pair f φ ≡ pos 0
-pair_nothing n [] φ h z = refl
-pair_nothing zero (t ∷ f) φ h z = absurd (omega arith)
-pair_nothing (suc n) (t ∷ f) φ h z =
-    let c = coefficient f t.0 in
-    let first : t.1 +ℤ c ≡ pos 0 = ap (λ b. cond b t.1 (pos 0) +ℤ c) (sym (same_refl t.0)) ∙ z t.0 in
-    let rest : pair (others t.0 f) φ ≡ pos 0 = pair_nothing n (others t.0 f) φ (omega (arith, length_others t.0 f)) left in
-    let all = pair_others t.0 f φ in
-    let d : φ t.0 *ℤ t.1 +ℤ φ t.0 *ℤ c ≡ pos 0 = sym (distributes_left (φ t.0) t.1 c) ∙ ap (λ x. φ t.0 *ℤ x) first ∙ *ℤ-zero (φ t.0) in
+-- the coefficient at the first term's exponents
+coefficient_first : (t : Term) (f : Poly) → coefficient (t ∷ f) t.0 ≡ t.1 +ℤ coefficient f t.0
+coefficient_first t f = ap (λ b. cond b t.1 (pos 0) +ℤ coefficient f t.0) (same_refl t.0)
+
+pair_first : (t : Term) (f : Poly) (φ : List ℕ → ℤ) → pair (t ∷ f) φ ≡ φ t.0 *ℤ coefficient (t ∷ f) t.0 +ℤ pair (others t.0 f) φ
+pair_first t f φ =
+    let a = pair_others t.0 f φ in
+    let d = distributes_left (φ t.0) t.1 (coefficient f t.0) in
+    let e = ap (λ x. φ t.0 *ℤ x) (coefficient_first t f) in
     let k = *ℤ_comm t.1 (φ t.0) in
     omega (arith, ints)
+
+-- f agrees with its first term and the terms at other exponents
+agree_by_length : (n : ℕ) (f : Poly) (φ ψ : List ℕ → ℤ) → length f ≤ n → ((α : List ℕ) → (coefficient f α ≡ pos 0) ⊎ (φ α ≡ ψ α)) → pair f φ ≡ pair f ψ
+agree_by_length n [] φ ψ l h = refl
+agree_by_length zero (t ∷ f) φ ψ l h = absurd (omega arith)
+agree_by_length (suc n) (t ∷ f) φ ψ l h =
+    pair_first t f φ
+      ∙ ap₂ ◌+ℤ◌ here (agree_by_length n (others t.0 f) φ ψ (omega (arith, length_others t.0 f)) left)
+      ∙ sym (pair_first t f ψ)
   where
-    left : (β : List ℕ) → coefficient (others t.0 f) β ≡ pos 0
-    left β = elim (same_or_not t.0 β) [
-        inl e ↦ subst (λ γ. coefficient (others t.0 f) γ ≡ pos 0) e (others_there t.0 f)
-      | inr e ↦ others_elsewhere t.0 β f e ∙ sym (+ℤ_idl (coefficient f β)) ∙ ap (λ b. cond b t.1 (pos 0) +ℤ coefficient f β) (sym (same_apart t.0 β e)) ∙ z β
+    here : φ t.0 *ℤ coefficient (t ∷ f) t.0 ≡ ψ t.0 *ℤ coefficient (t ∷ f) t.0
+    here = elim (h t.0) [
+        inl e ↦ ap (λ c. φ t.0 *ℤ c) e ∙ *ℤ-zero (φ t.0) ∙ sym (*ℤ-zero (ψ t.0)) ∙ sym (ap (λ c. ψ t.0 *ℤ c) e)
+      | inr e ↦ ap (λ x. x *ℤ coefficient (t ∷ f) t.0) e
       ]
+    left : (β : List ℕ) → (coefficient (others t.0 f) β ≡ pos 0) ⊎ (φ β ≡ ψ β)
+    left β = elim (same_or_not t.0 β) [
+        inl e ↦ inl (subst (λ γ. coefficient (others t.0 f) γ ≡ pos 0) e (others_there t.0 f))
+      | inr d ↦ elim (h β) [
+          inl e ↦ inl (others_elsewhere t.0 β f d ∙ sym (+ℤ_idl (coefficient f β)) ∙ ap (λ b. cond b t.1 (pos 0) +ℤ coefficient f β) (sym (same_apart t.0 β d)) ∙ e)
+        | inr e ↦ inr e
+        ]
+      ]
+
+-- two test functions pair alike with f if they agree wherever f has a coefficient that is not 0
+pub pair_agree : (f : Poly) (φ ψ : List ℕ → ℤ) → ((α : List ℕ) → (coefficient f α ≡ pos 0) ⊎ (φ α ≡ ψ α)) → pair f φ ≡ pair f ψ
+pair_agree f φ ψ h = agree_by_length (length f) f φ ψ (omega arith) h
 
 pub pair_determined : (f g : Poly) (φ : List ℕ → ℤ) → Same f g → pair f φ ≡ pair g φ
 pair_determined f g φ e =
-    let z = pair_nothing (length (f ++ negate g)) (f ++ negate g) φ (omega arith) none in
+    let z = pair_agree (f ++ negate g) φ (λ α. pos 0) (λ α. inl (none α)) ∙ pair_zero (f ++ negate g) in
     let a = pair_plus f (negate g) φ in
     let b = pair_negate g φ in
     omega (arith, ints)
