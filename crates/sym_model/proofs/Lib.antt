@@ -6,3 +6,5 @@ pub mod SortedParts
 pub mod Monomials
 pub mod WholeTerms
 pub mod PowerSums
+pub mod PolynomialLaws
+pub mod LeadingTerms

@@ -3,6 +3,7 @@
 -- a pairing of its parts, so that a law of polynomials is a law of finite sums.
 use Rattle.std.proofs.Common.{◌≡◌, ℕ, zero, suc, ◌+◌, ◌≤◌, ◌⊎◌, Bool, true, false, cond, not, List, [], ◌∷◌, ◌++◌, map, length, replicate, sym, ◌∙◌, ap, ap₂, subst, refl, inl, inr, arith, ℤ, pos, ◌+ℤ◌, ◌*ℤ◌, neg_ℤ, append_assoc}
 use Rattle.std.proofs.lemmas.Int.{ints}
+use Rattle.std.proofs.lemmas.Bool.{cases_eq}
 use Rattle.std.proofs.lemmas.List.{length-replicate}
 use Rattle.sym_model.specs.Sum.{total, each, select, Among}
 use Rattle.sym_model.specs.Polynomial.{Term, Poly, same, coefficient, Same, In, nothing, no_exponents, one, join, plus, scale, negate, times, pair, resize, fits_in, restrict}
@@ -117,10 +118,10 @@ pub same_from_pair : (f g : Poly) → ((φ : List ℕ → ℤ) → pair f φ ≡
 same_from_pair f g e α = coefficient_pair f α ∙ e (at_only α) ∙ sym (coefficient_pair g α)
 
 -- the terms at other exponents than α
-abbrev others : List ℕ → Poly → Poly
+abbrev pub others : List ℕ → Poly → Poly
 others α f = select (λ (t : Term). not (same t.0 α)) f
 
-length_others : (α : List ℕ) (f : Poly) → length (others α f) ≤ length f
+pub length_others : (α : List ℕ) (f : Poly) → length (others α f) ≤ length f
 length_others α [] = omega arith
 length_others α (t ∷ f) = by (same t.0 α) (length_others α f)
   where
@@ -128,7 +129,7 @@ length_others α (t ∷ f) = by (same t.0 α) (length_others α f)
     by true h = omega arith
     by false h = omega arith
 
-others_there : (α : List ℕ) (f : Poly) → coefficient (others α f) α ≡ pos 0
+pub others_there : (α : List ℕ) (f : Poly) → coefficient (others α f) α ≡ pos 0
 others_there α f =
     total_select (λ (t : Term). cond (same t.0 α) t.1 (pos 0)) (λ (t : Term). not (same t.0 α)) f
       ∙ total_none (λ (t : Term). cond (not (same t.0 α)) (cond (same t.0 α) t.1 (pos 0)) (pos 0)) f (λ t m. by (same t.0 α) t.1)
@@ -137,7 +138,7 @@ others_there α f =
     by true c = refl
     by false c = refl
 
-others_elsewhere : (α β : List ℕ) (f : Poly) → (α ≡ β → ⊥) → coefficient (others α f) β ≡ coefficient f β
+pub others_elsewhere : (α β : List ℕ) (f : Poly) → (α ≡ β → ⊥) → coefficient (others α f) β ≡ coefficient f β
 others_elsewhere α β f h =
     total_select (λ (t : Term). cond (same t.0 β) t.1 (pos 0)) (λ (t : Term). not (same t.0 α)) f
       ∙ total_ext (λ (t : Term). cond (not (same t.0 α)) (cond (same t.0 β) t.1 (pos 0)) (pos 0)) (λ (t : Term). cond (same t.0 β) t.1 (pos 0)) (λ t. by t (same t.0 α) refl) f
@@ -161,27 +162,48 @@ pair_others α f φ =
     by t true e = let d = ap (λ γ. t.1 *ℤ φ γ) (same_true t.0 α e) in let k = *ℤ_comm t.1 (φ α) in omega (arith, ints)
     by t false e = let z = *ℤ-zero (φ α) in omega (arith, ints)
 
-pair_nothing : (n : ℕ) (f : Poly) (φ : List ℕ → ℤ) → length f ≤ n → ((α : List ℕ) → coefficient f α ≡ pos 0) → pair f φ ≡ pos 0
-pair_nothing n [] φ h z = refl
-pair_nothing zero (t ∷ f) φ h z = absurd (omega arith)
-pair_nothing (suc n) (t ∷ f) φ h z =
-    let c = coefficient f t.0 in
-    let first : t.1 +ℤ c ≡ pos 0 = ap (λ b. cond b t.1 (pos 0) +ℤ c) (sym (same_refl t.0)) ∙ z t.0 in
-    let rest : pair (others t.0 f) φ ≡ pos 0 = pair_nothing n (others t.0 f) φ (omega (arith, length_others t.0 f)) left in
-    let all = pair_others t.0 f φ in
-    let d : φ t.0 *ℤ t.1 +ℤ φ t.0 *ℤ c ≡ pos 0 = sym (distributes_left (φ t.0) t.1 c) ∙ ap (λ x. φ t.0 *ℤ x) first ∙ *ℤ-zero (φ t.0) in
+-- the coefficient at the first term's exponents
+coefficient_first : (t : Term) (f : Poly) → coefficient (t ∷ f) t.0 ≡ t.1 +ℤ coefficient f t.0
+coefficient_first t f = ap (λ b. cond b t.1 (pos 0) +ℤ coefficient f t.0) (same_refl t.0)
+
+pair_first : (t : Term) (f : Poly) (φ : List ℕ → ℤ) → pair (t ∷ f) φ ≡ φ t.0 *ℤ coefficient (t ∷ f) t.0 +ℤ pair (others t.0 f) φ
+pair_first t f φ =
+    let a = pair_others t.0 f φ in
+    let d = distributes_left (φ t.0) t.1 (coefficient f t.0) in
+    let e = ap (λ x. φ t.0 *ℤ x) (coefficient_first t f) in
     let k = *ℤ_comm t.1 (φ t.0) in
     omega (arith, ints)
+
+-- f agrees with its first term and the terms at other exponents
+agree_by_length : (n : ℕ) (f : Poly) (φ ψ : List ℕ → ℤ) → length f ≤ n → ((α : List ℕ) → (coefficient f α ≡ pos 0) ⊎ (φ α ≡ ψ α)) → pair f φ ≡ pair f ψ
+agree_by_length n [] φ ψ l h = refl
+agree_by_length zero (t ∷ f) φ ψ l h = absurd (omega arith)
+agree_by_length (suc n) (t ∷ f) φ ψ l h =
+    pair_first t f φ
+      ∙ ap₂ ◌+ℤ◌ here (agree_by_length n (others t.0 f) φ ψ (omega (arith, length_others t.0 f)) left)
+      ∙ sym (pair_first t f ψ)
   where
-    left : (β : List ℕ) → coefficient (others t.0 f) β ≡ pos 0
-    left β = elim (same_or_not t.0 β) [
-        inl e ↦ subst (λ γ. coefficient (others t.0 f) γ ≡ pos 0) e (others_there t.0 f)
-      | inr e ↦ others_elsewhere t.0 β f e ∙ sym (+ℤ_idl (coefficient f β)) ∙ ap (λ b. cond b t.1 (pos 0) +ℤ coefficient f β) (sym (same_apart t.0 β e)) ∙ z β
+    here : φ t.0 *ℤ coefficient (t ∷ f) t.0 ≡ ψ t.0 *ℤ coefficient (t ∷ f) t.0
+    here = elim (h t.0) [
+        inl e ↦ ap (λ c. φ t.0 *ℤ c) e ∙ *ℤ-zero (φ t.0) ∙ sym (*ℤ-zero (ψ t.0)) ∙ sym (ap (λ c. ψ t.0 *ℤ c) e)
+      | inr e ↦ ap (λ x. x *ℤ coefficient (t ∷ f) t.0) e
       ]
+    left : (β : List ℕ) → (coefficient (others t.0 f) β ≡ pos 0) ⊎ (φ β ≡ ψ β)
+    left β = elim (same_or_not t.0 β) [
+        inl e ↦ inl (subst (λ γ. coefficient (others t.0 f) γ ≡ pos 0) e (others_there t.0 f))
+      | inr d ↦ elim (h β) [
+          inl e ↦ inl (others_elsewhere t.0 β f d ∙ sym (+ℤ_idl (coefficient f β)) ∙ ap (λ b. cond b t.1 (pos 0) +ℤ coefficient f β) (sym (same_apart t.0 β d)) ∙ e)
+        | inr e ↦ inr e
+        ]
+      ]
+
+-- two test functions pair alike with f if they agree wherever f has a coefficient that is not 0
+pub pair_agree : (f : Poly) (φ ψ : List ℕ → ℤ) → ((α : List ℕ) → (coefficient f α ≡ pos 0) ⊎ (φ α ≡ ψ α)) → pair f φ ≡ pair f ψ
+pair_agree f φ ψ h = agree_by_length (length f) f φ ψ (omega arith) h
 
 pub pair_determined : (f g : Poly) (φ : List ℕ → ℤ) → Same f g → pair f φ ≡ pair g φ
 pair_determined f g φ e =
-    let z = pair_nothing (length (f ++ negate g)) (f ++ negate g) φ (omega arith) none in
+    let z = pair_agree (f ++ negate g) φ (λ α. pos 0) (λ α. inl (none α)) ∙ pair_zero (f ++ negate g) in
     let a = pair_plus f (negate g) φ in
     let b = pair_negate g φ in
     omega (arith, ints)
@@ -234,3 +256,69 @@ pub restrict_respects : (n : ℕ) (f g : Poly) → Same f g → Same (restrict n
 restrict_respects n f g e =
     same_from_pair (restrict n f) (restrict n g) (λ φ.
       pair_restrict n f φ ∙ pair_determined f g (λ α. cond (fits_in n α) (φ (resize n α)) (pos 0)) e ∙ sym (pair_restrict n g φ))
+
+-- ---- polynomials in n variables
+
+pub In_nothing : (n : ℕ) → In n nothing
+In_nothing n t m = absurd m
+
+pub In_one : (n : ℕ) → In n (one n)
+In_one n t (inl e) = ap (λ (s : Term). length s.0) e ∙ length-replicate n 0
+In_one n t (inr m) = absurd m
+
+pub In_tail : (n : ℕ) (t : Term) (f : Poly) → In n (t ∷ f) → In n f
+In_tail n t f i s m = i s (inr m)
+
+pub In_plus : (n : ℕ) (f g : Poly) → In n f → In n g → In n (plus f g)
+In_plus n f g i j t m = elim (Among_from_append t f g m) [ inl l ↦ i t l | inr r ↦ j t r ]
+
+-- a map of the terms that keeps the numbers of places
+pub In_map : {A : Type 0} (n : ℕ) (h : A → Term) (xs : List A) → ((x : A) → Among x xs → length (h x).0 ≡ n) → In n (map h xs)
+In_map n h xs i t m = let r = Among_from_map h t xs m in ap (λ (s : Term). length s.0) r.2 ∙ i r.0 r.1
+
+pub In_each : {A : Type 0} (n : ℕ) (h : A → Poly) (xs : List A) → ((x : A) → Among x xs → In n (h x)) → In n (each h xs)
+In_each n h xs i t m = let r = Among_from_each h t xs m in i r.0 r.1 t r.2
+
+pub In_select : (n : ℕ) (test : Term → Bool) (f : Poly) → In n f → In n (select test f)
+In_select n test f i t m = i t (Among_from_select test t f m).0
+
+pub In_scale : (n : ℕ) (c : ℤ) (f : Poly) → In n f → In n (scale c f)
+In_scale n c f i = In_map n (λ (t : Term). (t.0, c *ℤ t.1)) f i
+
+pub In_negate : (n : ℕ) (f : Poly) → In n f → In n (negate f)
+In_negate n f i = In_map n (λ (t : Term). (t.0, neg_ℤ t.1)) f i
+
+pub In_times : (n : ℕ) (f g : Poly) → In n f → In n g → In n (times f g)
+In_times n f g i j =
+    In_each n (λ (s : Term). map (λ (t : Term). (join s.0 t.0, s.1 *ℤ t.1)) g) f (λ s m.
+      In_map n (λ (t : Term). (join s.0 t.0, s.1 *ℤ t.1)) g (λ t k. length-join_same n s.0 t.0 (i s m) (j t k)))
+
+pub In_restrict : (n : ℕ) (f : Poly) → In n (restrict n f)
+In_restrict n f = In_map n (λ (t : Term). (resize n t.0, t.1)) (select (λ (t : Term). fits_in n t.0) f) (λ t m. length-resize n t.0)
+
+-- a polynomial in n variables has no coefficient at a list of another length
+pub coefficient_outside : (n : ℕ) (f : Poly) (α : List ℕ) → In n f → (length α ≡ n → ⊥) → coefficient f α ≡ pos 0
+coefficient_outside n f α i h =
+    total_none (λ (t : Term). cond (same t.0 α) t.1 (pos 0)) f (λ t m.
+      ap (λ b. cond b t.1 (pos 0)) (same_apart t.0 α (λ e. h (ap length (sym e) ∙ i t m))))
+
+-- two polynomials in n variables are one where their coefficients at lists of n places agree
+pub same_in : (n : ℕ) (f g : Poly) → In n f → In n g → ((α : List ℕ) → length α ≡ n → coefficient f α ≡ coefficient g α) → Same f g
+same_in n f g i j e α =
+    elim (cases_eq (length α) n) [
+      inl d ↦ e α d
+    | inr d ↦ coefficient_outside n f α i d ∙ sym (coefficient_outside n g α j d)
+    ]
+
+pub coefficient_plus : (f g : Poly) (α : List ℕ) → coefficient (plus f g) α ≡ coefficient f α +ℤ coefficient g α
+coefficient_plus f g α = total_append (λ (t : Term). cond (same t.0 α) t.1 (pos 0)) f g
+
+pub coefficient_scale : (c : ℤ) (f : Poly) (α : List ℕ) → coefficient (scale c f) α ≡ c *ℤ coefficient f α
+coefficient_scale c f α = coefficient_pair (scale c f) α ∙ pair_scale c f (at_only α) ∙ ap (λ n. c *ℤ n) (sym (coefficient_pair f α))
+
+pub coefficient_negate : (f : Poly) (α : List ℕ) → coefficient (negate f) α ≡ neg_ℤ (coefficient f α)
+coefficient_negate f α = coefficient_pair (negate f) α ∙ pair_negate f (at_only α) ∙ ap neg_ℤ (sym (coefficient_pair f α))
+
+-- the coefficients of a restriction are those of the polynomial, at lists padded with zeros
+pub coefficient_restrict : (n : ℕ) (f : Poly) (α : List ℕ) → coefficient (restrict n f) α ≡ pair f (λ β. cond (fits_in n β) (at_only α (resize n β)) (pos 0))
+coefficient_restrict n f α = coefficient_pair (restrict n f) α ∙ pair_restrict n f (at_only α)

@@ -10,3 +10,4 @@ pub mod PrintedBlock
 pub mod PowerSumCommand
 pub mod WholeTerms
 pub mod PowerSumProduct
+pub mod Leading

@@ -1,10 +1,9 @@
 -- The product of a power sum with monomial symmetric polynomials: which partitions it has and how often (after Macdonald, I.6).
-use Rattle.std.specs.Prelude.{ℕ, ◌+◌, ◌==◌, Bool, cond, ℤ, pos, ◌*ℤ◌, List, [], ◌∷◌, map}
-use Rattle.sym_model.specs.Sum.{each}
-use Rattle.sym_model.specs.Partition.{IsPartition, insert_part}
+use Rattle.std.specs.Prelude.{◌≡◌, ℕ, ◌+◌, ◌==◌, cond, pos, List, [], ◌∷◌, map}
+use Rattle.sym_model.specs.Partition.{IsPartition, size, insert_part}
 use Rattle.sym_model.specs.Bases.{has}
 use Rattle.sym_model.specs.Schur.{times_in}
-use Rattle.sym_model.specs.WholeTerms.{WholeTerms}
+use Rattle.sym_model.specs.WholeTerms.{WholeTerms, combined}
 
 -- the list without the first place at which k stands
 abbrev pub without_one : ℕ → List ℕ → List ℕ
@@ -26,12 +25,16 @@ abbrev pub raised_terms : ℕ → List ℕ → WholeTerms
 raised_terms a parts =
     map (λ (b : ℕ). (raise a b parts, pos (times_in (a + b) (raise a b parts)))) (distinct (0 ∷ parts))
 
--- p_a times a list of terms in the monomial basis: the terms of each product, with the coefficients multiplied
+-- p_a times a list of terms in the monomial basis: the terms of p_a·m_λ for each label λ, times its coefficient
 abbrev pub times_power_sum : ℕ → WholeTerms → WholeTerms
-times_power_sum a terms =
-    each (λ (t : List ℕ × ℤ). map (λ (u : List ℕ × ℤ). (u.0, t.1 *ℤ u.1)) (raised_terms a t.0)) terms
+times_power_sum a terms = combined (raised_terms a) terms
 
--- each label is a partition
-abbrev pub LabelsArePartitions : WholeTerms → Type 0
-LabelsArePartitions [] = Unit {0}
-LabelsArePartitions (t ∷ terms) = IsPartition t.0 × LabelsArePartitions terms
+-- p_λ in the monomial basis, one part after another, with terms of one label not put together
+abbrev pub power_sum_terms : List ℕ → WholeTerms
+power_sum_terms [] = ([], pos 1) ∷ []
+power_sum_terms (a ∷ parts) = times_power_sum a (power_sum_terms parts)
+
+-- the label is a partition of d
+pub record IsPartitionOf (d : ℕ) (parts : List ℕ) : Type 0 where
+  pub partition : IsPartition parts
+  pub of_size : size parts ≡ d

@@ -1,5 +1,5 @@
 -- Lists of terms with whole coefficients, and the polynomial that such a list stands for.
-use Rattle.std.specs.Prelude.{◌≡◌, ℕ, ◌+◌, ℤ, pos, nat_abs, List, [], ◌∷◌, map}
+use Rattle.std.specs.Prelude.{◌≡◌, ℕ, ◌+◌, ℤ, nat_abs, List, [], ◌∷◌, map}
 use Rattle.sym_model.specs.Sum.{each}
 use Rattle.sym_model.specs.Polynomial.{Poly, scale}
 use Rattle.sym_model.specs.Expansion.{Terms, Fraction}
@@ -30,3 +30,12 @@ numerators terms = map (λ (t : List ℕ × Fraction). (t.0, t.1.0)) terms
 abbrev pub weight : WholeTerms → ℕ
 weight [] = 0
 weight (t ∷ terms) = nat_abs t.1 + weight terms
+
+-- each label has the property
+abbrev pub EachLabel : (List ℕ → Type 0) → WholeTerms → Type 0
+EachLabel P [] = Unit {0}
+EachLabel P (t ∷ terms) = P t.0 × EachLabel P terms
+
+-- the labels, one for each term
+abbrev pub labels : WholeTerms → List (List ℕ)
+labels terms = map (λ (t : List ℕ × ℤ). t.0) terms
