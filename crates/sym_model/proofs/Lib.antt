@@ -6,5 +6,6 @@ pub mod SortedParts
 pub mod Monomials
 pub mod WholeTerms
 pub mod PowerSums
+pub mod PowerSumLists
 pub mod PolynomialLaws
 pub mod LeadingTerms
