@@ -7,5 +7,6 @@ pub mod Monomials
 pub mod WholeTerms
 pub mod PowerSums
 pub mod PowerSumLists
+pub mod TermWeights
 pub mod PolynomialLaws
 pub mod LeadingTerms
