@@ -10,3 +10,4 @@ pub mod PowerSumLists
 pub mod TermWeights
 pub mod PolynomialLaws
 pub mod LeadingTerms
+pub mod Restrictions
