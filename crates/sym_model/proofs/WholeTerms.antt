@@ -9,7 +9,7 @@ use Rattle.sym_model.specs.Expansion.{Terms, Fraction, Basis, basis_polynomial, 
 use Rattle.sym_model.specs.WholeTerms.{WholeTerms, combined, as_fractions, AreWhole, numerators, weight}
 use Rattle.sym_model.proofs.Ring.{product-one, product_left_comm}
 use Rattle.sym_model.proofs.Sums.{total_append, total_ext, total_map, total_each, total_scale, total_exchange}
-use Rattle.sym_model.proofs.Polynomials.{at_only, coefficient_pair, pair_ext, pair_times, pair_factor, pair_each, pair_scale, pair_determined, same_from_pair}
+use Rattle.sym_model.proofs.Polynomials.{at_only, coefficient_pair, pair_ext, pair_times, pair_factor, pair_each, pair_scale, pair_determined, same_from_pair, coefficient_plus}
 
 -- the pairing of a combination
 pub pair-combined : (polynomial : List ℕ → Poly) (terms : WholeTerms) (φ : List ℕ → ℤ) → pair (combined polynomial terms) φ ≡ pair terms (λ label. pair (polynomial label) φ)
@@ -62,3 +62,12 @@ value_of_whole basis terms n w = ap (λ l. value basis l n) (sym (as_fractions-n
 pub value_respects : (basis : Basis) (terms others : Terms (List ℕ)) (n : ℕ) → AreWhole terms → AreWhole others → Same (numerators terms) (numerators others) → Same (value basis terms n) (value basis others n)
 value_respects basis terms others n w v e =
     rw (value_of_whole basis terms n w, value_of_whole basis others n v) (combined_respects (λ label. basis_polynomial basis label n) (numerators terms) (numerators others) e)
+
+-- ---- a table to which terms are added
+
+-- with (label, c) added, what was still to come is one term less
+pub table_step : (table next rest whole : WholeTerms) (label : List ℕ) (c : ℤ)
+    → ((k : List ℕ) → coefficient next k ≡ coefficient table k +ℤ cond (same label k) c (pos 0))
+    → Same (plus table ((label, c) ∷ rest)) whole → Same (plus next rest) whole
+table_step table next rest whole label c e h k =
+    omega (arith, ints, coefficient_plus next rest k, coefficient_plus table ((label, c) ∷ rest) k, e k, h k)
