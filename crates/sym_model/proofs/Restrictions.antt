@@ -2,26 +2,26 @@
 --     coefficient_restrict_padded    a coefficient of the restriction is that at the exponents padded with zeros
 --     restrict-monomials             a sum of monomials whose test does not see zeros at the end
 --     restrict-product_over          products over parts
-use Rattle.std.proofs.Common.{◌≡◌, ◌⊎◌, ℕ, zero, suc, ◌+◌, ◌-◌, ◌<◌, ◌≤◌, Bool, true, false, ◌&&◌, ◌||◌, cond, eqb, leb, List, [], ◌∷◌, ◌++◌, map, length, replicate, sym, ◌∙◌, ap, ap₂, subst, refl, inl, inr, arith, ℤ, pos, length-append}
+use Rattle.std.proofs.Common.{◌≡◌, ℕ, zero, suc, ◌+◌, ◌-◌, ◌<◌, ◌≤◌, Bool, true, false, ◌&&◌, ◌||◌, cond, eqb, leb, List, [], ◌∷◌, ◌++◌, length, replicate, sym, ◌∙◌, ap, subst, refl, inl, inr, arith, pos, length-append}
 use Rattle.std.proofs.lemmas.List.{length-replicate}
-use Rattle.std.proofs.lemmas.Bool.{cases_eq, eq-eqb, ne_eqb, eqb-true, eqb-false, true≢false, or_right}
+use Rattle.std.proofs.lemmas.Bool.{eq-eqb, ne_eqb, eqb-true}
 use Rattle.sym_model.specs.Sum.{Among}
-use Rattle.sym_model.specs.Polynomial.{Poly, same, coefficient, Same, In, nothing, one, times, pair, resize, all_zero, fits_in, restrict}
+use Rattle.sym_model.specs.Polynomial.{Poly, same, coefficient, Same, In, nothing, times, pair, resize, all_zero, fits_in, restrict}
 use Rattle.sym_model.specs.Partition.{ArePositive, size, sorted_parts, rows}
 use Rattle.sym_model.specs.Bases.{monomials, at_most_one, has, monomial, elementary_of, complete_of, power_sum_of, product_over, elementary, complete, power_sum}
 use Rattle.sym_model.proofs.Exponents.{tests_agree, same_true}
-use Rattle.sym_model.proofs.Polynomials.{at_only, coefficient_pair, coefficient_restrict, pair_in, pair_zero, Same_refl, Same_trans, times_respects}
+use Rattle.sym_model.proofs.Polynomials.{at_only, coefficient_pair, coefficient_restrict, pair_in, pair_zero, Same_trans, times_respects}
 use Rattle.sym_model.proofs.PolynomialLaws.{restrict-times, restrict-one}
 use Rattle.sym_model.proofs.SortedParts.{sorted_parts-padded, rows-sorted_parts, has_past}
-use Rattle.sym_model.proofs.Monomials.{is_exponent_list, coefficient-monomials, coefficient-monomial, In-monomials}
+use Rattle.sym_model.proofs.Monomials.{coefficient-monomials, coefficient-monomial, In-monomials}
 
 -- ---- coefficients of a restriction
 
 eqb-suc : (a b : ℕ) → eqb (suc a) (suc b) ≡ eqb a b
 eqb-suc a b =
     tests_agree (eqb (suc a) (suc b)) (eqb a b)
-      (λ t. let e = eqb-true (suc a) (suc b) t in eq-eqb a b (omega arith))
-      (λ t. let e = eqb-true a b t in eq-eqb (suc a) (suc b) (omega arith))
+    (λ t. let e = eqb-true (suc a) (suc b) t in eq-eqb a b (omega arith))
+    (λ t. let e = eqb-true a b t in eq-eqb (suc a) (suc b) (omega arith))
 
 -- a list of m zeros, as a test
 all_zero-same : (m : ℕ) (β : List ℕ) → length β ≡ m → all_zero β ≡ same β (replicate m 0)
@@ -61,12 +61,13 @@ pub coefficient_restrict_padded : (k m : ℕ) (f : Poly) (γ : List ℕ) → In 
 coefficient_restrict_padded k m f γ i =
     coefficient_restrict k f γ
     ∙ pair_in (k + m) f (λ β. cond (fits_in k β) (at_only γ (resize k β)) (pos 0)) (λ β. cond (eqb (length γ) k) (at_only (γ ++ replicate m 0) β) (pos 0)) i
-        (λ β l. both (fits_in k β) (same (resize k β) γ) ∙ ap (λ t. cond t (pos 1) (pos 0)) (restricts_to k m β γ l) ∙ sym (both (eqb (length γ) k) (same β (γ ++ replicate m 0))))
+    (λ β l. both (fits_in k β) (same (resize k β) γ) ∙ ap (λ t. cond t (pos 1) (pos 0)) (restricts_to k m β γ l) ∙ sym (both (eqb (length γ) k) (same β (γ ++ replicate m 0))))
     ∙ by (eqb (length γ) k)
   where
     both : (x y : Bool) → cond x (cond y (pos 1) (pos 0)) (pos 0) ≡ cond (x && y) (pos 1) (pos 0)
     both true y = refl
     both false y = refl
+
     by : (b : Bool) → pair f (λ β. cond b (at_only (γ ++ replicate m 0) β) (pos 0)) ≡ cond b (coefficient f (γ ++ replicate m 0)) (pos 0)
     by true = sym (coefficient_pair f (γ ++ replicate m 0))
     by false = pair_zero f
@@ -126,11 +127,11 @@ pub restrict-product_over : (f : ℕ → ℕ → Poly) (parts : List ℕ) (k n :
 restrict-product_over f [] k n h = restrict-one k n
 restrict-product_over f (d ∷ parts) k n h =
     Same_trans
-      (restrict k (times (f d n) (product_over f parts n)))
-      (times (restrict k (f d n)) (restrict k (product_over f parts n)))
-      (times (f d k) (product_over f parts k))
-      (restrict-times k (f d n) (product_over f parts n))
-      (times_respects (restrict k (f d n)) (f d k) (restrict k (product_over f parts n)) (product_over f parts k) (h d (inl refl)) (restrict-product_over f parts k n (λ c m. h c (inr m))))
+    (restrict k (times (f d n) (product_over f parts n)))
+    (times (restrict k (f d n)) (restrict k (product_over f parts n)))
+    (times (f d k) (product_over f parts k))
+    (restrict-times k (f d n) (product_over f parts n))
+    (times_respects (restrict k (f d n)) (f d k) (restrict k (product_over f parts n)) (product_over f parts k) (h d (inl refl)) (restrict-product_over f parts k n (λ c m. h c (inr m))))
 
 pub positive_among : (d : ℕ) (parts : List ℕ) → ArePositive parts → Among d parts → 0 < d
 positive_among d [] p m = absurd m

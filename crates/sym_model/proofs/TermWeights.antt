@@ -3,24 +3,24 @@
 --     weight_collected               collected terms weigh no more than the terms that they come from
 --     weight-raised_terms            p_a·m_λ weighs at most 2·rows(λ) + 1
 --     weight-power_sum_terms         so p_λ weighs at most 1·3·5·…, a factor for each part; at most 15 parts: below 2^53
-use Rattle.std.proofs.Common.{◌≡◌, ◌⊎◌, ℕ, zero, suc, ◌+◌, ◌-◌, ◌*◌, ◌^◌, ◌<◌, ◌≤◌, Bool, true, false, not, cond, eqb, leb, List, [], ◌∷◌, ◌++◌, map, length, sym, ◌∙◌, ap, subst, refl, inl, inr, arith, ℤ, pos, ◌+ℤ◌, ◌*ℤ◌, lit<, le_trans}
+use Rattle.std.proofs.Common.{◌≡◌, ◌⊎◌, ℕ, zero, suc, ◌+◌, ◌-◌, ◌*◌, ◌^◌, ◌<◌, ◌≤◌, Bool, true, false, not, cond, eqb, List, [], ◌∷◌, ◌++◌, map, length, sym, ◌∙◌, ap, subst, refl, inl, inr, arith, ℤ, pos, ◌+ℤ◌, lit<}
 use Rattle.std.specs.Prelude.{nat_abs}
 use Rattle.std.proofs.lemmas.Int.{ints, unsigned_abs-mul}
-use Rattle.std.proofs.lemmas.Bool.{cases_lt, cases_eq, eq-eqb, ne_eqb, eqb-true}
-use Rattle.sym_model.specs.Sum.{total, each, select, Among, Once}
-use Rattle.sym_model.specs.Polynomial.{Term, Poly, same, coefficient, Same, scale}
+use Rattle.std.proofs.lemmas.Bool.{cases_eq, eq-eqb, ne_eqb}
+use Rattle.sym_model.specs.Sum.{Among, Once}
+use Rattle.sym_model.specs.Polynomial.{Term, same, coefficient, Same, scale}
 use Rattle.sym_model.specs.Partition.{ArePositive}
 use Rattle.sym_model.specs.Bases.{has}
 use Rattle.sym_model.specs.Schur.{times_in}
 use Rattle.sym_model.specs.WholeTerms.{WholeTerms, combined, weight, EachLabel, labels}
 use Rattle.sym_model.specs.PowerSumProduct.{without_one, raise, distinct, raised_terms, times_power_sum, power_sum_terms, odd_product}
 use Rattle.sym_model.proofs.Sums.{total_none, Among-map}
-use Rattle.sym_model.proofs.Exponents.{same_true, same_from, same_apart, same_or_not}
+use Rattle.sym_model.proofs.Exponents.{same_from, same_apart, same_or_not}
 use Rattle.sym_model.proofs.Polynomials.{others, others_there, others_elsewhere}
 use Rattle.sym_model.proofs.SortedParts.{times_in-insert_part, times_in-without_one, rows-raise}
 use Rattle.sym_model.proofs.PowerSums.{total_distinct-only, total_times_in}
 use Rattle.sym_model.proofs.PowerSumLists.{EachLabel-map, EachLabel-combined}
-use native.Mathlib.Nat.{mul-le-mul, mul-le-mul_left, mul-le-mul_right}
+use native.Mathlib.Nat.{mul-le-mul_left, mul-le-mul_right}
 use lib.IntN.{+ℤ_idl, +ℤ_idr}
 
 -- ---- weights
@@ -67,14 +67,14 @@ weight_others label (t ∷ terms) = by (same t.0 label) (weight_others label ter
 pub coefficient_missing : (terms : WholeTerms) (label : List ℕ) → (Among label (labels terms) → ⊥) → coefficient terms label ≡ pos 0
 coefficient_missing terms label h =
     total_none (λ (t : Term). cond (same t.0 label) t.1 (pos 0)) terms
-      (λ t m. ap (λ b. cond b t.1 (pos 0)) (same_apart t.0 label (λ e. h (subst (λ l. Among l (labels terms)) e (Among-map (λ (u : List ℕ × ℤ). u.0) t terms m)))))
+    (λ t m. ap (λ b. cond b t.1 (pos 0)) (same_apart t.0 label (λ e. h (subst (λ l. Among l (labels terms)) e (Among-map (λ (u : List ℕ × ℤ). u.0) t terms m)))))
 
 -- collected terms, each label once, weigh no more than the terms that they come from
 pub weight_collected : (collected terms : WholeTerms) → Once (labels collected) → Same collected terms → weight collected ≤ weight terms
 weight_collected [] terms o e = omega arith
 weight_collected (t ∷ collected) terms o e =
     let here : coefficient terms t.0 ≡ t.1 =
-        sym (e t.0) ∙ ap (λ b. cond b t.1 (pos 0) +ℤ coefficient collected t.0) (same_from t.0 t.0 refl) ∙ ap (λ n. t.1 +ℤ n) (coefficient_missing collected t.0 o.0) ∙ +ℤ_idr t.1 in
+    sym (e t.0) ∙ ap (λ b. cond b t.1 (pos 0) +ℤ coefficient collected t.0) (same_from t.0 t.0 refl) ∙ ap (λ n. t.1 +ℤ n) (coefficient_missing collected t.0 o.0) ∙ +ℤ_idr t.1 in
     let rest = weight_collected collected (others t.0 terms) o.1 (λ α. by α (same_or_not t.0 α)) in
     omega (arith, weight_others t.0 terms, ap nat_abs here)
   where
@@ -167,7 +167,7 @@ pub rows-power_sum_terms : (parts : List ℕ) → EachLabel (λ label. length la
 rows-power_sum_terms [] = (omega arith, tt)
 rows-power_sum_terms (a ∷ parts) =
     EachLabel-combined (λ label. length label ≤ length parts) (λ label. length label ≤ suc (length parts)) (raised_terms a) (power_sum_terms parts) (rows-power_sum_terms parts)
-      (λ label l. EachLabel-map (λ (m : List ℕ). length m ≤ suc (length parts)) (λ (b : ℕ). (raise a b label, pos (times_in (a + b) (raise a b label)))) (distinct (0 ∷ label)) (λ b m. omega (arith, rows-raise a b label)))
+    (λ label l. EachLabel-map (λ (m : List ℕ). length m ≤ suc (length parts)) (λ (b : ℕ). (raise a b label, pos (times_in (a + b) (raise a b label)))) (distinct (0 ∷ label)) (λ b m. omega (arith, rows-raise a b label)))
 
 pub weight-power_sum_terms : (parts : List ℕ) → ArePositive parts → weight (power_sum_terms parts) ≤ odd_product (length parts)
 weight-power_sum_terms [] p = omega arith

@@ -1,15 +1,13 @@
 -- Lists of terms with whole coefficients (specs/WholeTerms): what they stand for depends on the summed coefficient of
 -- each label alone.
-use Rattle.std.proofs.Common.{◌≡◌, ℕ, zero, suc, ◌+◌, ◌*◌, ◌≤◌, Bool, true, false, cond, List, [], ◌∷◌, ◌++◌, map, sym, ◌∙◌, ap, ap₂, subst, refl, inl, inr, arith, ℤ, pos, ◌+ℤ◌, ◌*ℤ◌}
-use Rattle.std.specs.Prelude.{nat_abs}
+use Rattle.std.proofs.Common.{◌≡◌, ℕ, cond, List, [], ◌∷◌, sym, ◌∙◌, ap, ap₂, refl, arith, ℤ, pos, ◌+ℤ◌, ◌*ℤ◌}
 use Rattle.std.proofs.lemmas.Int.{ints}
-use Rattle.sym_model.specs.Sum.{total, each, Among}
-use Rattle.sym_model.specs.Polynomial.{Term, Poly, same, coefficient, Same, pair, plus, times, scale}
-use Rattle.sym_model.specs.Expansion.{Terms, Fraction, Basis, basis_polynomial, denominators, cleared, value}
-use Rattle.sym_model.specs.WholeTerms.{WholeTerms, combined, as_fractions, AreWhole, numerators, weight}
-use Rattle.sym_model.proofs.Ring.{product-one, product_left_comm}
-use Rattle.sym_model.proofs.Sums.{total_append, total_ext, total_map, total_each, total_scale, total_exchange}
-use Rattle.sym_model.proofs.Polynomials.{at_only, coefficient_pair, pair_ext, pair_times, pair_factor, pair_each, pair_scale, pair_determined, same_from_pair, coefficient_plus}
+use Rattle.sym_model.specs.Polynomial.{Poly, same, coefficient, Same, pair, plus, scale}
+use Rattle.sym_model.specs.Expansion.{Terms, Basis, basis_polynomial, denominators, cleared, value}
+use Rattle.sym_model.specs.WholeTerms.{WholeTerms, combined, as_fractions, AreWhole, numerators}
+use Rattle.sym_model.proofs.Ring.{product-one}
+use Rattle.sym_model.proofs.Sums.{total_ext}
+use Rattle.sym_model.proofs.Polynomials.{at_only, coefficient_pair, pair_ext, pair_each, pair_scale, pair_determined, coefficient_plus}
 
 -- the pairing of a combination
 pub pair-combined : (polynomial : List ℕ → Poly) (terms : WholeTerms) (φ : List ℕ → ℤ) → pair (combined polynomial terms) φ ≡ pair terms (λ label. pair (polynomial label) φ)

@@ -12,22 +12,13 @@ ghost use Rattle.sym_model.specs.PowerSumProduct.{raised_terms, power_sum_terms}
 /// after another this gives each power sum. What a list of terms stands for depends on the summed
 /// coefficient of each label alone. The examples are p_1·m_(2,1) and p_(1,1,1).
 pub fn power_sum_product_law()
-    ensures product {
-        (a n : ℕ) (parts : List ℕ) → 0 < a → IsPartition parts
-            → Same (times (power_sum_of a n) (monomial parts n)) (combined (λ label. monomial label n) (raised_terms a parts))
-    }
-    ensures power_sum {
-        (parts : List ℕ) → ArePositive parts → (n : ℕ)
-            → Same (combined (λ label. monomial label n) (power_sum_terms parts)) (power_sum parts n)
-    }
-    ensures collected {
-        (polynomial : List ℕ → Poly) (terms others : WholeTerms)
-            → Same terms others → Same (combined polynomial terms) (combined polynomial others)
-    }
-    ensures example {
-        raised_terms 1 (2 ∷ 1 ∷ [])
-            ≡ ((2 ∷ 1 ∷ 1 ∷ []), pos 2) ∷ ((3 ∷ 1 ∷ []), pos 1) ∷ ((2 ∷ 2 ∷ []), pos 2) ∷ []
-    }
+    ensures product { (a n : ℕ) (parts : List ℕ) → 0 < a → IsPartition parts
+        → Same (times (power_sum_of a n) (monomial parts n)) (combined (λ label. monomial label n) (raised_terms a parts)) }
+    ensures power_sum { (parts : List ℕ) → ArePositive parts → (n : ℕ)
+        → Same (combined (λ label. monomial label n) (power_sum_terms parts)) (power_sum parts n) }
+    ensures collected { (polynomial : List ℕ → Poly) (terms others : WholeTerms)
+        → Same terms others → Same (combined polynomial terms) (combined polynomial others) }
+    ensures example { raised_terms 1 (2 ∷ 1 ∷ [])
+        ≡ ((2 ∷ 1 ∷ 1 ∷ []), pos 2) ∷ ((3 ∷ 1 ∷ []), pos 1) ∷ ((2 ∷ 2 ∷ []), pos 2) ∷ [] }
     ensures coefficient { coefficient (power_sum_terms (1 ∷ 1 ∷ 1 ∷ [])) (2 ∷ 1 ∷ []) ≡ pos 3 }
-{
-}
+{}
