@@ -53,6 +53,9 @@ pub as_fractions-numerators : (terms : Terms (List ℕ)) → AreWhole terms → 
 as_fractions-numerators [] w = refl
 as_fractions-numerators (t ∷ terms) w = ap₂ ◌∷◌ (ap (λ (d : ℕ). (t.0, (t.1.0, d))) (sym w.0)) (as_fractions-numerators terms w.1)
 
+pub denominators_of_whole : (terms : Terms (List ℕ)) → AreWhole terms → denominators terms ≡ 1
+denominators_of_whole terms w = ap denominators (sym (as_fractions-numerators terms w)) ∙ denominators-as_fractions (numerators terms)
+
 pub value_of_whole : (basis : Basis) (terms : Terms (List ℕ)) (n : ℕ) → AreWhole terms → value basis terms n ≡ combined (λ label. basis_polynomial basis label n) (numerators terms)
 value_of_whole basis terms n w = ap (λ l. value basis l n) (sym (as_fractions-numerators terms w)) ∙ value-as_fractions basis (numerators terms) n
 
