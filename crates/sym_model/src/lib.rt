@@ -6,12 +6,14 @@
 #![tactic(auto)]
 
 mod examples;
+mod leading;
 mod printing;
 mod restriction;
 mod ring_laws;
 mod sum_laws;
 
 pub use examples::worked_examples_law;
+pub use leading::leading_cancel_law;
 pub use printing::printed_block_law;
 pub use restriction::restriction_law;
 pub use ring_laws::poly_ring_law;
