@@ -1,7 +1,7 @@
 -- Exponent lists: `same` decides their equality, `join` is their sum, `resize` cuts and pads them.
-use Rattle.std.proofs.Common.{◌≡◌, ℕ, zero, suc, ◌+◌, ◌≤◌, max, ◌⊎◌, Bool, true, false, ◌&&◌, ◌==◌, eqb, List, [], ◌∷◌, length, replicate, sym, ◌∙◌, ap, ap₂, subst, refl, inl, inr, true≢false, arith, eqb-true, eq-eqb, add-zero, add_comm, add_assoc, add_left_cancel, eqb→eq}
+use Rattle.std.proofs.Common.{◌≡◌, ℕ, zero, suc, ◌+◌, ◌≤◌, max, ◌⊎◌, Bool, true, false, ◌&&◌, ◌==◌, List, [], ◌∷◌, length, replicate, sym, ◌∙◌, ap, ap₂, subst, refl, inl, inr, arith, eqb-true, eq-eqb, add-zero, add_comm, add_assoc}
 use Rattle.std.proofs.lemmas.Bool.{and_parts, and_from, cases_Bool, false_from_ne_true, both_ways}
-use Rattle.sym_model.specs.Polynomial.{same, join, resize, all_zero, fits_in, no_exponents}
+use Rattle.sym_model.specs.Polynomial.{same, join, resize, all_zero, fits_in}
 
 -- two tests that are true together are one test
 pub tests_agree : (x y : Bool) → (x ≡ true → y ≡ true) → (y ≡ true → x ≡ true) → x ≡ y
@@ -122,10 +122,10 @@ resize-resize (suc k) (suc n) (a ∷ α) h = ap (λ β. a ∷ β) (resize-resize
 zero_sum : (a b : ℕ) → (a + b == 0) ≡ ((a == 0) && (b == 0))
 zero_sum a b =
     tests_agree
-      (a + b == 0)
-      ((a == 0) && (b == 0))
-      (λ e. let d = eqb-true (a + b) 0 e in and_from (a == 0) (b == 0) (eq-eqb a 0 (omega arith)) (eq-eqb b 0 (omega arith)))
-      (λ e. let p = and_parts (a == 0) (b == 0) e in let c = eqb-true a 0 p.0 in let d = eqb-true b 0 p.1 in eq-eqb (a + b) 0 (omega arith))
+    (a + b == 0)
+    ((a == 0) && (b == 0))
+    (λ e. let d = eqb-true (a + b) 0 e in and_from (a == 0) (b == 0) (eq-eqb a 0 (omega arith)) (eq-eqb b 0 (omega arith)))
+    (λ e. let p = and_parts (a == 0) (b == 0) e in let c = eqb-true a 0 p.0 in let d = eqb-true b 0 p.1 in eq-eqb (a + b) 0 (omega arith))
 
 and_exchange : (p q r s : Bool) → ((p && q) && (r && s)) ≡ ((p && r) && (q && s))
 and_exchange true true r s = refl
