@@ -184,3 +184,25 @@ fits_in-resize zero n α h = all_zero-resize n α
 fits_in-resize (suc k) zero α h = absurd (omega arith)
 fits_in-resize (suc k) (suc n) [] h = fits_in_padded k n
 fits_in-resize (suc k) (suc n) (a ∷ α) h = fits_in-resize k n α (omega arith)
+
+-- zeros alone
+pub all_zero_is : (n : ℕ) (α : List ℕ) → length α ≡ n → all_zero α ≡ true → α ≡ replicate n 0
+all_zero_is zero [] e z = refl
+all_zero_is zero (a ∷ α) e z = absurd (omega arith)
+all_zero_is (suc n) [] e z = absurd (omega arith)
+all_zero_is (suc n) (a ∷ α) e z = let p = and_parts (a == 0) (all_zero α) z in ap₂ ◌∷◌ (eqb-true a 0 p.0) (all_zero_is n α (omega arith) p.1)
+
+-- what fits in k places is had back by padding
+pub resize_back : (k n : ℕ) (α : List ℕ) → k ≤ n → length α ≡ n → fits_in k α ≡ true → resize n (resize k α) ≡ α
+resize_back zero n α h e t = resize-nil n ∙ sym (all_zero_is n α e t)
+resize_back (suc k) zero α h e t = absurd (omega arith)
+resize_back (suc k) (suc n) [] h e t = absurd (omega arith)
+resize_back (suc k) (suc n) (a ∷ α) h e t = ap (λ β. a ∷ β) (resize_back k n α (omega arith) (omega arith) t)
+
+-- what is padded fits
+pub fits_in_resized : (k n : ℕ) (α : List ℕ) → length α ≡ k → fits_in k (resize n α) ≡ true
+fits_in_resized zero n [] e = fits_in_padded 0 n
+fits_in_resized zero n (a ∷ α) e = absurd (omega arith)
+fits_in_resized (suc k) zero α e = refl
+fits_in_resized (suc k) (suc n) [] e = absurd (omega arith)
+fits_in_resized (suc k) (suc n) (a ∷ α) e = fits_in_resized k n α (omega arith)
