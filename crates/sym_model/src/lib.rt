@@ -6,6 +6,7 @@
 #![tactic(auto)]
 
 mod examples;
+mod leading;
 mod power_sums;
 mod printing;
 mod restriction;
@@ -13,6 +14,7 @@ mod ring_laws;
 mod sum_laws;
 
 pub use examples::worked_examples_law;
+pub use leading::leading_cancel_law;
 pub use power_sums::power_sum_product_law;
 pub use printing::printed_block_law;
 pub use restriction::restriction_law;
