@@ -4,3 +4,5 @@ pub mod Source
 pub mod Sink
 pub mod Goes
 pub mod Status
+pub mod Supply
+pub mod Store

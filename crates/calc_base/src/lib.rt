@@ -2,8 +2,11 @@
 //! and the plain types that its crates share.
 #![tactic(auto)]
 
+mod calls;
 mod faults;
 mod lister;
+mod mem_sink;
+mod mem_source;
 mod sink;
 mod source;
 mod status;
@@ -12,6 +15,8 @@ mod writing;
 
 pub use faults::{NoMemory, SinkFault, SourceFault, SumFault};
 pub use lister::Lister;
+pub use mem_sink::MemSink;
+pub use mem_source::MemSource;
 pub use sink::Sink;
 pub use source::Source;
 pub use status::Status;
