@@ -2,3 +2,4 @@
 pub mod GoesLaws
 pub mod Memory
 pub mod Written
+pub mod GoesListed

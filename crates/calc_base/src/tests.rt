@@ -1,9 +1,10 @@
 // What no clause says: that calls succeed, faults in mid-stream, and the codes.
-ghost use Rattle.std.specs.Prelude.{◌≡◌, [], ◌∷◌, true};
+ghost use Rattle.std.specs.Prelude.{◌≡◌, ◌-◌, ◌≤◌, ℕ, List, [], ◌∷◌, length, map, min, drop, cond, true, slice_range, Option, Some, None};
 ghost use Rattle.std.specs.List.{flat_map};
 ghost use Rattle.calc_base.specs.Goes.{Goes, Prints};
 
 use super::*;
+use std::marker::Model;
 use std::test::Fail;
 
 // A printer as the crates above write theirs: each letter, and a line feed behind it.
@@ -24,6 +25,70 @@ fn print_lines<K: Sink>(sink: &mut K, letters: &[u8]) -> Result<(), SinkFault>
         (flat_map (λ letter. letter ∷ 10 ∷ []) letters.now) result }
 {
     put_result(put_lines(true, sink, letters))
+}
+
+// The same over a lister: a line for each item, as long as all goes well.
+fn put_items<L: Lister, K: Sink>(well: bool, lister: &mut L, sink: &mut K) -> bool
+    ensures { Goes K.written K.length K.faults well sink.old result sink.new
+        (flat_map (λ item. min (length item) 2 ∷ 10 ∷ []) (L.rest lister.old)) }
+{
+    let mut well = well;
+    while well && lister.advance() {
+        let size = lister.current().len().min(2);
+        well = put_if(well, sink, &[size as u8, b'\n']);
+    }
+    well
+}
+
+// Lists the numbers one at a time.
+#[derive(Drop)]
+struct Singles {
+    numbers: Vec<u16>,
+    next: usize,
+    has_item: bool,
+}
+
+impl Model for Singles {
+    ghost Value = { List (List ℕ) × Option (List ℕ) };
+
+    ghost view = { λ s. (map (λ x. x ∷ []) (drop s.next s.numbers.items),
+        cond s.has_item (Some (slice_range s.numbers.items (s.next - 1) s.next)) None) };
+
+    ghost invariant = { λ s. (s.next ≤ length s.numbers.items) × (s.has_item ≡ true → 1 ≤ s.next) };
+}
+
+impl Lister for Singles {
+    ghost rest = { λ s. s.0 };
+
+    ghost item = { λ s. s.1 };
+
+    fn advance(&mut self) -> bool {
+        if self.next >= self.numbers.len() {
+            self.has_item = false;
+            return false;
+        }
+        self.next += 1;
+        self.has_item = true;
+        true
+    }
+
+    fn current(&self) -> &[u16] {
+        &self.numbers[self.next - 1..self.next]
+    }
+}
+
+#[test]
+fn a_lister_goes_to_a_sink(rt: HostRuntime) -> Result<(), Fail> {
+    let mut lister = Singles {
+        numbers: Vec::from_slice(rt.alloc(), &[5, 7])?,
+        next: 0,
+        has_item: false,
+    };
+    let mut sink = MemSink::new(rt.alloc(), 8, &[])?;
+    assert!(rt; put_items(true, &mut lister, &mut sink));
+    assert_eq!(rt; sink.bytes(), b"\x01\n\x01\n".as_slice());
+    assert!(rt; !lister.advance());
+    Ok(())
 }
 
 #[test]
