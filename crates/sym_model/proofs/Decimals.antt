@@ -81,11 +81,12 @@ decimal-is_written = decimal_by_steps_wide IsWritten one more
   where
     one : (n : ℕ) → n < 10 → IsWritten n ((48 + n) ∷ [])
     one n h = record { nonempty = omega arith; digits = ((omega arith, omega arith), tt); value = omega arith }
+
     more : (n : ℕ) (ds : List ℕ) → 10 ≤ n → IsWritten (n / 10) ds → IsWritten n (ds ++ ((48 + n % 10) ∷ []))
     more n ds h w = record {
       nonempty = simp length-append (omega arith);
       digits = are_digits-append ds _ w.digits ((omega arith, omega arith), tt);
-      value = value_from-push 0 ds (48 + n % 10) ∙ (let e = w.value in omega arith)
+      value = value_from-push 0 ds (48 + n % 10) ∙ (let e = w.value in omega arith);
     }
 
 pub decimal-nonempty : (n : ℕ) → n < 10 ^ 64 → 0 < length (decimal n)

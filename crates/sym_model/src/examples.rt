@@ -10,5 +10,4 @@ pub fn worked_examples_law()
     ensures power_sum { coefficient (power_sum (2 ∷ 1 ∷ []) 2) (2 ∷ 1 ∷ []) ≡ pos 1 }
     ensures schur { coefficient (schur (3 ∷ 2 ∷ 1 ∷ []) 4) (2 ∷ 2 ∷ 1 ∷ 1 ∷ []) ≡ pos 4 }
     ensures block { read (block (((2 ∷ 1 ∷ []), (pos 1, 3)) ∷ [])) ≡ Some (((2 ∷ 1 ∷ []), (pos 1, 3)) ∷ []) }
-{
-}
+{}
