@@ -1,2 +1,4 @@
 pub mod Decimals
 pub mod Blocks
+pub mod Orders
+pub mod CanonicalLists
