@@ -2,6 +2,8 @@
 -- partitions, the tests decide what they are named for, and the gcd is the greatest common divisor.
 use Rattle.std.proofs.Common.{◌≡◌, ℕ, zero, suc, ◌+◌, ◌*◌, ◌-◌, ◌^◌, ◌<◌, ◌≤◌, ◌/◌, ◌%◌, Bool, true, false, ◌&&◌, List, [], ◌∷◌, ◌++◌, length, get_or, map, cond, eqb, leb, ltb, ℤ, pos, negsuc, nat_abs, refl, sym, ap, ◌∙◌, subst, inl, inr, mod-lt, arith, rules}
 use Rattle.std.specs.Int.{IsGcd}
+use Rattle.std.specs.Int.RustNames.{FitsSigned}
+use mir.Syntax.{w128}
 use Rattle.std.specs.Cmp.{IsTotalOrder}
 use Rattle.std.specs.Cmp.Lexicographic.{slice_cmp}
 use Rattle.std.specs.List.{AllPairs}
@@ -16,7 +18,7 @@ use Rattle.sym_model.specs.Polynomial.{resize}
 use Rattle.sym_model.specs.Partition.{Falls, ArePositive, IsPartition, size, rows}
 use Rattle.sym_model.specs.PrintedOrder.{falling_lexicographic, printed_order}
 use Rattle.sym_model.specs.Expansion.{Fraction, Terms}
-use Rattle.sym_model.specs.Canonical.{gcd_within, gcd, is_reduced, is_partition, is_label, is_ordered, each_term}
+use Rattle.sym_model.specs.Canonical.{gcd_within, gcd, is_reduced, is_partition, is_label, fits_128_bits}
 
 -- numbers compared the other way round
 abbrev falling : ℕ → ℕ → Ordering
@@ -41,16 +43,19 @@ falling_lexicographic-total = record { antisymm = antisymm; trans = trans; congr
   where
     total : IsTotalOrder (slice_cmp falling)
     total = lists_total (back_total nat_cmp_total)
+
     antisymm : (x y : List ℕ) → falling_lexicographic x y ≡ ordering_reverse (falling_lexicographic y x)
     antisymm x y =
         let n : ℕ = length x + length y in
         let p = resize n x in
         let q = resize n y in
         falling_lexicographic-padded n x y (omega arith) (omega arith) ∙ (total.antisymm p q ∙ ap ordering_reverse (sym (falling_lexicographic-padded n y x (omega arith) (omega arith))))
+
     trans : (x y z : List ℕ) → falling_lexicographic x y ≡ Less → falling_lexicographic y z ≡ Less → falling_lexicographic x z ≡ Less
     trans x y z h k =
         let n : ℕ = length x + (length y + length z) in
         falling_lexicographic-padded n x z (omega arith) (omega arith) ∙ total.trans (resize n x) (resize n y) (resize n z) (sym (falling_lexicographic-padded n x y (omega arith) (omega arith)) ∙ h) (sym (falling_lexicographic-padded n y z (omega arith) (omega arith)) ∙ k)
+
     congr : (x y z : List ℕ) → falling_lexicographic x y ≡ Equal → falling_lexicographic x z ≡ falling_lexicographic y z
     congr x y z h =
         let n : ℕ = length x + (length y + length z) in
@@ -160,3 +165,12 @@ is_reduced-tells c h =
 pub is_reduced-from : (c : Fraction) → IsReduced c → is_reduced c ≡ true
 is_reduced-from c h =
     and_from (ltb 0 c.1 && ltb 0 (nat_abs c.0)) (eqb (gcd (nat_abs c.0) c.1) 1) (and_from (ltb 0 c.1) (ltb 0 (nat_abs c.0)) (lt-ltb 0 c.1 h.denominator) (lt-ltb 0 (nat_abs c.0) h.nonzero)) (eq-eqb _ _ (gcd-only (nat_abs c.0) c.1 1 h.lowest))
+
+-- a number of 128 bits with a sign, as the program's integers are
+pub fits_128_bits-from : (z : ℤ) → FitsSigned w128 z → fits_128_bits z ≡ true
+fits_128_bits-from (pos n) h = lt-ltb n (2 ^ 127) h.sfits
+fits_128_bits-from (negsuc n) h = lt-ltb n (2 ^ 127) h.sfits
+
+pub fits_128_bits-tells : (z : ℤ) → fits_128_bits z ≡ true → FitsSigned w128 z
+fits_128_bits-tells (pos n) h = record { sfits = ltb-true n (2 ^ 127) h }
+fits_128_bits-tells (negsuc n) h = record { sfits = ltb-true n (2 ^ 127) h }

@@ -11,7 +11,7 @@ mod restriction;
 mod ring;
 mod sums;
 
-pub use examples::worked_examples_law;
+pub use examples::{block_examples_law, order_examples_law, worked_examples_law};
 pub use printing::printed_block_law;
 pub use restriction::restriction_law;
 pub use ring::poly_ring_law;
