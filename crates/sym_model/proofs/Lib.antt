@@ -2,3 +2,4 @@ pub mod Decimals
 pub mod Blocks
 pub mod Orders
 pub mod CanonicalLists
+pub mod PlainTexts
