@@ -1,0 +1,2 @@
+-- Lemmas of the crate, for its own proofs and those of the crates above.
+pub mod GoesLaws
