@@ -4,3 +4,6 @@ pub mod Source
 pub mod Sink
 pub mod Goes
 pub mod Status
+pub mod Supply
+pub mod Store
+pub mod Edge
