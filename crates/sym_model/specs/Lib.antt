@@ -8,3 +8,4 @@ pub mod PrintedOrder
 pub mod Canonical
 pub mod PrintedBlock
 pub mod PowerSumCommand
+pub mod Leading

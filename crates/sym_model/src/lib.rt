@@ -8,11 +8,11 @@
 mod examples;
 mod printing;
 mod restriction;
-mod ring;
-mod sums;
+mod ring_laws;
+mod sum_laws;
 
 pub use examples::worked_examples_law;
 pub use printing::printed_block_law;
 pub use restriction::restriction_law;
-pub use ring::poly_ring_law;
-pub use sums::sum_law;
+pub use ring_laws::poly_ring_law;
+pub use sum_laws::sum_law;

@@ -1,0 +1,6 @@
+pub mod Ring
+pub mod Sums
+pub mod Exponents
+pub mod Polynomials
+pub mod PolynomialLaws
+pub mod LeadingTerms
