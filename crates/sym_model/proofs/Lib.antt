@@ -4,3 +4,7 @@ pub mod Exponents
 pub mod Polynomials
 pub mod PolynomialLaws
 pub mod LeadingTerms
+pub mod Decimals
+pub mod Blocks
+pub mod Orders
+pub mod CanonicalLists

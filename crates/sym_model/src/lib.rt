@@ -6,12 +6,14 @@
 #![tactic(auto)]
 
 mod examples;
+mod plain_order;
 mod printing;
 mod restriction;
 mod ring_laws;
 mod sum_laws;
 
-pub use examples::worked_examples_law;
+pub use examples::{block_examples_law, order_examples_law, worked_examples_law};
+pub use plain_order::{plain_falling_lexicographic, plain_printed_order, plain_size};
 pub use printing::printed_block_law;
 pub use restriction::restriction_law;
 pub use ring_laws::poly_ring_law;
