@@ -8,3 +8,4 @@ pub mod Decimals
 pub mod Blocks
 pub mod Orders
 pub mod CanonicalLists
+pub mod PartitionLists

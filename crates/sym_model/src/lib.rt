@@ -6,6 +6,7 @@
 #![tactic(auto)]
 
 mod examples;
+mod partition_lists;
 mod plain_order;
 mod printing;
 mod restriction;
@@ -13,6 +14,7 @@ mod ring_laws;
 mod sum_laws;
 
 pub use examples::{block_examples_law, order_examples_law, worked_examples_law};
+pub use partition_lists::partitions_of_law;
 pub use plain_order::{plain_falling_lexicographic, plain_printed_order, plain_size};
 pub use printing::printed_block_law;
 pub use restriction::restriction_law;
