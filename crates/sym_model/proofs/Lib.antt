@@ -14,3 +14,4 @@ pub mod Blocks
 pub mod Orders
 pub mod CanonicalLists
 pub mod PlainTexts
+pub mod PartitionLists

@@ -12,3 +12,4 @@ pub mod WholeTerms
 pub mod PowerSumProduct
 pub mod Leading
 pub mod PlainTerm
+pub mod PartitionList
