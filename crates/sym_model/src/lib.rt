@@ -15,7 +15,6 @@ mod restriction;
 mod ring_laws;
 mod sum_laws;
 
-pub use examples::worked_examples_law;
 pub use leading::leading_cancel_law;
 pub use examples::{block_examples_law, order_examples_law, worked_examples_law};
 pub use plain_blocks::{PlainTerm, plain_block};
