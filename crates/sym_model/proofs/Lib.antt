@@ -11,3 +11,9 @@ pub mod TermWeights
 pub mod PolynomialLaws
 pub mod LeadingTerms
 pub mod Restrictions
+pub mod Decimals
+pub mod Blocks
+pub mod Orders
+pub mod CanonicalLists
+pub mod PlainTexts
+pub mod PartitionLists

@@ -11,3 +11,5 @@ pub mod PowerSumCommand
 pub mod WholeTerms
 pub mod PowerSumProduct
 pub mod Leading
+pub mod PlainTerm
+pub mod PartitionList
