@@ -1,12 +1,12 @@
 -- How texts that go to a sink one after another join: `Goes-then` for two, `Goes-as` for an equal text, `Goes-nothing`
 -- where nothing was put, `Goes-stopped` after a fault, `Goes-item` in a loop over a list, and `Goes-prints` at a printer's end.
-use Rattle.std.proofs.Common.{◌≡◌, ℕ, ◌+◌, ◌<◌, ◌≤◌, min, max, List, [], ◌∷◌, ◌++◌, length, take, get_or, Option, Some, None, Bool, true, false, refl, sym, ◌∙◌, ap, subst, arith, append_assoc, append-nil, length-append}
+use Rattle.std.proofs.Common.{◌≡◌, ℕ, ◌+◌, ◌<◌, min, max, List, [], ◌∷◌, ◌++◌, length, take, get_or, Option, Some, None, Bool, true, false, refl, sym, ◌∙◌, ap, subst, arith, append_assoc, append-nil, length-append}
 use Rattle.std.specs.Prelude.{Result, Ok, Err, is_ok}
 use Rattle.std.specs.List.{flat_map}
 use Rattle.std.proofs.lemmas.List.{take_more}
 use Rattle.std.proofs.lemmas.Grind.{flat_map-append}
-use Rattle.calc_base.specs.Fault.{counted_up, Rose, HasCause}
-use Rattle.calc_base.specs.Sink.{greatest_length, grown, longer, Appends, IsPrefix, AppendsPrefix}
+use Rattle.calc_base.specs.Fault.{Rose}
+use Rattle.calc_base.specs.Sink.{greatest_length, grown, longer, Appends, AppendsPrefix}
 use Rattle.calc_base.specs.Goes.{Goes, Prints}
 
 -- appending two texts is appending them joined

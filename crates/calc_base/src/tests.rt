@@ -51,8 +51,10 @@ struct Singles {
 impl Model for Singles {
     ghost Value = { List (List ℕ) × Option (List ℕ) };
 
-    ghost view = { λ s. (map (λ x. x ∷ []) (drop s.next s.numbers.items),
-        cond s.has_item (Some (slice_range s.numbers.items (s.next - 1) s.next)) None) };
+    ghost view = { λ s. (
+      map (λ x. x ∷ []) (drop s.next s.numbers.items),
+      cond s.has_item (Some (slice_range s.numbers.items (s.next - 1) s.next)) None,
+    ) };
 
     ghost invariant = { λ s. (s.next ≤ length s.numbers.items) × (s.has_item ≡ true → 1 ≤ s.next) };
 }
