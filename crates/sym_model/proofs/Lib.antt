@@ -3,3 +3,4 @@ pub mod Blocks
 pub mod Orders
 pub mod CanonicalLists
 pub mod PlainTexts
+pub mod PlainExponents

@@ -9,3 +9,4 @@ pub mod Canonical
 pub mod PrintedBlock
 pub mod PowerSumCommand
 pub mod PlainTerm
+pub mod PlainLists

@@ -7,6 +7,7 @@
 
 mod examples;
 mod plain_blocks;
+mod plain_lists;
 mod plain_order;
 mod printing;
 mod restriction;
@@ -15,6 +16,7 @@ mod sums;
 
 pub use examples::{block_examples_law, order_examples_law, worked_examples_law};
 pub use plain_blocks::{PlainTerm, plain_block};
+pub use plain_lists::{plain_exponent_lists, plain_join, plain_sorted_parts};
 pub use plain_order::{plain_falling_lexicographic, plain_printed_order, plain_size};
 pub use printing::printed_block_law;
 pub use restriction::restriction_law;
