@@ -4,3 +4,4 @@ pub mod Orders
 pub mod CanonicalLists
 pub mod PlainTexts
 pub mod PlainExponents
+pub mod PlainDegrees

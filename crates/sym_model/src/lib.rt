@@ -6,6 +6,7 @@
 #![tactic(auto)]
 
 mod examples;
+mod plain_bases;
 mod plain_blocks;
 mod plain_lists;
 mod plain_order;
@@ -15,6 +16,7 @@ mod ring;
 mod sums;
 
 pub use examples::{block_examples_law, order_examples_law, worked_examples_law};
+pub use plain_bases::{PlainBasis, plain_monomial, plain_part_polynomial, plain_product, plain_times};
 pub use plain_blocks::{PlainTerm, plain_block};
 pub use plain_lists::{plain_exponent_lists, plain_join, plain_sorted_parts};
 pub use plain_order::{plain_falling_lexicographic, plain_printed_order, plain_size};
