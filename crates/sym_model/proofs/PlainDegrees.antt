@@ -9,7 +9,7 @@ use Rattle.sym_model.specs.Sum.{each, select, Among}
 use Rattle.sym_model.specs.Polynomial.{Term, Poly, same, join, times, one}
 use Rattle.sym_model.specs.Partition.{size}
 use Rattle.sym_model.specs.Bases.{down_from, exponent_lists, monomials, product_over}
-use Rattle.sym_model.specs.PlainLists.{sum_of, part_polynomial, keeps, CanMultiply}
+use Rattle.sym_model.specs.PlainLists.{sum_of, part_polynomial, product_polynomial, keeps, CanMultiply}
 use Rattle.sym_model.specs.declared.plain_bases.PlainBasis.{PlainBasis}
 use Rattle.sym_model.specs.declared.plain_bases.PlainBasis.TheVariants.{Elementary, Complete, PowerSum}
 
@@ -164,3 +164,9 @@ same-pointwise [] [] = refl
 same-pointwise [] (y ∷ ys) = refl
 same-pointwise (x ∷ xs) [] = refl
 same-pointwise (x ∷ xs) (y ∷ ys) = ap (λ b. eqb x y && b) (same-pointwise xs ys)
+
+-- the polynomial of a partition as a product over its parts
+pub product_polynomial-is : (basis : PlainBasis) (parts : List ℕ) (n : ℕ) → product_polynomial basis parts n ≡ product_over (part_polynomial basis) parts n
+product_polynomial-is Elementary parts n = refl
+product_polynomial-is Complete parts n = refl
+product_polynomial-is PowerSum parts n = refl

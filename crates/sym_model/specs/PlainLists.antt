@@ -4,7 +4,7 @@ use Rattle.std.specs.Global.{Vec}
 use Rattle.sym_model.specs.Sum.{Among}
 use Rattle.sym_model.specs.Polynomial.{Poly}
 use Rattle.sym_model.specs.Partition.{size}
-use Rattle.sym_model.specs.Bases.{at_most_one, has, elementary_of, complete_of, power_sum_of}
+use Rattle.sym_model.specs.Bases.{at_most_one, has, elementary_of, complete_of, power_sum_of, elementary, complete, power_sum}
 use Rattle.sym_model.specs.declared.plain_bases.PlainBasis.{PlainBasis}
 use Rattle.sym_model.specs.declared.plain_bases.PlainBasis.TheVariants.{Elementary, Complete, PowerSum}
 
@@ -31,3 +31,9 @@ abbrev pub part_polynomial : PlainBasis → ℕ → ℕ → Poly
 part_polynomial Elementary = elementary_of
 part_polynomial Complete = complete_of
 part_polynomial PowerSum = power_sum_of
+
+-- the polynomial of a partition, which is the product over its parts
+abbrev pub product_polynomial : PlainBasis → List ℕ → ℕ → Poly
+product_polynomial Elementary = elementary
+product_polynomial Complete = complete
+product_polynomial PowerSum = power_sum

@@ -4,11 +4,11 @@
 //! formal sum, with coefficient 1. A monomial that the sum has twice stands twice.
 
 ghost use Rattle.std.specs.Prelude.{◌≡◌, ◌+◌, ◌^◌, ◌<◌, ◌++◌, ℕ, List, map, IfOk, OnOk};
-ghost use Rattle.sym_model.specs.PlainLists.{lists, sum_of, CanMultiply, keeps, part_polynomial};
+ghost use Rattle.sym_model.specs.PlainLists.{lists, sum_of, CanMultiply, keeps, part_polynomial, product_polynomial};
 ghost use Rattle.sym_model.specs.Sum.{Among, each};
 ghost use Rattle.sym_model.specs.Polynomial.{same, join, one};
 ghost use Rattle.sym_model.specs.Partition.{size, sorted_parts};
-ghost use Rattle.sym_model.specs.Bases.{at_most_one, has, monomial, elementary, complete, power_sum, product_over};
+ghost use Rattle.sym_model.specs.Bases.{at_most_one, has, monomial};
 
 use crate::plain_lists::{plain_exponent_lists, plain_join, plain_sorted_parts};
 use crate::plain_order::plain_size;
@@ -53,7 +53,7 @@ pub fn plain_product(
     n: usize,
 ) -> Result<Vec<Vec<u64>>, AllocError>
     requires { size parts.now < 2 ^ 64 }
-    ensures { IfOk result (λ all. sum_of (lists all) ≡ product_over (part_polynomial basis) parts.now n) }
+    ensures { IfOk result (λ all. sum_of (lists all) ≡ product_polynomial basis parts.now n) }
 {
     let [first, rest @ ..] = parts else {
         return plain_one(alloc, n);
