@@ -14,9 +14,11 @@ mod printing;
 mod restriction;
 mod ring;
 mod sums;
+#[cfg(test)]
+mod tests;
 
 pub use examples::{block_examples_law, order_examples_law, worked_examples_law};
-pub use plain_bases::{PlainBasis, plain_monomial, plain_part_polynomial, plain_product, plain_times};
+pub use plain_bases::{PlainBasis, plain_monomial, plain_part_polynomial, plain_product};
 pub use plain_blocks::{PlainTerm, plain_block};
 pub use plain_lists::{plain_exponent_lists, plain_join, plain_sorted_parts};
 pub use plain_order::{plain_falling_lexicographic, plain_printed_order, plain_size};

@@ -56,11 +56,11 @@ pub fn plain_product(
     ensures { IfOk result (λ all. sum_of (lists all) ≡ product_polynomial basis parts.now n) }
 {
     let [first, rest @ ..] = parts else {
-        return plain_one(alloc, n);
+        return one(alloc, n);
     };
     let front = plain_part_polynomial(alloc, basis, *first, n)?;
     let back = plain_product(alloc, basis, rest, n)?;
-    plain_times(alloc, &front, &back)
+    times(alloc, &front, &back)
 }
 
 /// The elementary, complete or power sum polynomial of one part in `n` variables. Want of memory is
@@ -114,7 +114,7 @@ fn has_exponent(wanted: u64, exponents: &[u64]) -> bool
     false
 }
 
-fn plain_one(alloc: Global, n: usize) -> Result<Vec<Vec<u64>>, AllocError>
+fn one(alloc: Global, n: usize) -> Result<Vec<Vec<u64>>, AllocError>
     ensures { IfOk result (λ all. sum_of (lists all) ≡ one n) }
 {
     let mut all = Vec::new(alloc);
@@ -124,7 +124,7 @@ fn plain_one(alloc: Global, n: usize) -> Result<Vec<Vec<u64>>, AllocError>
 
 /// The products of each first and each second monomial. Their exponents fit 64 bits. Want of memory
 /// is its only error.
-pub fn plain_times(
+fn times(
     alloc: Global,
     first: &[Vec<u64>],
     second: &[Vec<u64>],

@@ -10,8 +10,8 @@ use Rattle.sym_model.proofs.plain_bases.+plain_product.Goals as goal
 abbrev held : List (Vec ℕ) → List (List ℕ)
 held all = map (λ (list : Vec ℕ). list.items) all
 
-pub plain_times-requires : goal.plain_times-requires
-plain_times-requires t c =
+pub times-requires : goal.times-requires
+times-requires t c =
     let parts : List ℕ = c.args.parts.now in
     let rest : List ℕ = take (length parts - 1) (drop 1 parts) in
     let f = part_polynomial c.args.basis in
@@ -20,4 +20,4 @@ plain_times-requires t c =
 
 pub returns : goal.returns
 returns t c =
-    IfOk-weaker c.plain_times.result _ _ (λ all h. (product-is (part_polynomial c.args.basis) c.args.parts.now c.args.n (held c.deref.result.now) (held c.deref-2.result.now) (held all.items) (omega arith) (ap (λ all. sum_of (held all)) c.deref.ensures.value ∙ c.in_ok-front.ensures) (ap (λ all. sum_of (held all)) c.deref-2.ensures.value ∙ (c.in_ok-back.ensures ∙ product_polynomial-is c.args.basis _ c.args.n)) h) ∙ sym (product_polynomial-is c.args.basis c.args.parts.now c.args.n)) c.plain_times.ensures
+    IfOk-weaker c.times.result _ _ (λ all h. (product-is (part_polynomial c.args.basis) c.args.parts.now c.args.n (held c.deref.result.now) (held c.deref-2.result.now) (held all.items) (omega arith) (ap (λ all. sum_of (held all)) c.deref.ensures.value ∙ c.in_ok-front.ensures) (ap (λ all. sum_of (held all)) c.deref-2.ensures.value ∙ (c.in_ok-back.ensures ∙ product_polynomial-is c.args.basis _ c.args.n)) h) ∙ sym (product_polynomial-is c.args.basis c.args.parts.now c.args.n)) c.times.ensures

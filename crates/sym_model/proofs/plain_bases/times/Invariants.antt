@@ -3,7 +3,7 @@ use Rattle.std.specs.Global.{Vec}
 use Rattle.sym_model.specs.Sum.{each}
 use Rattle.sym_model.specs.Polynomial.{join}
 use Rattle.sym_model.specs.PlainLists.{lists}
-use Rattle.sym_model.proofs.plain_bases.plain_times.Given as goal
+use Rattle.sym_model.proofs.plain_bases.times.Given as goal
 
 abbrev pub invariant-loop-exponents : goal.invariant-loop-exponents
 invariant-loop-exponents l =

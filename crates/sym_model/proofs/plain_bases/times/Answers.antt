@@ -1,7 +1,7 @@
 use Rattle.std.proofs.Common.{◌+◌, ◌<◌, ◌^◌, sym, subst}
 use Rattle.sym_model.specs.Partition.{size}
 use Rattle.sym_model.proofs.PlainDegrees.{among-item}
-use Rattle.sym_model.proofs.plain_bases.plain_times.Goals as goal
+use Rattle.sym_model.proofs.plain_bases.times.Goals as goal
 
 pub append_products-requires : goal.append_products-requires
 append_products-requires c β m =
