@@ -1,3 +1,16 @@
+pub mod Ring
+pub mod Sums
+pub mod Exponents
+pub mod Polynomials
+pub mod SortedParts
+pub mod Monomials
+pub mod WholeTerms
+pub mod PowerSums
+pub mod PowerSumLists
+pub mod TermWeights
+pub mod PolynomialLaws
+pub mod LeadingTerms
+pub mod Restrictions
 pub mod Decimals
 pub mod Blocks
 pub mod Orders
@@ -5,3 +18,4 @@ pub mod CanonicalLists
 pub mod PlainTexts
 pub mod PlainExponents
 pub mod PlainDegrees
+pub mod PartitionLists

@@ -8,5 +8,9 @@ pub mod PrintedOrder
 pub mod Canonical
 pub mod PrintedBlock
 pub mod PowerSumCommand
+pub mod WholeTerms
+pub mod PowerSumProduct
+pub mod Leading
 pub mod PlainTerm
 pub mod PlainLists
+pub mod PartitionList
