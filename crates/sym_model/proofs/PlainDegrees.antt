@@ -1,5 +1,5 @@
 -- The degrees of the polynomials of the bases, and products of sums of monomials.
-use Rattle.std.proofs.Common.{◌≡◌, ℕ, zero, suc, ◌+◌, ◌-◌, ◌<◌, ◌≤◌, ◌^◌, Bool, true, false, ◌&&◌, cond, eqb, List, [], ◌∷◌, ◌++◌, map, length, get_or, take, drop, replicate, ℤ, pos, ◌*ℤ◌, refl, sym, ap, ◌∙◌, subst, inl, inr, arith}
+use Rattle.std.proofs.Common.{◌≡◌, ℕ, zero, suc, ◌+◌, ◌-◌, ◌<◌, ◌≤◌, ◌^◌, Bool, true, false, ◌&&◌, cond, eqb, List, [], ◌∷◌, ◌++◌, map, length, get_or, take, drop, replicate, pos, ◌*ℤ◌, refl, sym, ap, ◌∙◌, subst, inl, inr, arith}
 use Rattle.std.specs.Global.{Vec}
 use Rattle.std.specs.Prelude.{nat_eq}
 use Rattle.std.specs.Cmp.Lexicographic.{pointwise}
@@ -119,6 +119,7 @@ sum_of-times (α ∷ αs) βs =
     sum_of-append : (xs ys : List (List ℕ)) → sum_of (xs ++ ys) ≡ sum_of xs ++ sum_of ys
     sum_of-append [] ys = refl
     sum_of-append (x ∷ xs) ys = ap (λ zs. (x, pos 1) ∷ zs) (sum_of-append xs ys)
+
     row : (βs : List (List ℕ)) → sum_of (map (λ β. join α β) βs) ≡ map (λ (t : Term). (join α t.0, pos 1 *ℤ t.1)) (sum_of βs)
     row [] = refl
     row (β ∷ βs) = ap (λ zs. (join α β, pos 1) ∷ zs) (row βs)

@@ -1,5 +1,5 @@
 -- What the plain programs' lists of exponents stand for.
-use Rattle.std.specs.Prelude.{ℕ, ◌+◌, ◌^◌, ◌<◌, Bool, true, ℤ, pos, List, map}
+use Rattle.std.specs.Prelude.{ℕ, ◌+◌, ◌^◌, ◌<◌, Bool, true, pos, List, map}
 use Rattle.std.specs.Global.{Vec}
 use Rattle.sym_model.specs.Sum.{Among}
 use Rattle.sym_model.specs.Polynomial.{Poly}

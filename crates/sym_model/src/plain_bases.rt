@@ -130,12 +130,10 @@ fn times(
     second: &[Vec<u64>],
 ) -> Result<Vec<Vec<u64>>, AllocError>
     requires { CanMultiply (map (λ α. α.items) first.now) (map (λ β. β.items) second.now) }
-    ensures {
-        IfOk result
-            (λ all.
-                lists all
-                    ≡ each (λ α. map (λ β. join α β) (map (λ β. β.items) second.now)) (map (λ α. α.items) first.now))
-    }
+    ensures { IfOk result
+        (λ all.
+        lists all
+        ≡ each (λ α. map (λ β. join α β) (map (λ β. β.items) second.now)) (map (λ α. α.items) first.now)) }
 {
     let mut all = Vec::new(alloc);
     for exponents in first {
@@ -150,14 +148,10 @@ fn append_products(
     first: &[u64],
     second: &[Vec<u64>],
 ) -> Result<(), AllocError>
-    requires {
-        (β : List ℕ) → Among β (map (λ β. β.items) second.now) → size first.now + size β < 2 ^ 64
-    }
-    ensures {
-        OnOk result
-            (lists all.new
-                ≡ lists all.old ++ map (λ β. join first.now β) (map (λ β. β.items) second.now))
-    }
+    requires { (β : List ℕ) → Among β (map (λ β. β.items) second.now) → size first.now + size β < 2 ^ 64 }
+    ensures { OnOk result
+        (lists all.new
+        ≡ lists all.old ++ map (λ β. join first.now β) (map (λ β. β.items) second.now)) }
 {
     for exponents in second {
         all.push(plain_join(alloc, first, exponents)?)?;
