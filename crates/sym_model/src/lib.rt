@@ -20,7 +20,9 @@ mod sum_laws;
 #[cfg(test)]
 mod tests;
 
-pub use examples::{block_examples_law, order_examples_law, worked_examples_law};
+pub use examples::{
+    block_examples_law, order_examples_law, outcome_examples_law, worked_examples_law,
+};
 pub use leading::leading_cancel_law;
 pub use partition_lists::partitions_of_law;
 pub use plain_bases::{PlainBasis, plain_monomial, plain_part_polynomial, plain_product};
