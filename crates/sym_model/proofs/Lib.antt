@@ -16,4 +16,6 @@ pub mod Blocks
 pub mod Orders
 pub mod CanonicalLists
 pub mod PlainTexts
+pub mod PlainExponents
+pub mod PlainDegrees
 pub mod PartitionLists

@@ -12,4 +12,5 @@ pub mod WholeTerms
 pub mod PowerSumProduct
 pub mod Leading
 pub mod PlainTerm
+pub mod PlainLists
 pub mod PartitionList
