@@ -1,5 +1,5 @@
 // The partitions of a number, one at a time.
-ghost use Rattle.std.specs.Prelude.{◌≡◌, ℕ, ◌+◌, ◌-◌, ◌<◌, ◌≤◌, ◌≢◌, [], ◌∷◌, ◌++◌, List, length, take, drop, slice_index, IfOk, IfSome, MatchOption, None};
+ghost use Rattle.std.specs.Prelude.{◌≡◌, ◌+◌, ◌-◌, ◌<◌, ◌≤◌, ◌≢◌, [], ◌∷◌, ◌++◌, length, take, drop, slice_index, IfOk, IfSome, MatchOption, None};
 ghost use Rattle.sym_model.specs.PartitionList.{partitions_of};
 ghost use Rattle.partitions.specs.Listing.{greatest_within, partitions_after, AreOnes, HoldsParts};
 
