@@ -1,0 +1,4 @@
+-- Lemmas of the crate.
+pub mod Digits
+pub mod Numbers
+pub mod Words
