@@ -1,7 +1,10 @@
 -- How texts that go to a sink one after another join: `Goes-then` for two, `Goes-as` for an equal text, `Goes-nothing`
--- where nothing was put, and `Goes-prints` at a printer's end.
-use Rattle.std.proofs.Common.{◌≡◌, ℕ, ◌+◌, ◌≤◌, min, max, List, [], ◌++◌, length, Option, Some, None, Bool, true, false, refl, sym, ◌∙◌, ap, subst, arith, append_assoc, append-nil, length-append}
+-- where nothing was put, `Goes-stopped` after a fault, `Goes-item` in a loop over a list, and `Goes-prints` at a printer's end.
+use Rattle.std.proofs.Common.{◌≡◌, ℕ, ◌+◌, ◌<◌, ◌≤◌, min, max, List, [], ◌∷◌, ◌++◌, length, take, get_or, Option, Some, None, Bool, true, false, refl, sym, ◌∙◌, ap, subst, arith, append_assoc, append-nil, length-append}
 use Rattle.std.specs.Prelude.{Result, Ok, Err, is_ok}
+use Rattle.std.specs.List.{flat_map}
+use Rattle.std.proofs.lemmas.List.{take_more}
+use Rattle.std.proofs.lemmas.Grind.{flat_map-append}
 use Rattle.calc_base.specs.Fault.{counted_up, Rose, HasCause}
 use Rattle.calc_base.specs.Sink.{greatest_length, grown, longer, Appends, IsPrefix, AppendsPrefix}
 use Rattle.calc_base.specs.Goes.{Goes, Prints}
@@ -137,3 +140,30 @@ Goes-prints {now = now} (Ok x) goes answer =
 Goes-prints {now = now} (Err e) goes answer =
     let ended : now ≡ false = sym answer in
     record { whole = tt; cut = goes.cut refl ended; cause = record { later = goes.later; failed = goes.rose refl ended } }
+
+-- after a fault nothing more is put, whatever the text
+pub Goes-stopped : {S : Type 0} (written : S → Option (List ℕ)) (count : S → Option ℕ) (faults : S → ℕ) (s : S) (text : List ℕ)
+    → Goes written count faults false s false s text
+Goes-stopped written count faults s text = record {
+  whole = λ well. let clash : false ≡ true = well in cc;
+  cut = λ began ended. let clash : false ≡ true = began in cc;
+  rose = λ began ended. let clash : false ≡ true = began in cc;
+  later = omega arith;
+  untouched = λ ill. refl;
+  ill = λ ill. ill;
+}
+
+-- one more item of a list whose items go to the sink one after another: the step of a printer's loop
+pub Goes-item : {S X : Type 0} {written : S → Option (List ℕ)} {count : S → Option ℕ} {faults : S → ℕ}
+    {before mid now : Bool} {old between new : S} (text : X → List ℕ) (items : List X) (index : ℕ) (item : X)
+    → index < length items
+    → Goes written count faults before old mid between (flat_map text (take index items))
+    → Goes written count faults mid between now new (text (get_or items index item))
+    → Goes written count faults before old now new (flat_map text (take (index + 1) items))
+Goes-item text items index item below first second =
+    Goes-as (sym one_more) (Goes-then first second)
+  where
+    one_more : flat_map text (take (index + 1) items) ≡ flat_map text (take index items) ++ text (get_or items index item)
+    one_more = ap (flat_map text) (take_more items index item below)
+        ∙ flat_map-append text (take index items) (get_or items index item ∷ [])
+        ∙ ap (λ t. flat_map text (take index items) ++ t) (append-nil (text (get_or items index item)))

@@ -41,7 +41,7 @@ Store-appends s t piece count grew = record {
   appends = record {
     bytes = ap Some grew;
     number = ap Some (number (length s.bytes) (length (take count piece)) (length t.bytes) greatest_length
-      (ap length grew ∙ length-append s.bytes (take count piece)));
+        (ap length grew ∙ length-append s.bytes (take count piece)));
   };
 }
   where

@@ -6,3 +6,4 @@ pub mod Goes
 pub mod Status
 pub mod Supply
 pub mod Store
+pub mod Edge

@@ -10,6 +10,8 @@ mod mem_source;
 mod sink;
 mod source;
 mod status;
+mod std_in;
+mod std_out;
 mod words;
 mod writing;
 
@@ -20,5 +22,10 @@ pub use mem_source::MemSource;
 pub use sink::Sink;
 pub use source::Source;
 pub use status::Status;
+pub use std_in::StdIn;
+pub use std_out::StdOut;
 pub use words::{Basis, Place, Weight, WordsFault};
 pub use writing::{finish_if, put_if, put_result};
+
+#[cfg(test)]
+mod tests;

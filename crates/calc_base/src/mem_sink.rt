@@ -22,12 +22,12 @@ impl Model for MemSink {
     ghost Value = { Store };
 
     ghost view = { λ s. record {
-        bytes = s.bytes.items;
-        room = s.room;
-        fails = s.calls.fails.items;
-        calls = s.calls.made;
-        failed = s.calls.faults;
-        finished = s.finished;
+      bytes = s.bytes.items;
+      room = s.room;
+      fails = s.calls.fails.items;
+      calls = s.calls.made;
+      failed = s.calls.faults;
+      finished = s.finished;
     } };
 
     ghost invariant = { λ s. (list_length s.bytes.items ≤ s.room) × (s.room ≤ vec_capacity s.bytes) };
@@ -38,7 +38,13 @@ impl MemSink {
     /// number, from 0, is in `fails`, and a `put` also where its piece is longer than the room left.
     pub fn new(alloc: Global, room: usize, fails: &[u64]) -> Result<MemSink, NoMemory>
         ensures { IfOk result (λ sink. sink ≡ record {
-            bytes = []; room = room; fails = fails.now; calls = 0; failed = 0; finished = false }) }
+          bytes = [];
+          room = room;
+          fails = fails.now;
+          calls = 0;
+          failed = 0;
+          finished = false;
+        }) }
     {
         Ok(MemSink {
             bytes: Vec::with_capacity(alloc, room)?,

@@ -22,11 +22,11 @@ impl Model for MemSource {
     ghost Value = { Supply };
 
     ghost view = { λ s. record {
-        rest = drop s.at s.bytes.items;
-        piece = s.piece;
-        fails = s.calls.fails.items;
-        calls = s.calls.made;
-        failed = s.calls.faults;
+      rest = drop s.at s.bytes.items;
+      piece = s.piece;
+      fails = s.calls.fails.items;
+      calls = s.calls.made;
+      failed = s.calls.faults;
     } };
 
     ghost invariant = { λ s. (s.at ≤ length s.bytes.items) × (1 ≤ s.piece) };
@@ -42,7 +42,12 @@ impl MemSource {
     ) -> Result<MemSource, NoMemory>
         requires { 1 ≤ piece }
         ensures { IfOk result (λ source. source ≡ record {
-            rest = bytes.now; piece = piece; fails = fails.now; calls = 0; failed = 0 }) }
+          rest = bytes.now;
+          piece = piece;
+          fails = fails.now;
+          calls = 0;
+          failed = 0;
+        }) }
     {
         Ok(MemSource {
             bytes: Vec::from_slice(alloc, bytes)?,

@@ -8,3 +8,8 @@ pub mod PrintedOrder
 pub mod Canonical
 pub mod PrintedBlock
 pub mod PowerSumCommand
+pub mod WholeTerms
+pub mod PowerSumProduct
+pub mod Leading
+pub mod PlainTerm
+pub mod PartitionList

@@ -1,0 +1,17 @@
+pub mod Ring
+pub mod Sums
+pub mod Exponents
+pub mod Polynomials
+pub mod SortedParts
+pub mod Monomials
+pub mod WholeTerms
+pub mod PowerSums
+pub mod PowerSumLists
+pub mod PolynomialLaws
+pub mod LeadingTerms
+pub mod Decimals
+pub mod Blocks
+pub mod Orders
+pub mod CanonicalLists
+pub mod PlainTexts
+pub mod PartitionLists
