@@ -2,4 +2,5 @@
 //! puts its text, or the one line that says why there is none.
 #![tactic(auto)]
 
+mod power_sum;
 mod reading;
