@@ -8,8 +8,10 @@ pub mod WholeTerms
 pub mod PowerSums
 pub mod PowerSumLists
 pub mod PowerSumCoefficients
+pub mod TermWeights
 pub mod PolynomialLaws
 pub mod LeadingTerms
+pub mod Restrictions
 pub mod Decimals
 pub mod Blocks
 pub mod Orders

@@ -7,6 +7,7 @@
 
 mod examples;
 mod leading;
+mod power_sums;
 mod plain_blocks;
 mod partition_lists;
 mod plain_order;
@@ -16,6 +17,7 @@ mod ring_laws;
 mod sum_laws;
 
 pub use leading::leading_cancel_law;
+pub use power_sums::power_sum_product_law;
 pub use examples::{block_examples_law, order_examples_law, worked_examples_law};
 pub use plain_blocks::{PlainTerm, plain_block};
 pub use partition_lists::partitions_of_law;
