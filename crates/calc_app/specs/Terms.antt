@@ -1,6 +1,6 @@
 -- The list of terms that the program keeps, as its contracts see it.
 use Rattle.std.specs.Prelude.{ℕ, ℤ, max, pos, List, [], ◌∷◌, map}
-use Rattle.calc_app.specs.declared.power_sum.Term.{Term}
+use Rattle.calc_app.specs.declared.terms.Term.{Term}
 use Rattle.sym_model.specs.WholeTerms.{WholeTerms}
 
 -- labels with their whole coefficients

@@ -4,3 +4,4 @@
 
 mod power_sum;
 mod reading;
+mod terms;

@@ -7,15 +7,9 @@ ghost use Rattle.sym_model.specs.Partition.{IsPartition, insert_part, sorted_par
 ghost use Rattle.sym_model.proofs.PowerSums.{lowered};
 ghost use Rattle.calc_app.specs.Terms.{whole_terms, labels_of, greatest};
 
+use crate::terms::Term;
 use partitions::Partition;
 use std::alloc::{AllocError, Global};
-
-/// A term of a list in the monomial basis.
-#[derive(Drop)]
-pub(crate) struct Term {
-    pub(crate) label: Partition,
-    pub(crate) coefficient: u64,
-}
 
 /// The coefficient of a partition in p_k times the list: the sum over the rows from which k cells can be taken of the
 /// coefficient of what is left, put in order.
