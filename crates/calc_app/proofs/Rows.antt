@@ -1,6 +1,8 @@
 -- The rows of a partition, one of them lowered, and the sum over the rows.
-use Rattle.std.proofs.Common.{◌≡◌, ◌⊎◌, ℕ, suc, zero, ◌+◌, ◌-◌, ◌<◌, ◌≤◌, Bool, true, false, cond, leb, List, [], ◌∷◌, ◌++◌, length, get_or, take, drop, set, map, refl, sym, ◌∙◌, ap, subst, inl, inr, arith, ℤ, pos, ◌+ℤ◌}
+use Rattle.std.proofs.Common.{◌≡◌, ◌⊎◌, ℕ, suc, zero, ◌+◌, ◌-◌, ◌*◌, ◌<◌, ◌≤◌, Bool, true, false, cond, leb, List, [], ◌∷◌, ◌++◌, length, get_or, take, drop, set, map, refl, sym, ◌∙◌, ap, subst, inl, inr, arith, add-one, ℤ, pos, ◌+ℤ◌}
 use Rattle.std.specs.Prelude.{insert, remove}
+use Rattle.std.proofs.lemmas.Int.{ints}
+use Rattle.std.proofs.lemmas.Bool.{le-leb, lt-leb}
 use Rattle.sym_model.specs.Sum.{total}
 use Rattle.sym_model.specs.Partition.{Falls, ArePositive, IsPartition, insert_part, sorted_parts}
 use Rattle.sym_model.proofs.Sums.{total_append, total_map}
@@ -31,7 +33,8 @@ IsPartition_tail c parts p = record { falls = Falls_tail c parts p.falls; positi
 
 -- a falling list stays so without one of its numbers
 Falls-remove : (c : ℕ) (parts : List ℕ) (i : ℕ) → Falls (c ∷ parts) → Falls (c ∷ remove parts i)
-Falls-remove c [] i falls = falls
+Falls-remove c [] zero falls = tt
+Falls-remove c [] (suc i) falls = tt
 Falls-remove c (b ∷ []) zero falls = tt
 Falls-remove c (b ∷ d ∷ parts) zero falls = (omega (arith, falls.0, falls.1.0), falls.1.1)
 Falls-remove c (b ∷ parts) (suc i) falls = (falls.0, Falls-remove b parts i falls.1)
@@ -56,3 +59,66 @@ at_row f k parts row = cond (leb k (get_or parts row 0)) (f (set parts row (get_
 pub rows_total : (List ℕ → ℤ) → ℕ → List ℕ → ℕ → ℤ
 rows_total f k parts zero = pos 0
 rows_total f k parts (suc i) = rows_total f k parts i +ℤ at_row f k parts i
+
+pub rows_total-none : (f : List ℕ → ℤ) (k : ℕ) (parts : List ℕ) → pos 0 ≡ rows_total f k parts 0
+unfolding rows_total
+rows_total-none f k parts = refl
+
+-- one more row, from which k cells can be taken or not
+pub rows_total-taken : (f : List ℕ → ℤ) (k : ℕ) (parts : List ℕ) (row sum here new : ℕ) → pos sum ≡ rows_total f k parts row
+    → k ≤ get_or parts row 0 → pos here ≡ f (set parts row (get_or parts row 0 - k)) → new ≡ sum + here
+    → pos new ≡ rows_total f k parts (row + 1)
+unfolding rows_total
+rows_total-taken f k parts row sum here new before enough value added =
+    rw (add-one row, le-leb k (get_or parts row 0) enough)
+        (ap pos added ∙ ap (λ z. z +ℤ pos here) before ∙ ap (λ z. rows_total f k parts row +ℤ z) value)
+
+pub rows_total-passed : (f : List ℕ → ℤ) (k : ℕ) (parts : List ℕ) (row sum new : ℕ) → pos sum ≡ rows_total f k parts row
+    → get_or parts row 0 < k → new ≡ sum → pos new ≡ rows_total f k parts (row + 1)
+unfolding rows_total
+rows_total-passed f k parts row sum new before few same =
+    rw (add-one row, lt-leb k (get_or parts row 0) few) (ap pos same ∙ before ∙ sym (+ℤ_idr (rows_total f k parts row)))
+
+rows_total-next : (f : List ℕ → ℤ) (k c : ℕ) (parts : List ℕ) (i : ℕ)
+    → rows_total f k (c ∷ parts) (suc i) ≡ at_row f k (c ∷ parts) 0 +ℤ rows_total (λ (t : List ℕ). f (c ∷ t)) k parts i
+unfolding rows_total
+rows_total-next f k c parts zero = +ℤ_idl (at_row f k (c ∷ parts) 0) ∙ sym (+ℤ_idr (at_row f k (c ∷ parts) 0))
+rows_total-next f k c parts (suc i) =
+    ap (λ z. z +ℤ at_row f k (c ∷ parts) (suc i)) (rows_total-next f k c parts i)
+    ∙ omega (arith, ints)
+
+-- over all rows it is the sum over the lists that are left
+pub rows_total-all : (f : List ℕ → ℤ) (k : ℕ) (parts : List ℕ)
+    → rows_total f k parts (length parts) ≡ total f (lowered k parts)
+unfolding rows_total
+rows_total-all f k [] = refl
+rows_total-all f k (c ∷ parts) =
+    rows_total-next f k c parts (length parts)
+    ∙ ap (λ z. at_row f k (c ∷ parts) 0 +ℤ z) (rows_total-all (λ (t : List ℕ). f (c ∷ t)) k parts ∙ sym (total_map f (λ (t : List ℕ). c ∷ t) (lowered k parts)))
+    ∙ ap (λ z. z +ℤ total f (map (λ (t : List ℕ). c ∷ t) (lowered k parts))) (first (leb k c))
+    ∙ sym (total_append f (cond (leb k c) (((c - k) ∷ parts) ∷ []) []) (map (λ (t : List ℕ). c ∷ t) (lowered k parts)))
+  where
+    first : (b : Bool) → cond b (f ((c - k) ∷ parts)) (pos 0) ≡ total f (cond b (((c - k) ∷ parts) ∷ []) [])
+    first true = sym (+ℤ_idr (f ((c - k) ∷ parts)))
+    first false = refl
+
+-- the row taken out, and the lowered one put in its place, or left out where nothing is left of it
+pub lowered_put : (parts old without seen left : List ℕ) (row low place : ℕ) → IsPartition parts → row < length parts
+    → old ≡ parts → without ≡ remove old row → seen ≡ without → insert seen place low ≡ insert_part low seen
+    → left ≡ insert without place low → left ≡ sorted_parts (set parts row low)
+lowered_put parts old without seen left row low place p h was taken same put done =
+    done ∙ ap (λ t. insert t place low) (sym same) ∙ put
+    ∙ ap (insert_part low) (same ∙ taken ∙ ap (λ t. remove t row) was) ∙ sym (sorted-lowered parts row low p h)
+
+pub lowered_out : (parts old without left : List ℕ) (row low : ℕ) → IsPartition parts → row < length parts
+    → old ≡ parts → without ≡ remove old row → low ≤ 0 → left ≡ without → left ≡ sorted_parts (set parts row low)
+lowered_out parts old without left row zero p h was taken none done =
+    done ∙ taken ∙ ap (λ t. remove t row) was ∙ sym (sorted-lowered parts row 0 p h)
+lowered_out parts old without left row (suc low) p h was taken none done = absurd (omega arith)
+
+-- the sum stays below so many of the greatest
+pub step_small : (row top sum here new : ℕ) → sum ≤ row * top → here ≤ top → new ≡ sum + here → new ≤ (row + 1) * top
+step_small row top sum here new before small added = omega arith
+
+pub passed_small : (row top sum new : ℕ) → sum ≤ row * top → new ≡ sum → new ≤ (row + 1) * top
+passed_small row top sum new before same = omega arith
