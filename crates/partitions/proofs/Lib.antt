@@ -1,2 +1,4 @@
 pub mod Parts
 pub mod Order
+pub mod Listings
+pub mod Steps

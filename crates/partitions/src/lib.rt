@@ -2,7 +2,9 @@
 #![tactic(auto)]
 
 mod fault;
+mod listing;
 mod partition;
 
 pub use fault::PartFault;
+pub use listing::PartitionsOf;
 pub use partition::Partition;
