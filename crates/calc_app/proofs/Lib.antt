@@ -4,3 +4,7 @@ pub mod Numbers
 pub mod Words
 pub mod Rows
 pub mod Lookups
+pub mod Labels
+pub mod Lists
+pub mod Products
+pub mod Kept
