@@ -7,6 +7,7 @@ pub mod Monomials
 pub mod WholeTerms
 pub mod PowerSums
 pub mod PowerSumLists
+pub mod PowerSumCoefficients
 pub mod TermWeights
 pub mod PolynomialLaws
 pub mod LeadingTerms
