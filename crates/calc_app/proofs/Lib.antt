@@ -2,4 +2,3 @@
 pub mod Digits
 pub mod Numbers
 pub mod Words
-pub mod Rows
