@@ -2,3 +2,4 @@
 pub mod Digits
 pub mod Numbers
 pub mod Words
+pub mod Blocks

@@ -3,5 +3,6 @@
 #![tactic(auto)]
 
 mod power_sum;
+mod printer;
 mod reading;
 mod terms;
