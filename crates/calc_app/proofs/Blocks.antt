@@ -40,11 +40,11 @@ place_line name at =
 pub numbers_text-split : (numbers : List ℕ) (index : ℕ) → 1 ≤ length numbers
     → length (take (length numbers - 1) (drop 1 numbers)) ≤ index
     → decimal (get_or numbers 0 0) ++ flat_map next_number (take index (take (length numbers - 1) (drop 1 numbers)))
-        ≡ numbers_text numbers
+    ≡ numbers_text numbers
 numbers_text-split [] index some all = absurd (omega arith)
 numbers_text-split (first ∷ others) index some all =
     ap (λ t. decimal first ++ flat_map next_number t)
-        (take_all index (take (length (first ∷ others) - 1) others) all ∙ take_all (length (first ∷ others) - 1) others (omega arith))
+    (take_all index (take (length (first ∷ others) - 1) others) all ∙ take_all (length (first ∷ others) - 1) others (omega arith))
     ∙ numbers_text-cons first others
 
 -- the block of some terms is their lines
@@ -62,7 +62,7 @@ block-nothing (t ∷ terms) none = absurd (omega arith)
 -- one more number behind a comma
 pub next_number-more : (front others : List ℕ) (index : ℕ) → index < length others
     → (front ++ flat_map next_number (take index others)) ++ next_number (get_or others index 0)
-        ≡ front ++ flat_map next_number (take (index + 1) others)
+    ≡ front ++ flat_map next_number (take (index + 1) others)
 next_number-more front others index below =
     append_assoc front (flat_map next_number (take index others)) (next_number (get_or others index 0))
     ∙ ap (λ t. front ++ t) (sym one_more)

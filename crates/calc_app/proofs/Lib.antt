@@ -3,3 +3,4 @@ pub mod Digits
 pub mod Numbers
 pub mod Words
 pub mod Blocks
+pub mod Outcomes

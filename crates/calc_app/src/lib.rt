@@ -6,3 +6,6 @@ mod power_sum;
 mod printer;
 mod reading;
 mod terms;
+mod top;
+
+pub use top::run;
