@@ -9,3 +9,6 @@ mod terms;
 mod top;
 
 pub use top::run;
+
+#[cfg(test)]
+mod tests;
