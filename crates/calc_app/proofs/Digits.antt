@@ -30,5 +30,5 @@ pub kept-more : (w : List ℕ) (i v : ℕ) → i < length w → v ≡ kept (deci
     → min 16 (10 * v + (get_or w i 0 - 48)) ≡ kept (decimal_value (take (i + 1) w))
 kept-more w i v h e =
     let step : decimal_value (take (i + 1) w) ≡ 10 * decimal_value (take i w) + (get_or w i 0 - 48) =
-        ap decimal_value (take_more w i 0 h) ∙ value_from-push 0 (take i w) (get_or w i 0) in
+    ap decimal_value (take_more w i 0 h) ∙ value_from-push 0 (take i w) (get_or w i 0) in
     omega (arith, step, e)

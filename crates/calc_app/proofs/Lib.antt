@@ -8,3 +8,5 @@ pub mod Labels
 pub mod Lists
 pub mod Products
 pub mod Kept
+pub mod Blocks
+pub mod Outcomes

@@ -46,7 +46,7 @@ split-comma_separated word [] all =
     ∙ ap (λ t. t ∷ []) (append-nil word)
 split-comma_separated word (next ∷ words) all =
     digits-before word (44 ∷ comma_separated (next ∷ words)) [] (next ∷ words) all.0.digits
-        (ap (λ t. [] ∷ t) (split-comma_separated next words all.1))
+    (ap (λ t. [] ∷ t) (split-comma_separated next words all.1))
     ∙ ap (λ t. t ∷ next ∷ words) (append-nil word)
 
 pub AreNumberWords-push : (words : List (List ℕ)) (word : List ℕ) → AreNumberWords words → IsNumberWord word
@@ -92,7 +92,7 @@ pub no_number_words : {A : Type 0} (f : A → List ℕ) (items : List A) (i : �
 no_number_words f items i d text full h pieces bad [] all e = absurd (omega (arith, ap length e))
 no_number_words f items i d text full h pieces bad (word ∷ words) all e =
     let same : map f items ≡ word ∷ words =
-        pieces ∙ ap (λ t. slice_split is_comma t) e ∙ split-comma_separated word words all in
+    pieces ∙ ap (λ t. slice_split is_comma t) e ∙ split-comma_separated word words all in
     let longer : i < length (word ∷ words) = omega (arith, ap length same, length-map items f) in
     let P : List ℕ → Type 0 = λ t. IsNumberWord t in
     bad (subst P (sym (ap (λ t. get_or t i (f d)) same) ∙ get_or-map f items i d) (AreNumberWords-at (word ∷ words) i (f d) all longer))

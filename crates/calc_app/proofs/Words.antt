@@ -49,8 +49,8 @@ pub not_numbers : (words : List (List ℕ)) (third inner : List ℕ) → words �
     → (word numbers : List ℕ) → SpellsCommand words word numbers → ⊥
 not_numbers words third inner e e' none word numbers spells =
     none spells.last.words spells.last.each_number
-        (one_inner third inner (comma_separated spells.last.words) e'
-            (sym (one_word words third word e spells.three) ∙ spells.last.spelling))
+    (one_inner third inner (comma_separated spells.last.words) e'
+    (sym (one_word words third word e spells.three) ∙ spells.last.spelling))
 
 -- kept numbers that add up to at most 15 are the numbers themselves
 kept_size : (numbers : List ℕ) → size (map kept numbers) ≤ size numbers

@@ -3,5 +3,12 @@
 #![tactic(auto)]
 
 mod power_sum;
+mod printer;
 mod reading;
 mod terms;
+mod top;
+
+pub use top::run;
+
+#[cfg(test)]
+mod tests;

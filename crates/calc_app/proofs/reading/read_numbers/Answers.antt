@@ -9,10 +9,12 @@ use Rattle.calc_app.proofs.reading.read_numbers.Goals as goal
 
 pub returns-in-None : goal.returns-in-None
 returns-in-None c =
-    let full : 0 < length c.args.inner.now = search rules in
-    (no_number_words (λ piece. piece.now) c.deref-piece-items.result.now c.loop-piece.piece-index _ c.args.inner.now
-        full c.loop-piece-test.true (ap (map (λ piece. piece.now)) c.deref-piece-items.ensures.value ∙ c.in_ok-pieces.ensures)
-        c.in-None.ensures, refl)
+    let full : 0 < length c.args.inner.now = search rules in (
+      no_number_words (λ piece. piece.now) c.deref-piece-items.result.now c.loop-piece.piece-index _ c.args.inner.now
+          full c.loop-piece-test.true (ap (map (λ piece. piece.now)) c.deref-piece-items.ensures.value ∙ c.in_ok-pieces.ensures)
+          c.in-None.ensures,
+      refl,
+    )
 
 pub loop-piece-preserved : goal.loop-piece-preserved
 loop-piece-preserved c = record {
@@ -20,7 +22,7 @@ loop-piece-preserved c = record {
       c.loop-piece-test.true c.loop-piece.invariant.each_number c.in-Some.ensures.0;
   values =
       pushed-more (λ piece. kept (decimal_value piece.now)) c.deref-piece-items.result.now c.loop-piece.piece-index _ _ _ _
-          c.loop-piece-test.true c.loop-piece.invariant.values c.in-Some.ensures.1 c.in_ok-push-in-Some.ensures.items;
+      c.loop-piece-test.true c.loop-piece.invariant.values c.in-Some.ensures.1 c.in_ok-push-in-Some.ensures.items;
 }
 
 pub returns : goal.returns
