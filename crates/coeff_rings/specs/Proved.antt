@@ -3,3 +3,5 @@ pub mod Divisors
 pub mod Fractions
 pub mod FractionLaws
 pub mod Whole
+pub mod FractionAnswers
+pub mod Sizes

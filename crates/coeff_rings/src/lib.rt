@@ -4,10 +4,12 @@
 
 mod count;
 mod digits;
+mod frac;
 mod int;
 mod scalar;
 
 pub use count::Count;
 pub use digits::Digits;
+pub use frac::Frac;
 pub use int::Int;
 pub use scalar::{Field, Ring, Scalar};

@@ -134,5 +134,8 @@ pub trait Field: Ring {
         ensures held { Self.is_held self × Self.is_held other }
         ensures held_quotient { IfSome result Self.is_held };
 
+    ghost quotient_held: { (a b : Self) → Self.is_held a → Self.is_held b → Self.value b ≢ whole (pos 0)
+        → IfSome (checked_quotient a b) Self.is_held };
+
     ghost field_laws: { FieldLaws Self.is_held Self.value };
 }
