@@ -15,6 +15,10 @@ whole z = record { num = z; den = 1 }
 abbrev pub whole_count : ℕ → Ratio
 whole_count n = whole (pos n)
 
+-- a fraction times d, a multiple of its denominator: the whole number with the fraction cleared
+abbrev pub scaled : ℕ → Ratio → ℤ
+scaled d r = r.num *ℤ pos (d / r.den)
+
 -- the denominator is positive, and nothing but 1 divides both numbers
 pub record InLowestTerms (r : Ratio) : Type 0 where
   pub positive : 0 < r.den

@@ -1,5 +1,5 @@
 //! Fractions of whole numbers of 128 bits, in lowest terms.
-ghost use Rattle.std.specs.Prelude.{◌≡◌, ℕ, ℤ, pos, neg_ℤ, ◌+◌, ◌*◌, ◌<◌, ◌^◌, ◌*ℤ◌, Bool, unsigned_abs, FitsSigned, SomeIff};
+ghost use Rattle.std.specs.Prelude.{◌≡◌, ℕ, ℤ, pos, neg_ℤ, ◌+◌, ◌*◌, ◌<◌, ◌^◌, ◌*ℤ◌, Bool, unsigned_abs, FitsSigned, SomeIff, IfSome};
 ghost use Rattle.std.specs.Int.{w128, IsGcd};
 ghost use Rattle.coeff_rings.specs.Ratio.{Ratio, lowest_terms, greatest_common_divisor};
 ghost use Rattle.coeff_rings.specs.Signs.{signed, signs_differ};
@@ -37,6 +37,7 @@ impl Frac {
     /// positive denominator does not fit.
     pub fn new(num: i128, den: i128) -> Option<Frac>
         ensures value { result ≡ checked_ratio_of num den }
+        ensures held { IfSome result IsFraction }
     {
         if den == 0 {
             return None;
@@ -56,6 +57,15 @@ impl Frac {
         self.num
     }
 
+    /// The denominator, which is positive.
+    pub fn den(&self) -> i128
+        ensures value { result ≡ pos self.now.den }
+        ensures held { IsFraction self.now }
+    {
+        self.den as i128
+    }
+
+    // The sizes of the two numbers.
     fn sizes(&self) -> Sizes
         ensures value { result ≡ record { num = unsigned_abs self.now.num; den = self.now.den } }
         ensures lowest { (0 < result.den) × IsGcd result.num result.den 1 }
@@ -65,14 +75,6 @@ impl Frac {
             num: self.num.unsigned_abs(),
             den: self.den,
         }
-    }
-
-    /// The denominator, which is positive.
-    pub fn den(&self) -> i128
-        ensures value { result ≡ pos self.now.den }
-        ensures held { IsFraction self.now }
-    {
-        self.den as i128
     }
 }
 

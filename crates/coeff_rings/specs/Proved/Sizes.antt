@@ -1,5 +1,5 @@
 -- Fractions by sign and sizes: what the steps of the functions of `Frac` come to.
-use Rattle.std.proofs.Common.{◌≡◌, ◌≢◌, ℕ, zero, suc, ◌+◌, ◌*◌, ◌/◌, ◌<◌, ◌≤◌, ◌^◌, sym, refl, ap, ◌∙◌, subst, arith, ℤ, pos, negsuc, ◌+ℤ◌, ◌-ℤ◌, ◌*ℤ◌, neg_ℤ, unsigned_abs, int_div, int_lt, Bool, true, false, ◌&&◌, FitsSigned, Option, Some, None, nat_lt, nat_eq, IsTrue, ◌↔◌}
+use Rattle.std.proofs.Common.{◌≡◌, ◌≢◌, ℕ, zero, suc, ◌+◌, ◌*◌, ◌/◌, ◌<◌, ◌≤◌, ◌^◌, sym, refl, ap, ◌∙◌, subst, arith, ℤ, pos, negsuc, ◌+ℤ◌, ◌-ℤ◌, ◌*ℤ◌, neg_ℤ, unsigned_abs, int_div, int_lt, Bool, true, false, ◌&&◌, FitsSigned, Option, Some, None, nat_lt, cond, IfSome, nat_eq, IsTrue, ◌↔◌}
 use Rattle.std.specs.Int.{w128, cast_unsigned, IsGcd, ◌∣◌}
 use Rattle.std.specs.Ordering.{int_eq}
 use Rattle.std.proofs.lemmas.Int.{ints}
@@ -12,10 +12,10 @@ use Rattle.coeff_rings.specs.Ratio.{Ratio, whole, InLowestTerms, greatest_common
 use Rattle.coeff_rings.specs.Signs.{signed, signs_differ}
 use Rattle.coeff_rings.specs.Checked.{fits_i128, where_fits, checked_i128, fits_fraction, checked_fraction, IsFraction, checked_ratio_of, checked_ratio_quotient, checked_ratio_product}
 use Rattle.coeff_rings.specs.Proved.Divisors.{coprime_from, greatest_common_divisor-is, coprime-products, coprime_without, quotient_positive, divisor_positive}
-use Rattle.coeff_rings.specs.Proved.Fractions.{Stands-same, Stands-itself, Stands-lowest_terms}
-use Rattle.coeff_rings.specs.Proved.FractionLaws.{num-zero}
+use Rattle.coeff_rings.specs.Proved.Fractions.{Stands-same, Stands-itself, Stands-lowest_terms, InLowestTerms-whole}
+use Rattle.coeff_rings.specs.Proved.FractionLaws.{num-zero, reciprocal-lowest}
 use Rattle.coeff_rings.specs.Proved.Whole.{where_fits-true, fits_from_test, test_from_fits}
-use Rattle.coeff_rings.specs.Proved.FractionAnswers.{held-fits_fraction}
+use Rattle.coeff_rings.specs.Proved.FractionAnswers.{checked_fraction-held}
 
 -- ---- signs
 
@@ -66,9 +66,6 @@ checked_fraction-num r e = ap (λ (t : Bool). where_fits t r) (sym (and_left (fi
 
 pub checked_fraction-den : (r : Ratio) → 2 ^ 127 ≤ r.den → None ≡ checked_fraction r
 checked_fraction-den r h = ap (λ (t : Bool). where_fits t r) (sym (and_right (fits_i128 r.num) (nat_lt r.den (2 ^ 127)) (le-ltb r.den (2 ^ 127) h)))
-
-pub checked_fraction-held : (r : Ratio) → IsFraction r → Some r ≡ checked_fraction r
-checked_fraction-held r h = sym (where_fits-true (fits_fraction r) r (held-fits_fraction r h))
 
 -- a size past 2^127 does not fit, with either sign
 pub signed-large : (s : Bool) (n : ℕ) → 2 ^ 127 < n → fits_i128 (signed s n) ≡ false
@@ -247,3 +244,14 @@ new-steps num den s n d answer other ps pn pd is =
     let value : Bool → ℕ → ℕ → Option Ratio = λ s n d. checked_fraction (lowest_terms (signed s n) d) in
     is ∙ ap (λ (x : Bool). value x n d) ps ∙ ap (λ (x : ℕ). value (signs_differ num den) x d) pn ∙ ap (λ (x : ℕ). value (signs_differ num den) (unsigned_abs num) x) pd
     ∙ checked_ratio_of-sizes num den (λ e. other (ap (cast_unsigned w128) e))
+
+pub checked_ratio_of-held : (num den : ℤ) → IfSome (checked_ratio_of num den) IsFraction
+checked_ratio_of-held num den = by (int_eq den (pos 0)) refl
+  where
+    by : (t : Bool) → int_eq den (pos 0) ≡ t → IfSome (cond t None (checked_ratio_quotient (whole num) (whole den))) IsFraction
+    by true e = tt
+    by false e =
+        let other : whole den ≢ whole (pos 0) = λ z. both_ways (int_eq den (pos 0)) e ((Decides-int_eq den (pos 0)).1 (ap (λ (r : Ratio). r.num) z)) in
+        let l = reciprocal-lowest (whole den) (InLowestTerms-whole den) other in
+        checked_fraction-held (ratio_quotient (whole num) (whole den))
+        (Stands-lowest_terms (num *ℤ (reciprocal (whole den)).num) (1 * (reciprocal (whole den)).den) (mul-pos (omega arith) l.positive)).lowest
