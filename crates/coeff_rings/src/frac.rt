@@ -1,10 +1,10 @@
 //! Fractions of whole numbers of 128 bits, in lowest terms.
-ghost use Rattle.std.specs.Prelude.{◌≡◌, ℕ, ℤ, pos, neg_ℤ, ◌+◌, ◌*◌, ◌<◌, ◌^◌, ◌*ℤ◌, Bool, unsigned_abs, FitsSigned, SomeIff, IfSome};
+ghost use Rattle.std.specs.Prelude.{refl, ◌≡◌, ℕ, ℤ, pos, neg_ℤ, ◌+◌, ◌*◌, ◌<◌, ◌^◌, ◌*ℤ◌, Bool, unsigned_abs, FitsSigned, SomeIff, IfSome};
 ghost use Rattle.std.specs.Int.{w128, IsGcd};
-ghost use Rattle.coeff_rings.specs.Ratio.{Ratio, lowest_terms, greatest_common_divisor};
+ghost use Rattle.coeff_rings.specs.Ratio.{Ratio, whole, lowest_terms, greatest_common_divisor};
 ghost use Rattle.coeff_rings.specs.Signs.{signed, signs_differ};
 ghost use Rattle.coeff_rings.specs.Checked.{IsFraction, CommonFits, checked_i128, checked_fraction, checked_ratio_of, numerator_over_common, common_denominator, checked_ratio_sum, checked_ratio_difference, checked_ratio_product, checked_ratio_quotient, checked_ratio_negation};
-ghost use Rattle.coeff_rings.specs.Proved.FractionAnswers.{sum_answers_fraction, sum_held_fraction, sum_laws_fraction, negation_answers_fraction, negation_held_fraction, difference_answers_fraction, difference_held_fraction, product_answers_fraction, product_held_fraction, ring_laws_fraction, quotient_held_fraction, field_laws_fraction};
+ghost use Rattle.coeff_rings.specs.Proved.FractionAnswers.{zero_is_fraction, one_is_fraction, sum_answers_fraction, sum_held_fraction, sum_laws_fraction, negation_answers_fraction, negation_held_fraction, difference_answers_fraction, difference_held_fraction, product_answers_fraction, product_held_fraction, ring_laws_fraction, quotient_held_fraction, field_laws_fraction};
 
 use crate::digits::Digits;
 use crate::scalar::{Field, Ring, Scalar};
@@ -81,6 +81,10 @@ impl Frac {
 impl Scalar for Frac {
     ghost value = { λ r. r };
 
+    ghost zero = { whole (pos 0) };
+
+    ghost one = { whole (pos 1) };
+
     ghost is_held = { IsFraction };
 
     ghost checked_sum = { checked_ratio_sum };
@@ -111,6 +115,10 @@ impl Scalar for Frac {
             out.put_unsigned(self.den);
         }
     }
+
+    ghost zero_value = { (refl, zero_is_fraction) };
+
+    ghost one_value = { (refl, one_is_fraction) };
 
     ghost same_value = { λ a b e. e };
 

@@ -42,6 +42,12 @@ held-fits_fraction r h = and_from (fits_i128 r.num) (nat_lt r.den (2 ^ 127)) (te
 pub IsFraction-whole : (z : ℤ) → FitsSigned w128 z → IsFraction (record { num = z; den = 1 })
 IsFraction-whole z f = record { fits = f; small = omega arith; lowest = InLowestTerms-whole z }
 
+pub zero_is_fraction : IsFraction (whole (pos 0))
+zero_is_fraction = IsFraction-whole (pos 0) (omega (arith, ints))
+
+pub one_is_fraction : IsFraction (whole (pos 1))
+one_is_fraction = IsFraction-whole (pos 1) (omega (arith, ints))
+
 pub IsFraction-negation : (n m : ℤ) (d : ℕ) → IsFraction (record { num = n; den = d }) → FitsSigned w128 (neg_ℤ n) → m ≡ neg_ℤ n → IsFraction (record { num = m; den = d })
 IsFraction-negation n m d h f e =
     let r : Ratio = record { num = n; den = d } in

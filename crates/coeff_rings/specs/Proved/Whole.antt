@@ -57,6 +57,18 @@ checked_u128-from n answer h = where_fits-from (nat_lt n (2 ^ 128)) (n < 2 ^ 128
 pub checked_u128-held : (n : ℕ) → IfSome (checked_u128 n) (λ m. m < 2 ^ 128)
 checked_u128-held n = IfSome-where_fits (nat_lt n (2 ^ 128)) n (λ m. m < 2 ^ 128) (ltb-true n (2 ^ 128))
 
+pub zero_fits_i128 : FitsSigned w128 (pos 0)
+zero_fits_i128 = omega (arith, ints)
+
+pub one_fits_i128 : FitsSigned w128 (pos 1)
+one_fits_i128 = omega (arith, ints)
+
+pub zero_fits_u128 : 0 < 2 ^ 128
+zero_fits_u128 = omega arith
+
+pub one_fits_u128 : 1 < 2 ^ 128
+one_fits_u128 = omega arith
+
 -- ---- whole numbers as fractions
 
 pub same_whole : (a b : ℤ) → whole a ≡ whole b → a ≡ b
