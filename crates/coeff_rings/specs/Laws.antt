@@ -1,5 +1,5 @@
 -- The laws of rings and fields (school algebra), over the values of a type of scalars.
-use Rattle.std.specs.Prelude.{◌≡◌, ◌≢◌, ℕ, ◌*◌, ◌<◌, pos, neg_ℤ, ◌+ℤ◌, ◌*ℤ◌}
+use Rattle.std.specs.Prelude.{◌≡◌, ◌≢◌, ℕ, ◌*◌, ◌<◌, pos, ◌+ℤ◌, ◌*ℤ◌}
 use Rattle.std.specs.Int.{◌∣◌}
 use Rattle.coeff_rings.specs.Ratio.{Ratio, whole, scaled, ratio_sum, ratio_difference, ratio_product, ratio_negation, ratio_quotient}
 

@@ -1,9 +1,9 @@
 -- Fractions cleared: a fraction times a multiple of its denominator.
 use Rattle.std.proofs.Common.{◌≡◌, ℕ, ◌*◌, ◌/◌, ◌<◌, sym, ap, ◌∙◌, subst, arith, ℤ, pos, ◌+ℤ◌, ◌*ℤ◌, neg_ℤ, unsigned_abs}
-use Rattle.std.specs.Int.{IsGcd, ◌∣◌}
-use Rattle.std.proofs.lemmas.Nat.Gcd.{IsGcd-swap, dvd_trans}
+use Rattle.std.specs.Int.{◌∣◌}
+use Rattle.std.proofs.lemmas.Nat.Gcd.{IsGcd-swap}
 use Rattle.std.proofs.lemmas.Int.{ints, unsigned_abs-mul}
-use native.Mathlib.Nat.{div-mul_cancel, dvd-mul_left, dvd-mul_right, mul-pos, mul_comm, mul_assoc, mul-div_assoc}
+use native.Mathlib.Nat.{div-mul_cancel, dvd-mul_left, mul_comm, mul-div_assoc}
 use Rattle.sym_model.proofs.Ring.{ring, negation-product, product_assoc}
 use Rattle.coeff_rings.specs.Ratio.{Ratio, InLowestTerms, scaled, ratio_sum, ratio_product, ratio_negation}
 use Rattle.coeff_rings.specs.Room.{magnitude}

@@ -1,20 +1,20 @@
 -- The laws of `Frac`: what its answers are, where they have room, and that they are held.
-use Rattle.std.proofs.Common.{◌≡◌, ◌≢◌, ℕ, zero, suc, ◌+◌, ◌*◌, ◌/◌, ◌<◌, ◌≤◌, ◌^◌, sym, refl, ap, ◌∙◌, subst, arith, ℤ, pos, negsuc, ◌+ℤ◌, ◌-ℤ◌, ◌*ℤ◌, neg_ℤ, unsigned_abs, int_div, Bool, true, false, cond, ◌&&◌, FitsSigned, Option, Some, None, SomeIff, IsSome, IfSome, nat_lt}
+use Rattle.std.proofs.Common.{◌≡◌, ◌≢◌, ℕ, ◌+◌, ◌*◌, ◌/◌, ◌<◌, ◌≤◌, ◌^◌, sym, refl, ap, ◌∙◌, subst, arith, ℤ, pos, ◌+ℤ◌, ◌-ℤ◌, ◌*ℤ◌, neg_ℤ, unsigned_abs, Bool, true, false, cond, ◌&&◌, FitsSigned, Option, Some, None, IsSome, IfSome, nat_lt}
 use Rattle.std.specs.Int.{w128, IsGcd, ◌∣◌}
 use Rattle.std.specs.Ordering.{int_eq}
 use Rattle.std.proofs.lemmas.Int.{ints, unsigned_abs-mul, fits_signed_from_abs, quot_fits}
-use Rattle.std.proofs.lemmas.Bool.{ltb-true, lt-ltb, both_ways, and_parts, and_from, cases_Bool}
+use Rattle.std.proofs.lemmas.Bool.{ltb-true, lt-ltb, both_ways, and_parts, and_from}
 use Rattle.std.proofs.lemmas.Bool.Decides.{Decides-int_eq}
-use Rattle.std.proofs.lemmas.Nat.Gcd.{IsGcd-swap, same_from_IsGcd, le_of_dvd, dvd_trans}
-use native.Mathlib.Nat.{zero-mul, div-one, div_self, mul-le-mul_left, mul-one, one-mul, le-mul_of_pos_right, mul-le-mul, div-le_self, mul-pos, div-mul_cancel, mul-div_cancel', dvd_of_mul-dvd-mul_left, mul_assoc, mul_comm}
+use Rattle.std.proofs.lemmas.Nat.Gcd.{IsGcd-swap, le_of_dvd}
+use native.Mathlib.Nat.{zero-mul, div-one, div_self, mul-le-mul_left, mul-one, one-mul, le-mul_of_pos_right, mul-le-mul, div-le_self, mul-pos, mul-div_cancel', dvd_of_mul-dvd-mul_left, mul_assoc}
 use Rattle.sym_model.proofs.Ring.{ring, negation-product, product-one}
 use Rattle.coeff_rings.specs.Ratio.{Ratio, whole, InLowestTerms, greatest_common_divisor, lowest_terms, ratio_sum, ratio_difference, ratio_product, ratio_negation, ratio_quotient, reciprocal}
-use Rattle.coeff_rings.specs.Room.{magnitude, HasRoomForSum, HasRoomForProduct, HasRoomForNegation}
+use Rattle.coeff_rings.specs.Room.{magnitude, HasRoomForSum}
 use Rattle.coeff_rings.specs.Checked.{fits_i128, where_fits, IsFraction, CommonFits, fits_fraction, checked_fraction, numerator_over_common, common_denominator, four_numbers_fit, checked_ratio_sum, checked_ratio_difference, checked_ratio_product, checked_ratio_quotient, checked_ratio_negation}
 use Rattle.coeff_rings.specs.Answers.{AnswersSum, AnswersDifference, AnswersProduct, AnswersNegation, AnswersQuotient}
 use Rattle.coeff_rings.specs.Laws.{SumLaws, RingLaws, FieldLaws}
 use Rattle.coeff_rings.specs.Proved.Divisors.{IsGcd-greatest, greatest_common_divisor-is, divisor_positive, divides_other_factor, coprime_without, coprime-one, quotient_positive}
-use Rattle.coeff_rings.specs.Proved.Fractions.{Stands, Stands-same, Stands-itself, Stands-sum, Stands-negation, Stands-lowest_terms, InLowestTerms-whole, unsigned_abs-quotient}
+use Rattle.coeff_rings.specs.Proved.Fractions.{Stands-same, Stands-itself, Stands-sum, Stands-negation, Stands-lowest_terms, InLowestTerms-whole, unsigned_abs-quotient}
 use Rattle.coeff_rings.specs.Proved.FractionLaws.{sum_laws, ring_laws, field_laws, sum_comm, sum-zero, difference-is, reciprocal-lowest}
 use Rattle.coeff_rings.specs.Proved.Whole.{where_fits-true, IfSome-where_fits, IsSome-where_fits, fits_from_test, test_from_fits}
 

@@ -1,5 +1,5 @@
 -- Fractions in lowest terms are a field, and so the values of every type of scalars keep its laws.
-use Rattle.std.proofs.Common.{◌≡◌, ◌≢◌, ℕ, zero, suc, ◌+◌, ◌*◌, ◌/◌, ◌<◌, sym, refl, ap, ◌∙◌, arith, ℤ, pos, negsuc, ◌+ℤ◌, ◌-ℤ◌, ◌*ℤ◌, neg_ℤ, unsigned_abs, subst}
+use Rattle.std.proofs.Common.{◌≡◌, ◌≢◌, ℕ, zero, suc, ◌*◌, ◌<◌, sym, refl, ap, ◌∙◌, arith, ℤ, pos, negsuc, ◌+ℤ◌, ◌*ℤ◌, neg_ℤ, unsigned_abs}
 use Rattle.std.specs.Int.{IsGcd}
 use Rattle.std.proofs.lemmas.Nat.Gcd.{IsGcd-swap}
 use Rattle.std.proofs.lemmas.Int.{ints}
@@ -9,7 +9,7 @@ use Rattle.sym_model.proofs.Ring.{ring, negation-product}
 use Rattle.coeff_rings.specs.Ratio.{Ratio, whole, InLowestTerms, lowest_terms, ratio_sum, ratio_difference, ratio_product, ratio_negation, ratio_quotient, reciprocal, turned_over}
 use Rattle.coeff_rings.specs.Laws.{SumLaws, RingLaws, FieldLaws}
 use Rattle.coeff_rings.specs.Proved.Cleared.{sum-cleared, product-cleared}
-use Rattle.coeff_rings.specs.Proved.Fractions.{Stands, Stands-same, Stands-itself, Stands-whole, Stands-sum, Stands-product, Stands-negation, Stands-lowest_terms}
+use Rattle.coeff_rings.specs.Proved.Fractions.{Stands-same, Stands-itself, Stands-whole, Stands-sum, Stands-product, Stands-negation}
 
 -- ---- sums
 

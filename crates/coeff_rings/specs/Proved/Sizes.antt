@@ -1,20 +1,20 @@
 -- Fractions by sign and sizes: what the steps of the functions of `Frac` come to.
-use Rattle.std.proofs.Common.{◌≡◌, ◌≢◌, ℕ, zero, suc, ◌+◌, ◌*◌, ◌/◌, ◌<◌, ◌≤◌, ◌^◌, sym, refl, ap, ◌∙◌, subst, arith, ℤ, pos, negsuc, ◌+ℤ◌, ◌-ℤ◌, ◌*ℤ◌, neg_ℤ, unsigned_abs, int_div, int_lt, Bool, true, false, ◌&&◌, FitsSigned, Option, Some, None, nat_lt, cond, IfSome, nat_eq, IsTrue, ◌↔◌}
+use Rattle.std.proofs.Common.{◌≡◌, ◌≢◌, ℕ, zero, suc, ◌*◌, ◌/◌, ◌<◌, ◌≤◌, ◌^◌, sym, refl, ap, ◌∙◌, subst, arith, ℤ, pos, negsuc, ◌*ℤ◌, neg_ℤ, unsigned_abs, int_div, int_lt, Bool, true, false, FitsSigned, Option, Some, None, nat_lt, cond, IfSome, nat_eq, IsTrue, ◌↔◌}
 use Rattle.std.specs.Int.{w128, cast_unsigned, IsGcd, ◌∣◌}
 use Rattle.std.specs.Ordering.{int_eq}
 use Rattle.std.proofs.lemmas.Int.{ints}
-use Rattle.std.proofs.lemmas.Bool.{ltb-true, eqb-true, eq-eqb, lt-ltb, le-ltb, both_ways, and_parts, and_from, and_left, and_right, false_from_ne_true, cond-false}
+use Rattle.std.proofs.lemmas.Bool.{ltb-true, eqb-true, eq-eqb, le-ltb, both_ways, and_left, and_right, false_from_ne_true, cond-false}
 use Rattle.std.proofs.lemmas.Bool.Decides.{Decides-int_eq}
 use Rattle.std.proofs.lemmas.Option.{cond_some, none-some}
-use native.Mathlib.Nat.{dvd_trans, dvd-mul_right, div-one, zero-div, mul-one, one-mul, mul-pos, div-mul_cancel, mul-div_cancel', mul_assoc, mul_comm}
-use Rattle.sym_model.proofs.Ring.{ring, negation-product}
+use native.Mathlib.Nat.{dvd_trans, dvd-mul_right, zero-div, mul-one, one-mul, mul-pos, div-mul_cancel}
+use Rattle.sym_model.proofs.Ring.{negation-product}
 use Rattle.coeff_rings.specs.Ratio.{Ratio, whole, InLowestTerms, greatest_common_divisor, lowest_terms, ratio_product, ratio_quotient, turned_over, reciprocal}
 use Rattle.coeff_rings.specs.Signs.{signed, signs_differ}
-use Rattle.coeff_rings.specs.Checked.{fits_i128, where_fits, checked_i128, fits_fraction, checked_fraction, IsFraction, checked_ratio_of, checked_ratio_quotient, checked_ratio_product}
+use Rattle.coeff_rings.specs.Checked.{fits_i128, where_fits, checked_i128, checked_fraction, IsFraction, checked_ratio_of, checked_ratio_quotient, checked_ratio_product}
 use Rattle.coeff_rings.specs.Proved.Divisors.{coprime_from, greatest_common_divisor-is, coprime-products, coprime_without, quotient_positive, divisor_positive}
 use Rattle.coeff_rings.specs.Proved.Fractions.{Stands-same, Stands-itself, Stands-lowest_terms, InLowestTerms-whole}
 use Rattle.coeff_rings.specs.Proved.FractionLaws.{num-zero, reciprocal-lowest}
-use Rattle.coeff_rings.specs.Proved.Whole.{where_fits-true, fits_from_test, test_from_fits}
+use Rattle.coeff_rings.specs.Proved.Whole.{where_fits-true, fits_from_test}
 use Rattle.coeff_rings.specs.Proved.FractionAnswers.{checked_fraction-held}
 
 -- ---- signs

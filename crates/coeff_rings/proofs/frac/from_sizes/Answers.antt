@@ -1,7 +1,6 @@
-use Rattle.std.proofs.Common.{rules, arith, ◌≡◌, ◌<◌, ◌^◌, ℤ, FitsSigned, to_z-of_z, Some, subst, sym}
+use Rattle.std.proofs.Common.{rules, arith, ◌<◌, ◌^◌, FitsSigned, to_z-of_z, subst, sym}
 use Rattle.std.specs.Int.{w128}
 use Rattle.coeff_rings.specs.Signs.{signed}
-use Rattle.coeff_rings.specs.Checked.{checked_i128}
 use Rattle.coeff_rings.specs.Proved.Sizes.{checked_i128-some, IsFraction-sizes}
 use Rattle.coeff_rings.proofs.frac.from_sizes.Goals as goal
 

@@ -1,7 +1,7 @@
-use Rattle.std.proofs.Common.{arith, ap, ℕ, ℤ, ◌≡◌, ◌<◌, ◌*◌, ◌/◌, ◌^◌, FitsSigned, pos, ◌*ℤ◌, to_z-of_z, subst, sym, ◌∙◌}
+use Rattle.std.proofs.Common.{arith, ap, ℕ, ℤ, ◌≡◌, ◌<◌, ◌^◌, FitsSigned, to_z-of_z, subst, sym, ◌∙◌}
 use Rattle.std.specs.Int.{w128}
 use Rattle.coeff_rings.specs.Ratio.{Ratio}
-use Rattle.coeff_rings.specs.Checked.{CommonFits, common_denominator}
+use Rattle.coeff_rings.specs.Checked.{common_denominator}
 use Rattle.coeff_rings.specs.declared.frac.Common.{Common}
 use Rattle.coeff_rings.specs.Proved.FractionAnswers.{numerator-left, numerator-right, denominator-common}
 use Rattle.coeff_rings.proofs.frac.over_common.Goals as goal

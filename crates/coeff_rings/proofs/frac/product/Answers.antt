@@ -1,6 +1,5 @@
-use Rattle.std.proofs.Common.{arith, ◌<◌, ◌≤◌, ◌^◌, ◌*◌, ◌/◌, ◌∙◌, ap, subst, sym}
-use Rattle.coeff_rings.specs.Checked.{checked_fraction}
-use Rattle.coeff_rings.specs.Proved.Sizes.{lowest_terms-product, product_num-large, product_den-large, product-parts, product-answer}
+use Rattle.std.proofs.Common.{arith, ◌<◌, ◌≤◌, ◌^◌, ◌*◌, ◌/◌, ◌∙◌}
+use Rattle.coeff_rings.specs.Proved.Sizes.{product_num-large, product_den-large, product-parts, product-answer}
 use Rattle.coeff_rings.proofs.frac.product.Goals as goal
 
 pub returns-in_err-num : goal.returns-in_err-num

@@ -1,4 +1,4 @@
-use Rattle.std.proofs.Common.{ℕ, ◌≡◌, subst, sym, to_z-of_z}
+use Rattle.std.proofs.Common.{ℕ, subst, sym, to_z-of_z}
 use Rattle.std.specs.Int.{IsGcd}
 use Rattle.coeff_rings.proofs.frac.Frac.sizes.Goals as goal
 

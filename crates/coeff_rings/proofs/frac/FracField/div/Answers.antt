@@ -1,4 +1,4 @@
-use Rattle.std.proofs.Common.{ℕ, ◌<◌, ◌≡◌, ◌∙◌, ap, subst, sym, to_z-of_z, unsigned_abs}
+use Rattle.std.proofs.Common.{ℕ, ◌<◌, ◌∙◌, ap, subst, sym, to_z-of_z}
 use Rattle.std.proofs.lemmas.Nat.Gcd.{IsGcd-swap}
 use Rattle.coeff_rings.specs.Ratio.{Ratio}
 use Rattle.coeff_rings.specs.Signs.{signs_differ}

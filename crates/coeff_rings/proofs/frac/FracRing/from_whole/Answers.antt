@@ -1,5 +1,4 @@
-use Rattle.std.proofs.Common.{arith, FitsSigned, to_z-of_z}
-use Rattle.std.specs.Int.{w128}
+use Rattle.std.proofs.Common.{to_z-of_z}
 use Rattle.coeff_rings.specs.Proved.FractionAnswers.{IsFraction-whole}
 use Rattle.coeff_rings.proofs.frac.FracRing.from_whole.Goals as goal
 

@@ -1,4 +1,4 @@
-use Rattle.std.proofs.Common.{◌≡◌, ◌∙◌, ap, to_z-of_z}
+use Rattle.std.proofs.Common.{◌∙◌, ap, to_z-of_z}
 use Rattle.coeff_rings.specs.Ratio.{Ratio}
 use Rattle.coeff_rings.specs.Signs.{signs_differ}
 use Rattle.coeff_rings.specs.declared.frac.Sizes.{Sizes}

@@ -1,5 +1,4 @@
-use Rattle.std.proofs.Common.{arith, ◌≡◌, FitsSigned, neg_ℤ, subst, sym, to_z-of_z}
-use Rattle.std.specs.Int.{w128}
+use Rattle.std.proofs.Common.{to_z-of_z}
 use Rattle.coeff_rings.specs.Checked.{IsFraction}
 use Rattle.coeff_rings.specs.Proved.FractionAnswers.{IsFraction-negation}
 use Rattle.coeff_rings.proofs.frac.FracRing.neg.Goals as goal

@@ -1,7 +1,6 @@
-use Rattle.std.proofs.Common.{ℕ, ◌<◌, to_z-of_z, ◌≡◌, ◌∙◌, ◌+ℤ◌, FitsSigned, refl, ap, sym, subst}
+use Rattle.std.proofs.Common.{ℕ, ◌<◌, to_z-of_z, ◌∙◌, ◌+ℤ◌, FitsSigned, ap, sym, subst}
 use Rattle.std.specs.Int.{w128}
 use Rattle.coeff_rings.specs.declared.frac.Common.{Common}
-use Rattle.coeff_rings.specs.Checked.{checked_ratio_sum, common_denominator}
 use Rattle.coeff_rings.specs.Proved.FractionAnswers.{sum_answers_fraction-from, sum-reached, sum-refused, CommonFits-from, common_positive}
 use Rattle.coeff_rings.proofs.frac.FracScalar.add.Goals as goal
 
