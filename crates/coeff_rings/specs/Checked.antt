@@ -58,17 +58,21 @@ four_numbers_fit a b total =
     fits_i128 (numerator_over_common a b) && fits_i128 (numerator_over_common b a)
     && fits_i128 total && fits_i128 (pos (common_denominator a b))
 
+-- the sum, refused where one of its four numbers does not fit i128
 abbrev pub checked_ratio_sum : Ratio → Ratio → Option Ratio
 checked_ratio_sum a b =
     where_fits (four_numbers_fit a b (numerator_over_common a b +ℤ numerator_over_common b a)) (ratio_sum a b)
 
+-- the difference, refused where one of its four numbers does not fit i128
 abbrev pub checked_ratio_difference : Ratio → Ratio → Option Ratio
 checked_ratio_difference a b =
     where_fits (four_numbers_fit a b (numerator_over_common a b -ℤ numerator_over_common b a)) (ratio_difference a b)
 
+-- the product, refused where the reduced fraction does not fit
 abbrev pub checked_ratio_product : Ratio → Ratio → Option Ratio
 checked_ratio_product a b = checked_fraction (ratio_product a b)
 
+-- the quotient, refused where the reduced fraction does not fit
 abbrev pub checked_ratio_quotient : Ratio → Ratio → Option Ratio
 checked_ratio_quotient a b = checked_fraction (ratio_quotient a b)
 

@@ -43,25 +43,31 @@ lowest_terms n d =
     let g = greatest_common_divisor (unsigned_abs n) d in
     record { num = int_div n (pos g); den = d / g }
 
+-- a/b + c/d = (ad + cb)/bd, in lowest terms
 abbrev pub ratio_sum : Ratio → Ratio → Ratio
 ratio_sum a b = lowest_terms (a.num *ℤ pos b.den +ℤ b.num *ℤ pos a.den) (a.den * b.den)
 
+-- a/b - c/d = (ad - cb)/bd, in lowest terms
 abbrev pub ratio_difference : Ratio → Ratio → Ratio
 ratio_difference a b = lowest_terms (a.num *ℤ pos b.den -ℤ b.num *ℤ pos a.den) (a.den * b.den)
 
+-- a/b times c/d = ac/bd, in lowest terms
 abbrev pub ratio_product : Ratio → Ratio → Ratio
 ratio_product a b = lowest_terms (a.num *ℤ b.num) (a.den * b.den)
 
+-- -(a/b) = (-a)/b
 abbrev pub ratio_negation : Ratio → Ratio
 ratio_negation a = record { num = neg_ℤ a.num; den = a.den }
 
--- one over a fraction that is not 0: the two numbers change places, and the sign stays above
+-- n/d turned over: the two numbers change places, and the sign stays above
 abbrev pub turned_over : ℤ → ℕ → Ratio
 turned_over (pos n) d = record { num = pos d; den = n }
 turned_over (negsuc n) d = record { num = neg_ℤ (pos d); den = suc n }
 
+-- one over a fraction that is not 0
 abbrev pub reciprocal : Ratio → Ratio
 reciprocal a = turned_over a.num a.den
 
+-- a quotient by what is not 0: the product with one over it
 abbrev pub ratio_quotient : Ratio → Ratio → Ratio
 ratio_quotient a b = ratio_product a (reciprocal b)
