@@ -14,3 +14,4 @@ pub mod Leading
 pub mod PlainTerm
 pub mod PlainLists
 pub mod PartitionList
+pub mod Negation
