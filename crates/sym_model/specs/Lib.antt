@@ -14,4 +14,3 @@ pub mod Leading
 pub mod PlainTerm
 pub mod PlainLists
 pub mod PartitionList
-pub mod Negation

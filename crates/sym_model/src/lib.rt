@@ -34,12 +34,3 @@ pub use printing::printed_block_law;
 pub use restriction::restriction_law;
 pub use ring_laws::poly_ring_law;
 pub use sum_laws::sum_law;
-//! Definitions and laws over plain lists and numbers.
-#![tactic(auto)]
-
-ghost use Rattle.sym_model.specs.Negation.{NegationsCancel};
-
-/// The negations of two factors cancel.
-pub fn negation_law()
-    ensures { NegationsCancel }
-{}
