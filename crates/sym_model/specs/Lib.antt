@@ -8,3 +8,11 @@ pub mod PrintedOrder
 pub mod Canonical
 pub mod PrintedBlock
 pub mod PowerSumCommand
+pub mod Orders
+pub mod Symmetric
+pub mod Alternant
+pub mod GoodTableau
+pub mod Strip
+pub mod RimHookReduction
+pub mod BetaList
+pub mod AlcoveReduction

@@ -10,9 +10,13 @@ mod printing;
 mod restriction;
 mod ring;
 mod sums;
+mod tableau_examples;
 
 pub use examples::worked_examples_law;
 pub use printing::printed_block_law;
 pub use restriction::restriction_law;
 pub use ring::poly_ring_law;
 pub use sums::sum_law;
+pub use tableau_examples::{
+    alternant_examples_law, reflection_examples_law, tableaux_examples_law,
+};
