@@ -8,15 +8,15 @@
 mod examples;
 mod printing;
 mod restriction;
-mod ring;
-mod sums;
+mod ring_laws;
+mod sum_laws;
 mod tableau_examples;
 
 pub use examples::worked_examples_law;
 pub use printing::printed_block_law;
 pub use restriction::restriction_law;
-pub use ring::poly_ring_law;
-pub use sums::sum_law;
+pub use ring_laws::poly_ring_law;
+pub use sum_laws::sum_law;
 pub use tableau_examples::{
     alternant_examples_law, reflection_examples_law, tableaux_examples_law,
 };

@@ -1,0 +1,4 @@
+pub mod Ring
+pub mod Sums
+pub mod Exponents
+pub mod Polynomials
