@@ -2,3 +2,4 @@ pub mod Ring
 pub mod Sums
 pub mod Exponents
 pub mod Polynomials
+pub mod PolynomialLaws
