@@ -3,4 +3,4 @@ pub mod OrderSums
 pub mod Alternants
 pub mod Symmetry
 pub mod AlternantProducts
-
+pub mod Staircase

@@ -3,3 +3,4 @@ pub mod Sums
 pub mod Exponents
 pub mod Polynomials
 pub mod PolynomialLaws
+pub mod LeadingTerms

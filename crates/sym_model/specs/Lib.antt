@@ -16,3 +16,4 @@ pub mod Strip
 pub mod RimHookReduction
 pub mod BetaList
 pub mod AlcoveReduction
+pub mod Leading

@@ -6,6 +6,7 @@
 #![tactic(auto)]
 
 mod examples;
+mod leading;
 mod printing;
 mod restriction;
 mod ring_laws;
@@ -13,6 +14,7 @@ mod sum_laws;
 mod tableau_examples;
 
 pub use examples::worked_examples_law;
+pub use leading::leading_cancel_law;
 pub use printing::printed_block_law;
 pub use restriction::restriction_law;
 pub use ring_laws::poly_ring_law;
