@@ -16,42 +16,42 @@ pub pair_alternant_times : (n : ℕ) (β : List ℕ) (f : Poly) (φ : List ℕ �
     → pair (times (alternant β) f) φ ≡ total (λ (w : List ℕ). sign w *ℤ pair f (λ α. φ (rearranged w (join β α)))) (orders (places n))
 pair_alternant_times n β f φ e i s =
     pair_times (alternant β) f φ
-      ∙ pair_orders n β (λ γ. pair f (λ α. φ (join γ α))) e
-      ∙ total_among
-        (λ (w : List ℕ). sign w *ℤ pair f (λ α. φ (join (rearranged w β) α)))
-        (λ (w : List ℕ). sign w *ℤ pair f (λ α. φ (rearranged w (join β α))))
-        (orders (places n))
-        (λ w m. ap (λ z. sign w *ℤ z) (
-          sym (pair_rearranged n f w (λ α. φ (join (rearranged w β) α)) i s m)
-            ∙ pair_ext f
-              (λ α. φ (join (rearranged w β) (rearranged w α)))
-              (λ α. φ (rearranged w (join β α)))
-              (λ α. ap φ (sym (rearranged-join w β α)))))
+    ∙ pair_orders n β (λ γ. pair f (λ α. φ (join γ α))) e
+    ∙ total_among
+    (λ (w : List ℕ). sign w *ℤ pair f (λ α. φ (join (rearranged w β) α)))
+    (λ (w : List ℕ). sign w *ℤ pair f (λ α. φ (rearranged w (join β α))))
+    (orders (places n))
+    (λ w m. ap (λ z. sign w *ℤ z) (
+    sym (pair_rearranged n f w (λ α. φ (join (rearranged w β) α)) i s m)
+    ∙ pair_ext f
+    (λ α. φ (join (rearranged w β) (rearranged w α)))
+    (λ α. φ (rearranged w (join β α)))
+    (λ α. ap φ (sym (rearranged-join w β α)))))
 
 pub pair_alternants_over : (n : ℕ) (β : List ℕ) (f : Poly) (φ : List ℕ → ℤ) → length β ≡ n → In n f
     → pair (alternants_over β f) φ ≡ pair f (λ α. pair (alternant (join β α)) φ)
 pair_alternants_over n β f φ e i =
     pair_each (λ (t : Term). scale t.1 (alternant (join β t.0))) f φ
-      ∙ total_among
-        (λ (t : Term). pair (scale t.1 (alternant (join β t.0))) φ)
-        (λ (t : Term). t.1 *ℤ pair (alternant (join β t.0)) φ)
-        f
-        (λ t m. pair_scale t.1 (alternant (join β t.0)) φ)
+    ∙ total_among
+    (λ (t : Term). pair (scale t.1 (alternant (join β t.0))) φ)
+    (λ (t : Term). t.1 *ℤ pair (alternant (join β t.0)) φ)
+    f
+    (λ t m. pair_scale t.1 (alternant (join β t.0)) φ)
 
 pub alternant_times : (n : ℕ) (β : List ℕ) (f : Poly) → length β ≡ n → In n f → Symmetric f → Same (times (alternant β) f) (alternants_over β f)
 alternant_times n β f e i s =
     same_from_pair (times (alternant β) f) (alternants_over β f) (λ φ.
-      pair_alternant_times n β f φ e i s
-        ∙ sym (
-          pair_alternants_over n β f φ e i
-            ∙ pair_in n f
-              (λ α. pair (alternant (join β α)) φ)
-              (λ α. total (λ (w : List ℕ). sign w *ℤ φ (rearranged w (join β α))) (orders (places n)))
-              i
-              (λ α d. pair_orders n (join β α) φ (length-join_same n β α e d))
-            ∙ pair_total f (λ (w : List ℕ) (α : List ℕ). sign w *ℤ φ (rearranged w (join β α))) (orders (places n))
-            ∙ total_among
-              (λ (w : List ℕ). pair f (λ α. sign w *ℤ φ (rearranged w (join β α))))
-              (λ (w : List ℕ). sign w *ℤ pair f (λ α. φ (rearranged w (join β α))))
-              (orders (places n))
-              (λ w m. pair_factor (sign w) f (λ α. φ (rearranged w (join β α))))))
+    pair_alternant_times n β f φ e i s
+    ∙ sym (
+    pair_alternants_over n β f φ e i
+    ∙ pair_in n f
+    (λ α. pair (alternant (join β α)) φ)
+    (λ α. total (λ (w : List ℕ). sign w *ℤ φ (rearranged w (join β α))) (orders (places n)))
+    i
+    (λ α d. pair_orders n (join β α) φ (length-join_same n β α e d))
+    ∙ pair_total f (λ (w : List ℕ) (α : List ℕ). sign w *ℤ φ (rearranged w (join β α))) (orders (places n))
+    ∙ total_among
+    (λ (w : List ℕ). pair f (λ α. sign w *ℤ φ (rearranged w (join β α))))
+    (λ (w : List ℕ). sign w *ℤ pair f (λ α. φ (rearranged w (join β α))))
+    (orders (places n))
+    (λ w m. pair_factor (sign w) f (λ α. φ (rearranged w (join β α))))))

@@ -17,10 +17,10 @@ alternant_exchange left middle right a b =
     let β = left ++ (a ∷ (middle ++ (b ∷ right))) in
     let γ = left ++ (b ∷ (middle ++ (a ∷ right))) in
     same_from_pair (alternant β) (negate (alternant γ)) (λ φ.
-      pair_alternant β φ
-        ∙ alternating_exchange left middle right a b φ
-        ∙ ap neg_ℤ (sym (pair_alternant γ φ))
-        ∙ sym (pair_negate (alternant γ) φ))
+    pair_alternant β φ
+    ∙ alternating_exchange left middle right a b φ
+    ∙ ap neg_ℤ (sym (pair_alternant γ φ))
+    ∙ sym (pair_negate (alternant γ) φ))
 
 opposite_is_zero : (x : ℤ) → x ≡ neg_ℤ x → x ≡ pos 0
 opposite_is_zero x e = omega (arith, ints)

@@ -45,7 +45,7 @@ pub alternating_map : (f : ℕ → ℕ) (xs : List ℕ) (φ : List ℕ → ℤ) 
 alternating_map f [] φ = refl
 alternating_map f (x ∷ xs) φ =
     alternating_map f xs (inserting (f x) φ)
-      ∙ alternating_ext xs (λ w. inserting (f x) φ (map f w)) (inserting x (λ w. φ (map f w))) (inserting_map f x φ)
+    ∙ alternating_ext xs (λ w. inserting (f x) φ (map f w)) (inserting x (λ w. φ (map f w))) (inserting_map f x φ)
 
 -- ---- exchanges
 
@@ -60,7 +60,7 @@ inserting_swap x y φ (z ∷ zs) =
 pub alternating_swap : (x y : ℕ) (zs : List ℕ) (φ : List ℕ → ℤ) → alternating (x ∷ y ∷ zs) φ ≡ neg_ℤ (alternating (y ∷ x ∷ zs) φ)
 alternating_swap x y zs φ =
     alternating_ext zs (inserting y (inserting x φ)) (λ l. neg_ℤ (inserting x (inserting y φ) l)) (inserting_swap x y φ)
-      ∙ alternating_neg zs (inserting x (inserting y φ))
+    ∙ alternating_neg zs (inserting x (inserting y φ))
 
 exchange_first : (middle right : List ℕ) (a b : ℕ) (φ : List ℕ → ℤ) → alternating (a ∷ (middle ++ (b ∷ right))) φ ≡ neg_ℤ (alternating (b ∷ (middle ++ (a ∷ right))) φ)
 exchange_first [] right a b φ = alternating_swap a b right φ

@@ -101,11 +101,11 @@ insertions_sum x (y ∷ v) φ h =
     let c = minus_one_to (smaller y v) in
     let whole : sign (y ∷ v) ≡ c *ℤ sign v = minus_one_to_add (smaller y v) (inversions v) in
     let rest : total (λ (w : List ℕ). sign w *ℤ φ w) (map (λ (w : List ℕ). y ∷ w) (insertions x v)) ≡ neg_ℤ (c *ℤ (sign v *ℤ inserting x (λ w. φ (y ∷ w)) v)) =
-      total_map (λ (w : List ℕ). sign w *ℤ φ w) (λ (w : List ℕ). y ∷ w) (insertions x v)
-        ∙ total_among (λ (w : List ℕ). sign (y ∷ w) *ℤ φ (y ∷ w)) (λ (w : List ℕ). neg_ℤ (c *ℤ (sign w *ℤ φ (y ∷ w)))) (insertions x v) (turned c refl)
-        ∙ total_neg (λ (w : List ℕ). c *ℤ (sign w *ℤ φ (y ∷ w))) (insertions x v)
-        ∙ ap neg_ℤ (total_scale c (λ (w : List ℕ). sign w *ℤ φ (y ∷ w)) (insertions x v))
-        ∙ ap (λ z. neg_ℤ (c *ℤ z)) (insertions_sum x v (λ w. φ (y ∷ w)) h.1) in
+    total_map (λ (w : List ℕ). sign w *ℤ φ w) (λ (w : List ℕ). y ∷ w) (insertions x v)
+    ∙ total_among (λ (w : List ℕ). sign (y ∷ w) *ℤ φ (y ∷ w)) (λ (w : List ℕ). neg_ℤ (c *ℤ (sign w *ℤ φ (y ∷ w)))) (insertions x v) (turned c refl)
+    ∙ total_neg (λ (w : List ℕ). c *ℤ (sign w *ℤ φ (y ∷ w))) (insertions x v)
+    ∙ ap neg_ℤ (total_scale c (λ (w : List ℕ). sign w *ℤ φ (y ∷ w)) (insertions x v))
+    ∙ ap (λ z. neg_ℤ (c *ℤ z)) (insertions_sum x v (λ w. φ (y ∷ w)) h.1) in
     let a : sign (x ∷ y ∷ v) *ℤ φ (x ∷ y ∷ v) ≡ sign (y ∷ v) *ℤ φ (x ∷ y ∷ v) = ap (λ z. z *ℤ φ (x ∷ y ∷ v)) first in
     let b : sign (y ∷ v) *ℤ inserting x (λ w. φ (y ∷ w)) v ≡ c *ℤ (sign v *ℤ inserting x (λ w. φ (y ∷ w)) v) = ap (λ z. z *ℤ inserting x (λ w. φ (y ∷ w)) v) whole ∙ product_assoc c (sign v) (inserting x (λ w. φ (y ∷ w)) v) in
     let d = distributes_left (sign (y ∷ v)) (φ (x ∷ y ∷ v)) (neg_ℤ (inserting x (λ w. φ (y ∷ w)) v)) in
@@ -116,19 +116,19 @@ insertions_sum x (y ∷ v) φ h =
     turned c e w m =
         let p : sign (y ∷ w) ≡ neg_ℤ (minus_one_to (smaller y v)) *ℤ sign w = ap (λ n. minus_one_to (n + inversions w)) (smaller_put x y v w h.0 m) ∙ minus_one_to_add (suc (smaller y v)) (inversions w) in
         ap (λ z. z *ℤ φ (y ∷ w)) (p ∙ ap (λ z. neg_ℤ z *ℤ sign w) (sym e))
-          ∙ product_assoc (neg_ℤ c) (sign w) (φ (y ∷ w))
-          ∙ negation-product c (sign w *ℤ φ (y ∷ w))
+        ∙ product_assoc (neg_ℤ c) (sign w) (φ (y ∷ w))
+        ∙ negation-product c (sign w *ℤ φ (y ∷ w))
 
 pub orders_sum : (xs : List ℕ) (φ : List ℕ → ℤ) → Rises xs → total (λ (w : List ℕ). sign w *ℤ φ w) (orders xs) ≡ alternating xs φ
 orders_sum [] φ h = omega (arith, ints)
 orders_sum (x ∷ xs) φ h =
     total_each (λ (w : List ℕ). sign w *ℤ φ w) (insertions x) (orders xs)
-      ∙ total_among
-        (λ (v : List ℕ). total (λ (w : List ℕ). sign w *ℤ φ w) (insertions x v))
-        (λ (v : List ℕ). sign v *ℤ inserting x φ v)
-        (orders xs)
-        (λ v m. insertions_sum x v φ (orders_above x xs v h.0 m))
-      ∙ orders_sum xs (inserting x φ) h.1
+    ∙ total_among
+    (λ (v : List ℕ). total (λ (w : List ℕ). sign w *ℤ φ w) (insertions x v))
+    (λ (v : List ℕ). sign v *ℤ inserting x φ v)
+    (orders xs)
+    (λ v m. insertions_sum x v φ (orders_above x xs v h.0 m))
+    ∙ orders_sum xs (inserting x φ) h.1
 
 -- ---- rearranged lists
 
@@ -159,11 +159,11 @@ pub pair_orders : (n : ℕ) (β : List ℕ) (φ : List ℕ → ℤ) → length �
     → pair (alternant β) φ ≡ total (λ (w : List ℕ). sign w *ℤ φ (rearranged w β)) (orders (places n))
 pair_orders n β φ e =
     total_map (λ (t : Term). t.1 *ℤ φ t.0) (λ (w : List ℕ). (rearranged w β, sign w)) (orders (places (length β)))
-      ∙ ap (λ k. total (λ (w : List ℕ). sign w *ℤ φ (rearranged w β)) (orders (places k))) e
+    ∙ ap (λ k. total (λ (w : List ℕ). sign w *ℤ φ (rearranged w β)) (orders (places k))) e
 
 pub pair_alternant : (β : List ℕ) (φ : List ℕ → ℤ) → pair (alternant β) φ ≡ alternating β φ
 pair_alternant β φ =
     pair_orders (length β) β φ refl
-      ∙ orders_sum (places (length β)) (λ w. φ (rearranged w β)) (after_rises 0 (length β))
-      ∙ sym (alternating_map (part β) (places (length β)) φ)
-      ∙ ap (λ γ. alternating γ φ) (rearranged_places (length β) β refl)
+    ∙ orders_sum (places (length β)) (λ w. φ (rearranged w β)) (after_rises 0 (length β))
+    ∙ sym (alternating_map (part β) (places (length β)) φ)
+    ∙ ap (λ γ. alternating γ φ) (rearranged_places (length β) β refl)

@@ -59,14 +59,14 @@ pub alternating_staircase : (n : ℕ) (φ : List ℕ → ℤ) → VanishesBelow 
 alternating_staircase zero φ v = refl
 alternating_staircase (suc n) φ v =
     alternating_below n (staircase n) (inserting n φ) (λ l. φ (n ∷ l)) (staircase_below n) (inserting_greatest n φ v)
-      ∙ alternating_staircase n (λ l. φ (n ∷ l)) (λ l h. v (n ∷ l) (inr (refl, h)))
+    ∙ alternating_staircase n (λ l. φ (n ∷ l)) (λ l h. v (n ∷ l) (inr (refl, h)))
 
 -- at ρ and above it the coefficients of a_ρ are those of x^ρ
 coefficient_staircase : (n : ℕ) (α : List ℕ) → (Above (staircase n) α → ⊥) → coefficient (alternant (staircase n)) α ≡ at_only α (staircase n)
 coefficient_staircase n α h =
     coefficient_pair (alternant (staircase n)) α
-      ∙ pair_alternant (staircase n) (at_only α)
-      ∙ alternating_staircase n (at_only α) (λ l a. ap (λ b. cond b (pos 1) (pos 0)) (same_apart l α (λ e. h (subst (Above (staircase n)) e a))))
+    ∙ pair_alternant (staircase n) (at_only α)
+    ∙ alternating_staircase n (at_only α) (λ l a. ap (λ b. cond b (pos 1) (pos 0)) (same_apart l α (λ e. h (subst (Above (staircase n)) e a))))
 
 pub coefficient_at_staircase : (n : ℕ) → coefficient (alternant (staircase n)) (staircase n) ≡ pos 1
 coefficient_at_staircase n =
@@ -76,7 +76,7 @@ pub staircase_leads : (n : ℕ) → Leads (alternant (staircase n)) (staircase n
 staircase_leads n = record {
   unit_at_top = inl (coefficient_at_staircase n);
   none_above = λ α h.
-    coefficient_staircase n α (λ k. Above_irrefl α (Above_trans α (staircase n) α h k))
+      coefficient_staircase n α (λ k. Above_irrefl α (Above_trans α (staircase n) α h k))
       ∙ ap (λ b. cond b (pos 1) (pos 0)) (same_apart (staircase n) α (λ e. Above_irrefl α (subst (Above α) e h)));
 }
 

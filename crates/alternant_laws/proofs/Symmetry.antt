@@ -63,14 +63,14 @@ pub pair_exchanged : (k : ℕ) (f : Poly) (φ : List ℕ → ℤ) → Symmetric 
 pair_exchanged k f φ s =
     let swap = λ (t : Term). let u : Term = (exchanged k t.0, t.1) in u in
     sym (total_map (λ (t : Term). t.1 *ℤ φ t.0) swap f)
-      ∙ pair_determined (map swap f) f φ (λ β.
-        total_map (λ (t : Term). cond (same t.0 β) t.1 (pos 0)) swap f
-          ∙ total_ext
-            (λ (t : Term). cond (same (exchanged k t.0) β) t.1 (pos 0))
-            (λ (t : Term). cond (same t.0 (exchanged k β)) t.1 (pos 0))
-            (λ t. ap (λ b. cond b t.1 (pos 0)) (same_exchanged k t.0 β))
-            f
-          ∙ symmetric_after f s [] k β)
+    ∙ pair_determined (map swap f) f φ (λ β.
+    total_map (λ (t : Term). cond (same t.0 β) t.1 (pos 0)) swap f
+    ∙ total_ext
+    (λ (t : Term). cond (same (exchanged k t.0) β) t.1 (pos 0))
+    (λ (t : Term). cond (same t.0 (exchanged k β)) t.1 (pos 0))
+    (λ t. ap (λ b. cond b t.1 (pos 0)) (same_exchanged k t.0 β))
+    f
+    ∙ symmetric_after f s [] k β)
 
 map-exchanged : (g : ℕ → ℕ) (l : List ℕ) (a b : ℕ) (r : List ℕ) → map g (l ++ (b ∷ a ∷ r)) ≡ exchanged (length l) (map g (l ++ (a ∷ b ∷ r)))
 map-exchanged g [] a b r = refl
@@ -83,15 +83,15 @@ ChangesNothing f w = (φ : List ℕ → ℤ) → pair f (λ α. φ (rearranged w
 changes_nothing_kept : (f : Poly) → Symmetric f → KeptByExchanges (ChangesNothing f)
 changes_nothing_kept f s l a b r h φ =
     pair_ext f
-      (λ α. φ (rearranged (l ++ (b ∷ a ∷ r)) α))
-      (λ α. φ (exchanged (length l) (rearranged (l ++ (a ∷ b ∷ r)) α)))
-      (λ α. ap φ (map-exchanged (part α) l a b r))
-      ∙ h (λ α. φ (exchanged (length l) α))
-      ∙ pair_exchanged (length l) f φ s
+    (λ α. φ (rearranged (l ++ (b ∷ a ∷ r)) α))
+    (λ α. φ (exchanged (length l) (rearranged (l ++ (a ∷ b ∷ r)) α)))
+    (λ α. ap φ (map-exchanged (part α) l a b r))
+    ∙ h (λ α. φ (exchanged (length l) α))
+    ∙ pair_exchanged (length l) f φ s
 
 pub pair_rearranged : (n : ℕ) (f : Poly) (w : List ℕ) (φ : List ℕ → ℤ) → In n f → Symmetric f → Among w (orders (places n))
     → pair f (λ α. φ (rearranged w α)) ≡ pair f φ
 pair_rearranged n f w φ i s m =
     orders_reach (ChangesNothing f) (changes_nothing_kept f s) (places n) w
-      (λ ψ. pair_in n f (λ α. ψ (rearranged (places n) α)) ψ i (λ α e. ap ψ (rearranged_places n α e)))
-      m φ
+    (λ ψ. pair_in n f (λ α. ψ (rearranged (places n) α)) ψ i (λ α e. ap ψ (rearranged_places n α e)))
+    m φ
