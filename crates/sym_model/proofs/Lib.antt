@@ -4,3 +4,5 @@ pub mod Exponents
 pub mod Polynomials
 pub mod PolynomialLaws
 pub mod LeadingTerms
+pub mod Strips
+pub mod RimHooks
