@@ -6,3 +6,4 @@ pub mod PolynomialLaws
 pub mod LeadingTerms
 pub mod Strips
 pub mod RimHooks
+pub mod ClosedShapes

@@ -17,3 +17,4 @@ pub mod RimHookReduction
 pub mod BetaList
 pub mod AlcoveReduction
 pub mod Leading
+pub mod HookRows

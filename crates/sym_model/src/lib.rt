@@ -10,6 +10,7 @@ mod leading;
 mod printing;
 mod restriction;
 mod ring_laws;
+mod strip_laws;
 mod sum_laws;
 mod tableau_examples;
 
@@ -18,6 +19,7 @@ pub use leading::leading_cancel_law;
 pub use printing::printed_block_law;
 pub use restriction::restriction_law;
 pub use ring_laws::poly_ring_law;
+pub use strip_laws::{removal_examples_law, strip_examples_law, strip_law};
 pub use sum_laws::sum_law;
 pub use tableau_examples::{
     alternant_examples_law, reflection_examples_law, tableaux_examples_law,
