@@ -2,7 +2,7 @@
 use Rattle.std.proofs.Common.{◌≡◌, ℕ, ◌+◌, List, [], ◌∷◌, length, sym, ◌∙◌, ap, refl, ℤ, pos, ◌*ℤ◌}
 use Rattle.sym_model.specs.Sum.{total, Among}
 use Rattle.sym_model.specs.Polynomial.{Poly, Term, Same, In, join, scale, times, pair}
-use Rattle.sym_model.specs.Orders.{orders, places, sign}
+use Rattle.sym_model.specs.PlaceOrders.{orders, places, sign}
 use Rattle.sym_model.specs.Symmetric.{Symmetric}
 use Rattle.sym_model.specs.Alternant.{rearranged, alternant, alternants_over}
 use Rattle.sym_model.proofs.Sums.{total_among}

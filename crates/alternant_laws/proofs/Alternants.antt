@@ -5,7 +5,7 @@ use Rattle.std.proofs.lemmas.List.{length-map}
 use Rattle.sym_model.specs.Sum.{Among}
 use Rattle.sym_model.specs.Partition.{part, after}
 use Rattle.sym_model.specs.Polynomial.{Poly, Term, Same, In, nothing, negate, pair}
-use Rattle.sym_model.specs.Orders.{orders, places, sign}
+use Rattle.sym_model.specs.PlaceOrders.{orders, places, sign}
 use Rattle.sym_model.specs.Alternant.{rearranged, alternant}
 use Rattle.sym_model.proofs.Polynomials.{same_from_pair, pair_negate, In_map}
 use Rattle.alternant_laws.proofs.Alternating.{alternating, alternating_exchange}

@@ -8,7 +8,7 @@ use Rattle.std.proofs.lemmas.Bool.Decides.{nat_tests}
 use Rattle.sym_model.specs.Sum.{total, each, Among}
 use Rattle.sym_model.specs.Polynomial.{Poly, Term, pair, join}
 use Rattle.sym_model.specs.Partition.{part, after}
-use Rattle.sym_model.specs.Orders.{insertions, orders, places, smaller, inversions, minus_one_to, sign}
+use Rattle.sym_model.specs.PlaceOrders.{insertions, orders, places, smaller, inversions, minus_one_to, sign}
 use Rattle.sym_model.specs.Alternant.{rearranged, alternant}
 use Rattle.sym_model.proofs.Ring.{product_assoc, one-product, product-one, negation-product, distributes_left, product-negation}
 use Rattle.sym_model.proofs.Sums.{total_ext, total_among, total_map, total_each, total_scale, total_neg, Among_from_map, Among_from_each}

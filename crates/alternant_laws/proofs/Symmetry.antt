@@ -3,7 +3,7 @@ use Rattle.std.proofs.Common.{◌≡◌, ℕ, zero, suc, ◌+◌, Bool, true, fa
 use Rattle.sym_model.specs.Sum.{total, Among}
 use Rattle.sym_model.specs.Polynomial.{Poly, Term, Same, In, same, coefficient, pair}
 use Rattle.sym_model.specs.Partition.{part}
-use Rattle.sym_model.specs.Orders.{orders, places}
+use Rattle.sym_model.specs.PlaceOrders.{orders, places}
 use Rattle.sym_model.specs.Symmetric.{Symmetric}
 use Rattle.sym_model.specs.Alternant.{rearranged}
 use Rattle.sym_model.proofs.Sums.{total_ext, total_map}

@@ -3,7 +3,7 @@ use Rattle.std.specs.Prelude.{ℕ, zero, suc, ℤ, List, [], ◌∷◌, map, len
 use Rattle.sym_model.specs.Sum.{each}
 use Rattle.sym_model.specs.Polynomial.{Poly, Term, coefficient, join, scale, times}
 use Rattle.sym_model.specs.Partition.{part}
-use Rattle.sym_model.specs.Orders.{orders, places, sign}
+use Rattle.sym_model.specs.PlaceOrders.{orders, places, sign}
 
 -- w(β): entry w_1 of β, then entry w_2, and so on
 abbrev pub rearranged : List ℕ → List ℕ → List ℕ

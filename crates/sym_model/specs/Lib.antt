@@ -8,7 +8,7 @@ pub mod PrintedOrder
 pub mod Canonical
 pub mod PrintedBlock
 pub mod PowerSumCommand
-pub mod Orders
+pub mod PlaceOrders
 pub mod Symmetric
 pub mod Alternant
 pub mod GoodTableau
@@ -18,3 +18,7 @@ pub mod BetaList
 pub mod AlcoveReduction
 pub mod Leading
 pub mod HookRows
+pub mod WholeTerms
+pub mod PowerSumProduct
+pub mod PlainTerm
+pub mod PartitionList

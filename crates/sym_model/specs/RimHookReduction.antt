@@ -2,7 +2,7 @@
 -- Ciocan-Fontanine and Fulton: quantum multiplication of Schur polynomials).
 use Rattle.std.specs.Prelude.{◌≡◌, ℕ, zero, suc, ◌+◌, ◌-◌, ◌<◌, ◌≤◌, ℤ, pos, ◌*ℤ◌, List, [], ◌∷◌, Option, Some, None}
 use Rattle.sym_model.specs.Partition.{IsPartition, size, columns}
-use Rattle.sym_model.specs.Orders.{minus_one_to}
+use Rattle.sym_model.specs.PlaceOrders.{minus_one_to}
 use Rattle.sym_model.specs.Strip.{IsRimHook, height}
 
 -- removing a rim hook of n cells from the partition shape leaves the partition left

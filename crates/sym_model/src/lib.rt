@@ -7,6 +7,9 @@
 
 mod examples;
 mod leading;
+mod plain_blocks;
+mod partition_lists;
+mod plain_order;
 mod printing;
 mod restriction;
 mod ring_laws;
@@ -14,8 +17,11 @@ mod strip_laws;
 mod sum_laws;
 mod tableau_examples;
 
-pub use examples::worked_examples_law;
 pub use leading::leading_cancel_law;
+pub use examples::{block_examples_law, order_examples_law, worked_examples_law};
+pub use plain_blocks::{PlainTerm, plain_block};
+pub use partition_lists::partitions_of_law;
+pub use plain_order::{plain_falling_lexicographic, plain_printed_order, plain_size};
 pub use printing::printed_block_law;
 pub use restriction::restriction_law;
 pub use ring_laws::poly_ring_law;

@@ -5,7 +5,7 @@ ghost use Rattle.std.specs.Prelude.{◌≡◌, pos, negsuc, [], ◌∷◌, lengt
 ghost use Rattle.sym_model.specs.Polynomial.{coefficient};
 ghost use Rattle.sym_model.specs.Bases.{complete};
 ghost use Rattle.sym_model.specs.Schur.{tableaux, skew_schur, schur};
-ghost use Rattle.sym_model.specs.Orders.{orders, places, inversions, sign};
+ghost use Rattle.sym_model.specs.PlaceOrders.{orders, places, inversions, sign};
 ghost use Rattle.sym_model.specs.Alternant.{rearranged, alternant, staircase, schur_coefficient, alternants_over};
 ghost use Rattle.sym_model.specs.GoodTableau.{column_reading, good_readings, product_count, lattice_readings, skew_count};
 ghost use Rattle.sym_model.specs.BetaList.{beta, from_beta, sorting_sign};

@@ -22,6 +22,7 @@ returns-clause-example c = leads_first (1 ∷ 0 ∷ []) (pos 1) (last ∷ []) (i
   where
     last : Term
     last = (0 ∷ 1 ∷ [], neg_ℤ (pos 1))
+
     below : (t : Term) → Among t (last ∷ []) → Above (1 ∷ 0 ∷ []) t.0
     below t (inl e) = subst (λ (s : Term). Above (1 ∷ 0 ∷ []) s.0) (sym e) (inl (omega arith))
     below t (inr m) = absurd m
