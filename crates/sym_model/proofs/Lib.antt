@@ -18,3 +18,4 @@ pub mod Orders
 pub mod CanonicalLists
 pub mod PlainTexts
 pub mod PartitionLists
+pub mod Reflections
