@@ -1,0 +1,23 @@
+-- Lists that loops build up.
+use Rattle.std.proofs.Common.{◌≡◌, ℕ, zero, suc, ◌+◌, List, [], ◌∷◌, ◌++◌, map, sym, ◌∙◌, ap, refl, arith, append_assoc, append-nil, add-one}
+use Rattle.sym_model.specs.Sum.{each}
+use Rattle.sym_model.specs.Partition.{after}
+
+pub each-append : {A B : Type 0} (f : A → List B) (xs ys : List A) → each f (xs ++ ys) ≡ each f xs ++ each f ys
+each-append f [] ys = refl
+each-append f (x ∷ xs) ys = ap (λ z. f x ++ z) (each-append f xs ys) ∙ sym (append_assoc (f x) (each f xs) (each f ys))
+
+pub each-one : {A B : Type 0} (f : A → List B) (x : A) → each f (x ∷ []) ≡ f x
+each-one f x = append-nil (f x)
+
+-- one number more
+pub after-more : (a k : ℕ) → after a (k + 1) ≡ after a k ++ ((a + k + 1) ∷ [])
+after-more a zero = rw (add-one 0) (ap (λ n. n ∷ []) (omega arith))
+after-more a (suc k) =
+    let e : a + 1 + k + 1 ≡ a + suc k + 1 = omega arith in
+    rw (add-one (suc k)) (ap (λ l. (a + 1) ∷ l) (ap (after (a + 1)) (sym (add-one k)) ∙ after-more (a + 1) k ∙ ap (λ n. after (a + 1) k ++ (n ∷ [])) e))
+
+pub each_after-more : {B : Type 0} (f : ℕ → List B) (k : ℕ) → each f (after 0 (k + 1)) ≡ each f (after 0 k) ++ f (k + 1)
+each_after-more f k =
+    let e : 0 + k + 1 ≡ k + 1 = omega arith in
+    ap (each f) (after-more 0 k) ∙ each-append f (after 0 k) ((0 + k + 1) ∷ []) ∙ ap (λ z. each f (after 0 k) ++ z) (each-one f (0 + k + 1) ∙ ap f e)
