@@ -2,6 +2,9 @@
 //! definition as its contract. They are slow, and serve tests and readers.
 #![tactic(auto)]
 
+mod numbers;
+mod semistandard;
 mod words;
 
+pub use semistandard::{plain_contains, plain_semistandard};
 pub use words::plain_words;
