@@ -1,5 +1,6 @@
 -- Lists that loops build up.
-use Rattle.std.proofs.Common.{◌≡◌, ℕ, zero, suc, ◌+◌, List, [], ◌∷◌, ◌++◌, map, sym, ◌∙◌, ap, refl, arith, append_assoc, append-nil, add-one}
+use Rattle.std.proofs.Common.{◌≡◌, ℕ, zero, suc, ◌+◌, List, [], ◌∷◌, ◌++◌, map, take, length, get_or, ◌<◌, sym, ◌∙◌, ap, refl, arith, append_assoc, append-nil, add-one}
+use Rattle.std.proofs.lemmas.List.{take_more, map-append}
 use Rattle.sym_model.specs.Sum.{each}
 use Rattle.sym_model.specs.Partition.{after}
 
@@ -21,3 +22,12 @@ pub each_after-more : {B : Type 0} (f : ℕ → List B) (k : ℕ) → each f (af
 each_after-more f k =
     let e : 0 + k + 1 ≡ k + 1 = omega arith in
     ap (each f) (after-more 0 k) ∙ each-append f (after 0 k) ((0 + k + 1) ∷ []) ∙ ap (λ z. each f (after 0 k) ++ z) (each-one f (0 + k + 1) ∙ ap f e)
+
+-- one element more of a list that is read through g
+pub each_take-more : {A B C : Type 0} (f : B → List C) (g : A → B) (xs : List A) (i : ℕ) (x : A) → i < length xs → x ≡ get_or xs i x
+    → each f (map g (take (i + 1) xs)) ≡ each f (map g (take i xs)) ++ f (g x)
+each_take-more f g xs i x h e =
+    ap (λ l. each f (map g l)) (take_more xs i x h ∙ ap (λ y. take i xs ++ (y ∷ [])) (sym e))
+      ∙ ap (each f) (map-append g (take i xs) (x ∷ []))
+      ∙ each-append f (map g (take i xs)) (g x ∷ [])
+      ∙ ap (λ l. each f (map g (take i xs)) ++ l) (each-one f (g x))
