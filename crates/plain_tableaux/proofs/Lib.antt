@@ -1,1 +1,3 @@
 pub mod WordLists
+pub mod Goodness
+pub mod Cells

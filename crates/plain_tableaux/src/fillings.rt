@@ -115,7 +115,11 @@ fn with_first_row(
 }
 
 // A copy of each row, put at the end.
-fn push_rows(alloc: Global, list: &mut Vec<Vec<u64>>, rows: &[Vec<u64>]) -> Result<(), AllocError>
+pub(crate) fn push_rows(
+    alloc: Global,
+    list: &mut Vec<Vec<u64>>,
+    rows: &[Vec<u64>],
+) -> Result<(), AllocError>
     ensures { OnOk result (words_of list.new.items ≡ words_of list.old.items ++ words_of rows.now) }
 {
     for row in rows {

@@ -3,10 +3,14 @@
 #![tactic(auto)]
 
 mod fillings;
+mod good;
 mod numbers;
+mod readings;
 mod semistandard;
 mod words;
 
 pub use fillings::{plain_fillings, plain_tableaux};
+pub use good::{plain_good_readings, plain_good_tableaux, plain_is_good};
+pub use readings::{plain_column_reading, plain_reading_right_of};
 pub use semistandard::{plain_contains, plain_semistandard};
 pub use words::plain_words;
