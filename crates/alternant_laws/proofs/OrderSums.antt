@@ -10,6 +10,7 @@ use Rattle.sym_model.specs.Polynomial.{Poly, Term, pair, join}
 use Rattle.sym_model.specs.Partition.{part, after}
 use Rattle.sym_model.specs.PlaceOrders.{insertions, orders, places, smaller, inversions, minus_one_to, sign}
 use Rattle.sym_model.specs.Alternant.{rearranged, alternant}
+use Rattle.sym_model.proofs.Signs.{minus_one_to_add}
 use Rattle.sym_model.proofs.Ring.{product_assoc, one-product, product-one, negation-product, distributes_left, product-negation}
 use Rattle.sym_model.proofs.Sums.{total_ext, total_among, total_map, total_each, total_scale, total_neg, Among_from_map, Among_from_each}
 use Rattle.alternant_laws.proofs.Alternating.{inserting, alternating, inserting_ext, alternating_ext, alternating_map}
@@ -70,12 +71,6 @@ after_rises a zero = tt
 after_rises a (suc k) = (after_above (a + 1) (a + 1) k (omega arith), after_rises (a + 1) k)
 
 -- ---- signs
-
-pub minus_one_to_add : (a b : ℕ) → minus_one_to (a + b) ≡ minus_one_to a *ℤ minus_one_to b
-minus_one_to_add zero b = let e : 0 + b ≡ b = omega arith in ap minus_one_to e ∙ sym (one-product (minus_one_to b))
-minus_one_to_add (suc a) b =
-    let e : suc a + b ≡ suc (a + b) = omega arith in
-    ap minus_one_to e ∙ ap neg_ℤ (minus_one_to_add a b) ∙ sym (negation-product (minus_one_to a) (minus_one_to b))
 
 smaller_above : (x : ℕ) (v : List ℕ) → AreAbove x v → smaller x v ≡ 0
 smaller_above x [] h = refl

@@ -1,3 +1,5 @@
 pub mod WordLists
 pub mod Goodness
 pub mod Cells
+pub mod Sorting
+pub mod Reflecting

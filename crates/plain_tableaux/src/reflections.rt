@@ -7,7 +7,7 @@ ghost use Rattle.plain_tableaux.specs.Signed.{signed_of};
 
 use std::alloc::{AllocError, Global};
 
-use crate::beta_lists::{has_equal, is_sorting_odd, plain_beta, plain_from_beta, sorted};
+use crate::beta_lists::{has_equal, is_one_odd, is_sorting_odd, plain_beta, plain_from_beta, sorted};
 use crate::numbers::number_at;
 
 /// A list of numbers with a sign.
@@ -56,7 +56,8 @@ pub fn plain_reflect(alloc: Global, n: u64, list: &[u64]) -> Result<Option<Signe
     let Some(end) = plain_reflect(alloc, n, &falling)? else {
         return Ok(None);
     };
-    Ok(Some(Signed { numbers: end.numbers, is_negative: turns != end.is_negative }))
+    let is_negative = is_one_odd(turns, end.is_negative);
+    Ok(Some(Signed { numbers: end.numbers, is_negative }))
 }
 
 // How far the first entry is above the last.

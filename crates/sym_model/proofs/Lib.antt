@@ -19,3 +19,4 @@ pub mod CanonicalLists
 pub mod PlainTexts
 pub mod PartitionLists
 pub mod Reflections
+pub mod Signs
