@@ -18,3 +18,6 @@ pub use readings::{plain_column_reading, plain_reading_right_of};
 pub use reflections::{Signed, plain_alcove, plain_reflect};
 pub use semistandard::{plain_contains, plain_semistandard};
 pub use words::plain_words;
+
+#[cfg(test)]
+mod tests;
