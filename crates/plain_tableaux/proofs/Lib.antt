@@ -3,3 +3,4 @@ pub mod Goodness
 pub mod Cells
 pub mod Sorting
 pub mod Reflecting
+pub mod Removing

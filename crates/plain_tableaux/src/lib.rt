@@ -8,6 +8,7 @@ mod good;
 mod numbers;
 mod readings;
 mod reflections;
+mod removals;
 mod semistandard;
 mod words;
 
@@ -16,6 +17,7 @@ pub use fillings::{plain_fillings, plain_tableaux};
 pub use good::{plain_good_readings, plain_good_tableaux, plain_is_good};
 pub use readings::{plain_column_reading, plain_reading_right_of};
 pub use reflections::{Signed, plain_alcove, plain_reflect};
+pub use removals::{Core, Removal, plain_core, plain_removal};
 pub use semistandard::{plain_contains, plain_semistandard};
 pub use words::plain_words;
 

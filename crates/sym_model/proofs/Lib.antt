@@ -20,3 +20,4 @@ pub mod PlainTexts
 pub mod PartitionLists
 pub mod Reflections
 pub mod Signs
+pub mod HookSizes

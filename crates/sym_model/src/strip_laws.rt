@@ -1,7 +1,7 @@
 //! Strips and rim hooks of partitions by their rows, and worked examples of both.
 
 ghost use Rattle.std.specs.Prelude.{◌≡◌, ℕ, ◌+◌, ◌-◌, ◌≤◌, ◌↔◌, pos, negsuc, List, [], ◌∷◌, Some, None};
-ghost use Rattle.sym_model.specs.Partition.{Falls, Holds, part};
+ghost use Rattle.sym_model.specs.Partition.{Falls, Holds, part, size};
 ghost use Rattle.sym_model.specs.Strip.{IsHorizontalStrip, IsVerticalStrip, IsRimHook, height};
 ghost use Rattle.sym_model.specs.HookRows.{IsHookRows};
 ghost use Rattle.sym_model.specs.RimHookReduction.{IsRemoval, HasNoRemoval, GoesTo, ReducesTo};
@@ -9,7 +9,8 @@ ghost use Rattle.sym_model.specs.RimHookReduction.{IsRemoval, HasNoRemoval, Goes
 /// The conditions on cells as conditions on parts. A skew shape of falling lists is a horizontal
 /// strip where no part of the outer list is greater than the inner part of the row above, a vertical
 /// strip where each part is at most 1 greater than the inner one, and a rim hook where it lies in
-/// the rows first, .., last, chained together; its height is then the number of these rows.
+/// the rows first, .., last, chained together. Its height is then the number of these rows, and the
+/// number of its cells the height plus what the first outer part exceeds the last inner part, less 1.
 pub fn strip_law()
     ensures horizontal {
         (outer inner : List ℕ) → Falls outer → Falls inner → Holds outer inner
@@ -28,6 +29,10 @@ pub fn strip_law()
     ensures height {
         (outer inner : List ℕ) (first last : ℕ) → Falls outer → IsHookRows outer inner first last
             → height outer inner ≡ last + 1 - first
+    }
+    ensures cells {
+        (outer inner : List ℕ) (first last : ℕ) → IsHookRows outer inner first last
+            → size outer + part inner last ≡ size inner + part outer first + (last - first)
     }
 {
 }

@@ -1,5 +1,6 @@
 use Rattle.sym_model.proofs.Strips.{horizontal_from_rows, horizontal_rows, vertical_from_rows, vertical_rows}
 use Rattle.sym_model.proofs.RimHooks.{hook_from_rows, hook_rows, height_of_rows}
+use Rattle.sym_model.proofs.HookSizes.{hook_size}
 use Rattle.sym_model.proofs.strip_laws.strip_law.Goals as goal
 
 pub returns-clause-horizontal : goal.returns-clause-horizontal
@@ -13,3 +14,6 @@ returns-clause-rim_hook c outer inner f g = (hook_rows outer inner f g, λ r. ho
 
 pub returns-clause-height : goal.returns-clause-height
 returns-clause-height c = height_of_rows
+
+pub returns-clause-cells : goal.returns-clause-cells
+returns-clause-cells c = hook_size
