@@ -12,6 +12,9 @@ pub mod TermWeights
 pub mod PolynomialLaws
 pub mod LeadingTerms
 pub mod Restrictions
+pub mod Strips
+pub mod RimHooks
+pub mod ClosedShapes
 pub mod Decimals
 pub mod Blocks
 pub mod Orders
@@ -20,3 +23,6 @@ pub mod PlainTexts
 pub mod PlainExponents
 pub mod PlainDegrees
 pub mod PartitionLists
+pub mod Reflections
+pub mod Signs
+pub mod HookSizes

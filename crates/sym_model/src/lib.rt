@@ -14,11 +14,14 @@ mod plain_lists;
 mod plain_order;
 mod power_sums;
 mod printing;
+mod reflection_laws;
 mod restriction;
 mod ring_laws;
+mod strip_laws;
 mod sum_laws;
 #[cfg(test)]
 mod tests;
+mod tableau_examples;
 
 pub use examples::{
     block_examples_law, order_examples_law, outcome_examples_law, worked_examples_law,
@@ -31,6 +34,11 @@ pub use plain_lists::{plain_exponent_lists, plain_join, plain_sorted_parts};
 pub use plain_order::{plain_falling_lexicographic, plain_printed_order, plain_size};
 pub use power_sums::power_sum_product_law;
 pub use printing::printed_block_law;
+pub use reflection_laws::reflection_law;
 pub use restriction::restriction_law;
 pub use ring_laws::poly_ring_law;
+pub use strip_laws::{removal_examples_law, strip_examples_law, strip_law};
 pub use sum_laws::sum_law;
+pub use tableau_examples::{
+    alternant_examples_law, reflection_examples_law, tableaux_examples_law,
+};

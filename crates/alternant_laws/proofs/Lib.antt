@@ -1,0 +1,6 @@
+pub mod Alternating
+pub mod OrderSums
+pub mod Alternants
+pub mod Symmetry
+pub mod AlternantProducts
+pub mod Staircase

@@ -1,0 +1,8 @@
+use Rattle.alternant_laws.proofs.Alternants.{alternant_exchange, alternant_equal}
+use Rattle.alternant_laws.proofs.alternant_law.Goals as goal
+
+pub returns-clause-exchange : goal.returns-clause-exchange
+returns-clause-exchange c = alternant_exchange
+
+pub returns-clause-equal : goal.returns-clause-equal
+returns-clause-equal c = alternant_equal

@@ -1,0 +1,6 @@
+pub mod WordLists
+pub mod Goodness
+pub mod Cells
+pub mod Sorting
+pub mod Reflecting
+pub mod Removing

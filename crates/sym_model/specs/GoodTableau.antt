@@ -1,0 +1,75 @@
+-- Column readings, good tableaux and their counts (Stembridge, A concise proof of the Littlewood–Richardson rule).
+use Rattle.std.specs.Prelude.{ℕ, ◌+◌, ◌-◌, nat_le, nat_lt, Bool, true, false, ◌&&◌, ◌||◌, cond, List, [], ◌∷◌, ◌++◌, map, length, reverse, take, drop}
+use Rattle.sym_model.specs.Sum.{each, select}
+use Rattle.sym_model.specs.Polynomial.{same, join}
+use Rattle.sym_model.specs.Partition.{part, rows, columns, after, cells, without_last_zeros}
+use Rattle.sym_model.specs.Schur.{words, content, tableaux}
+
+-- the letter in column j of a row with the inner part c; nothing where that is no cell
+abbrev pub letter_in : ℕ → List ℕ → ℕ → List ℕ
+letter_in c row j = cond (nat_lt c j) (take 1 (drop (j - (c + 1)) row)) []
+
+-- column j of a filling of a shape with that inner partition, from top to bottom
+abbrev pub column : List ℕ → List (List ℕ) → ℕ → List ℕ
+column inner [] j = []
+column inner (row ∷ rest) j = letter_in (part inner 1) row j ++ column (drop 1 inner) rest j
+
+-- the columns right of column j, from the rightmost to the left, each from top to bottom
+abbrev pub reading_right_of : ℕ → List ℕ → List ℕ → List (List ℕ) → List ℕ
+reading_right_of j outer inner filling =
+    each (column inner filling) (reverse (after j (columns outer - j)))
+
+-- the column reading of a filling: all columns from the rightmost to the leftmost, each from top to bottom
+abbrev pub column_reading : List ℕ → List ℕ → List (List ℕ) → List ℕ
+column_reading outer inner filling = reading_right_of 0 outer inner filling
+
+-- whether no number is greater than the one before it, as of a partition with zeros at its end
+abbrev pub is_falling : List ℕ → Bool
+is_falling [] = true
+is_falling (a ∷ []) = true
+is_falling (a ∷ b ∷ numbers) = nat_le b a && is_falling (b ∷ numbers)
+
+-- whether each element passes the test
+abbrev pub every : {A : Type 0} → (A → Bool) → List A → Bool
+every test [] = true
+every test (x ∷ xs) = test x && every test xs
+
+-- whether the list is among the lists
+abbrev pub is_among : List ℕ → List (List ℕ) → Bool
+is_among w [] = false
+is_among w (v ∷ vs) = same w v || is_among w vs
+
+-- whether a filling with entries from 1 to k is good for start, a partition with at most k rows: start plus the
+-- content of the columns right of column j is a partition for every j from 0, which takes all columns, to the last
+abbrev pub is_good : ℕ → List ℕ → List ℕ → List ℕ → List (List ℕ) → Bool
+is_good k start outer inner filling =
+    every (λ j. is_falling (join start (content k (reading_right_of j outer inner filling))))
+    (0 ∷ after 0 (columns outer))
+
+-- the good tableaux of outer/inner with entries from 1 to k; none where start has more than k rows
+abbrev pub good_tableaux : ℕ → List ℕ → List ℕ → List ℕ → List (List (List ℕ))
+good_tableaux k start outer inner =
+    cond (nat_le (rows start) k) (select (is_good k start outer inner) (tableaux k outer inner)) []
+
+-- their list, in rising lexicographic order: the words with letters from 1 to k that are the column reading of a
+-- good tableau
+abbrev pub good_readings : ℕ → List ℕ → List ℕ → List ℕ → List (List ℕ)
+good_readings k start outer inner =
+    let readings = map (column_reading outer inner) (good_tableaux k start outer inner) in
+    select (λ w. is_among w readings) (words k (length (cells outer inner)))
+
+-- how many good tableaux T of the shape μ with start λ and entries from 1 to k have λ plus the content of T equal
+-- to ν: the count of products
+abbrev pub product_count : ℕ → List ℕ → List ℕ → List ℕ → ℕ
+product_count k λ' μ ν =
+    length (select (λ w. same (without_last_zeros (join λ' (content k w))) ν) (good_readings k λ' μ []))
+
+-- the lattice tableaux of outer/inner: the good ones with an empty start and as many entries as outer has rows
+abbrev pub lattice_readings : List ℕ → List ℕ → List (List ℕ)
+lattice_readings outer inner = good_readings (rows outer) [] outer inner
+
+-- how many lattice tableaux of outer/inner have the content κ: the count of skews
+abbrev pub skew_count : List ℕ → List ℕ → List ℕ → ℕ
+skew_count outer inner κ =
+    length
+    (select (λ w. same (without_last_zeros (content (rows outer) w)) κ) (lattice_readings outer inner))
