@@ -1,3 +1,4 @@
+<<<<<<< HEAD
 pub mod Sum
 pub mod Polynomial
 pub mod Partition
@@ -13,3 +14,6 @@ pub mod PowerSumProduct
 pub mod Leading
 pub mod PlainTerm
 pub mod PartitionList
+=======
+pub mod Negation
+>>>>>>> fd35f2c59bf467698c5c93ede011ff176188c642

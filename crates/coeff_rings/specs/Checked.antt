@@ -1,0 +1,60 @@
+-- What the types of scalars hold, and the answers of their checked operations: a value where it fits.
+use Rattle.std.specs.Prelude.{◌≡◌, ℕ, ◌+◌, ◌*◌, ◌/◌, ◌^◌, ◌<◌, Bool, ◌&&◌, ℤ, pos, negsuc, ◌+ℤ◌, ◌-ℤ◌, ◌*ℤ◌, nat_lt, FitsSigned, Option, Some, None, if◌then◌else◌}
+use Rattle.std.specs.Int.{w128}
+use Rattle.coeff_rings.specs.Ratio.{Ratio, InLowestTerms, greatest_common_divisor, ratio_sum, ratio_difference, ratio_negation}
+
+-- z lies from -2^127 to 2^127 - 1
+abbrev pub fits_i128 : ℤ → Bool
+fits_i128 (pos n) = nat_lt n (2 ^ 127)
+fits_i128 (negsuc n) = nat_lt n (2 ^ 127)
+
+-- a value where a test of it holds, and None otherwise
+abbrev pub where_fits : {A : Type 0} → Bool → A → Option A
+where_fits fits x = if fits then Some x else None
+
+-- a whole number where it fits i128
+abbrev pub checked_i128 : ℤ → Option ℤ
+checked_i128 z = where_fits (fits_i128 z) z
+
+-- a natural number where it fits u128
+abbrev pub checked_u128 : ℕ → Option ℕ
+checked_u128 n = where_fits (nat_lt n (2 ^ 128)) n
+
+-- ---- fractions of i128
+
+-- what `Frac` holds: a numerator of i128 over a denominator below 2^127, in lowest terms
+pub record IsFraction (r : Ratio) : Type 0 where
+  pub fits : FitsSigned w128 r.num
+  pub small : r.den < 2 ^ 127
+  pub lowest : InLowestTerms r
+
+-- both numbers of a fraction fit i128
+abbrev pub fits_fraction : Ratio → Bool
+fits_fraction r = fits_i128 r.num && nat_lt r.den (2 ^ 127)
+
+-- a fraction where its numbers fit i128
+abbrev pub checked_fraction : Ratio → Option Ratio
+checked_fraction r = where_fits (fits_fraction r) r
+
+-- the numerator of a over the least common denominator of a and b
+abbrev pub numerator_over_common : Ratio → Ratio → ℤ
+numerator_over_common a b = a.num *ℤ pos (b.den / greatest_common_divisor a.den b.den)
+
+-- the least common denominator of a and b
+abbrev pub common_denominator : Ratio → Ratio → ℕ
+common_denominator a b = a.den * (b.den / greatest_common_divisor a.den b.den)
+
+-- whether the four numbers fit i128: both numerators over the least common denominator, what they
+-- come to, and that denominator
+abbrev pub four_numbers_fit : Ratio → Ratio → ℤ → Bool
+four_numbers_fit a b total =
+    fits_i128 (numerator_over_common a b) && fits_i128 (numerator_over_common b a)
+    && fits_i128 total && nat_lt (common_denominator a b) (2 ^ 127)
+
+abbrev pub checked_ratio_sum : Ratio → Ratio → Option Ratio
+checked_ratio_sum a b =
+    where_fits (four_numbers_fit a b (numerator_over_common a b +ℤ numerator_over_common b a)) (ratio_sum a b)
+
+abbrev pub checked_ratio_difference : Ratio → Ratio → Option Ratio
+checked_ratio_difference a b =
+    where_fits (four_numbers_fit a b (numerator_over_common a b -ℤ numerator_over_common b a)) (ratio_difference a b)

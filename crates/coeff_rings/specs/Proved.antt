@@ -1,0 +1,5 @@
+-- Proofs of the laws that the impls cite. No contract speaks of what stands here alone.
+pub mod Divisors
+pub mod Fractions
+pub mod FractionLaws
+pub mod Whole
