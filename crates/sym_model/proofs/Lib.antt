@@ -1,5 +1,4 @@
 pub mod Ring
-<<<<<<< HEAD
 pub mod Sums
 pub mod Exponents
 pub mod Polynomials
@@ -16,5 +15,3 @@ pub mod Orders
 pub mod CanonicalLists
 pub mod PlainTexts
 pub mod PartitionLists
-=======
->>>>>>> fd35f2c59bf467698c5c93ede011ff176188c642

@@ -1,4 +1,3 @@
-<<<<<<< HEAD
 pub mod Sum
 pub mod Polynomial
 pub mod Partition
@@ -14,6 +13,3 @@ pub mod PowerSumProduct
 pub mod Leading
 pub mod PlainTerm
 pub mod PartitionList
-=======
-pub mod Negation
->>>>>>> fd35f2c59bf467698c5c93ede011ff176188c642
