@@ -66,3 +66,33 @@ module _ {L R : Type 0} {eq : L → L → Bool} (laws : IsEquivalence eq) (same 
       by : (b : Bool) → InLowestTerms (coefficient eq terms k) → InLowestTerms (ratio (unwrap_or (cond b (Some t.1) (lookup (eq k) terms)) (pos 0, 1)))
       by true rest = lowest-is_reduced t.1 (and_parts _ _ parts.0).0
       by false rest = rest
+
+  -- ---- one pair more, or one less
+
+  module _ (old new : List (L × R)) (k : L) where
+    -- with the pair put in, the list is a combination
+    pub IsCombination-put : (v : R) → IsCombination eq is_label (terms_of value old) → is_term is_label value k v ≡ true → IsDistinct eq (keys_of new) → ((q : L) → lookup (eq q) new ≡ cond (eq k q) (Some v) (lookup (eq q) old)) → IsCombination eq is_label (terms_of value new)
+    IsCombination-put v was passes distinct finds = IsCombination-found new distinct (λ q w found. by q w (eq k q) refl (sym (finds q) ∙ found))
+      where
+        by : (q : L) (w : R) (b : Bool) → eq k q ≡ b → cond b (Some v) (lookup (eq q) old) ≡ Some w → is_term is_label value q w ≡ true
+        by q w true p e =
+            let here : v ≡ w = cc in
+            ap (λ x. is_reduced (fraction (value w)) && is_label x) (sym (same k q p)) ∙ ap (λ x. is_reduced (fraction (value x)) && is_label k) (sym here) ∙ passes
+        by q w false p e = is_term-found old was.proper q w e
+
+    -- with the label taken out, it is one
+    pub IsCombination-taken : IsCombination eq is_label (terms_of value old) → IsDistinct eq (keys_of new) → ((q : L) → lookup (eq q) new ≡ cond (eq k q) None (lookup (eq q) old)) → IsCombination eq is_label (terms_of value new)
+    IsCombination-taken was distinct finds = IsCombination-found new distinct (λ q w found. by q w (eq k q) (sym (finds q) ∙ found))
+      where
+        by : (q : L) (w : R) (b : Bool) → cond b None (lookup (eq q) old) ≡ Some w → is_term is_label value q w ≡ true
+        by q w true e = cc
+        by q w false e = is_term-found old was.proper q w e
+
+    -- where what a look-up finds at k stands for the sum, the new list has so much more at k
+    pub HasMoreAt-found : (o : Option R) (c : Ratio) → value_at value o ≡ ratio_sum (coefficient eq (terms_of value old) k) c → ((q : L) → lookup (eq q) new ≡ cond (eq k q) o (lookup (eq q) old)) → HasMoreAt eq (terms_of value old) k c (terms_of value new)
+    HasMoreAt-found o c sum finds q =
+        coefficient-terms_of eq value new q ∙ ap (value_at value) (finds q) ∙ by (eq k q)
+      where
+        by : (b : Bool) → value_at value (cond b o (lookup (eq q) old)) ≡ (if b then ratio_sum (coefficient eq (terms_of value old) k) c else coefficient eq (terms_of value old) q)
+        by true = sum
+        by false = sym (coefficient-terms_of eq value old q)
