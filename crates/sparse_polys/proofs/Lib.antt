@@ -1,2 +1,3 @@
 pub mod Coefficients
 pub mod Tables
+pub mod Steps

@@ -1,6 +1,7 @@
 //! Finite linear combinations of labels.
 ghost use Rattle.std.specs.Prelude.{◌≡◌, ◌↔◌, [], length, IsTrue, IfOk, OnOk, OnErr, IsErrOf};
-ghost use Rattle.std.specs.List.Sorted.{IsPermutation};
+ghost use Rattle.std.specs.Prelude.{IsSorted};
+ghost use Rattle.indexmap.specs.IndexMap.{IsReordered, IsUnique};
 ghost use Rattle.sparse_polys.specs.Combination.{coefficient, HasMoreAt, HasSameCoefficients, IsCanonicalList, IsCombination, IsMultipleOf, IsSumOf};
 ghost use Rattle.sparse_polys.specs.Refusal.{IsRefused, RefusesSomeProduct, RefusesSomeSum};
 
@@ -9,7 +10,7 @@ use crate::terms::Terms;
 use calc_base::{NoMemory, SumFault};
 use coeff_rings::{Ring, Scalar};
 use indexmap::IndexMap;
-use std::alloc::Global;
+use std::alloc::{AllocError, Global};
 use std::marker::Model;
 
 /// A finite map from labels to coefficients that are not 0. A contract sees it as a list of terms in no stated order:
@@ -74,6 +75,7 @@ impl<L: Label, R: Scalar> Lin<L, R> {
         ensures large { IsErrOf result SumFault.Large
             ↔ IsRefused R.is_held R.value R.checked_sum (coefficient L.eq self.old label) (R.value c) }
         ensures err { OnErr result (self.new ≡ self.old) }
+        ensures was { IsCombination L.eq L.is_label self.old }
         ensures combination { IsCombination L.eq L.is_label self.new }
     {
         label.lies_in_limits();
@@ -112,6 +114,7 @@ impl<L: Label, R: Scalar> Lin<L, R> {
             → RefusesSomeSum L.eq R.is_held R.value R.checked_sum self other.now }
         ensures fits { OnOk result (¬ RefusesSomeSum L.eq R.is_held R.value R.checked_sum self other.now) }
     {
+        self.is_combination();
         for (label, c) in &other.table {
             self.add_term(label.copy()?, *c)?;
         }
@@ -131,6 +134,7 @@ impl<L: Label, R: Scalar> Lin<L, R> {
             → RefusesSomeProduct R.is_held R.value R.checked_product self (R.value c) }
         ensures fits { OnOk result (¬ RefusesSomeProduct R.is_held R.value R.checked_product self (R.value c)) }
     {
+        is_scalar(c);
         let Lin { table } = self;
         let mut scaled = Lin::new(*table.allocator());
         for (label, a) in table {
@@ -145,10 +149,39 @@ impl<L: Label, R: Scalar> Lin<L, R> {
         ensures same { IfOk result (HasSameCoefficients L.eq self) }
         ensures canonical { IfOk result (IsCanonicalList L.order L.is_label) }
     {
-        let Lin { table } = self;
+        let Lin { mut table } = self;
         let alloc = *table.allocator();
-        let mut pairs: Vec<(L, R)> = table.into_iter().collect(alloc)?;
-        pairs.sort_unstable_by(|a, b| a.0.cmp_printed(&b.0));
-        Ok(Terms::from_sorted(pairs))
+        sort_labels(&mut table)?;
+        Ok(Terms::from_sorted(pairs_of(alloc, table)?))
     }
+
+    // Does nothing when it runs: it tells a proof what the map is.
+    fn is_combination(&self)
+        ensures { IsCombination L.eq L.is_label self.now }
+    {
+        let _ = self.table.len();
+    }
+}
+
+// Does nothing when it runs: it tells a proof what is true of every scalar.
+fn is_scalar<R: Scalar>(c: R)
+    ensures { R.is_held c }
+{
+    let _ = c.is_zero();
+}
+
+// Sorts the pairs by the printed order of their labels.
+fn sort_labels<L: Label, R: Scalar>(table: &mut IndexMap<L, R>) -> Result<(), AllocError>
+    ensures reordered { IsReordered L.eq table.old table.new }
+    ensures unique { IsUnique L.eq table.new }
+    ensures sorted { OnOk result (IsSorted (λ a b. L.order a.0 b.0) table.new.entries) }
+{
+    table.sort_unstable_by(|a, _, b, _| a.cmp_printed(b))
+}
+
+// The pairs in the order of the table.
+fn pairs_of<L: Label, R: Scalar>(alloc: Global, table: IndexMap<L, R>) -> Result<Vec<(L, R)>, AllocError>
+    ensures { IfOk result (λ pairs. pairs.items ≡ table.entries) }
+{
+    table.into_iter().collect(alloc)
 }
