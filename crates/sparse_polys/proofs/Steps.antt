@@ -1,5 +1,5 @@
 -- Loops over the pairs of a table: what one more pair changes.
-use Rattle.std.proofs.Common.{◌≡◌, ◌≢◌, ℕ, Bool, true, false, ◌&&◌, cond, List, [], ◌∷◌, ◌++◌, pos, refl, sym, ap, ◌∙◌, subst, inl, inr, if◌then◌else◌}
+use Rattle.std.proofs.Common.{◌≡◌, ◌≢◌, ℕ, Bool, true, false, ◌&&◌, cond, List, [], ◌∷◌, ◌++◌, pos, refl, sym, ap, ◌∙◌, subst, inl, inr, append-nil, if◌then◌else◌}
 use Rattle.std.specs.Prelude.{Option, Some, None, Result, Ok, Err, IsErrAnd, IsErrOf}
 use Rattle.std.specs.Cmp.{IsEquivalence}
 use Rattle.std.specs.List.{IsDistinct}
@@ -123,3 +123,36 @@ module _ {R : Type 0} {is_held : R → Type 0} {value : R → Ratio} {checked : 
 pub error_is : {T E : Type 0} (r : Result T E) (e l : E) → IsErrAnd r (λ y. y ≡ e) → IsErrOf r l → e ≡ l
 error_is (Ok x) e l h k = cc
 error_is (Err y) e l h k = cc
+
+pub IsCombination-empty : {L : Type 0} (eq : L → L → Bool) (is_label : L → Bool) → IsCombination eq is_label []
+unfolding IsDistinct
+IsCombination-empty eq is_label = record { distinct = tt; proper = refl }
+
+-- ---- products of coefficients
+
+module _ {R : Type 0} {is_held : R → Type 0} {value : R → Ratio} {checked : R → R → Option R} (same_value : (a b : R) → value a ≡ value b → a ≡ b) where
+  -- where the operation has an answer, it is not refused
+  answered : (a b s : R) → checked a b ≡ Some s → IsRefused is_held value checked (value a) (value b) → ⊥
+  answered a b s e r =
+      let left : r.left ≡ a = same_value r.left a r.left_value in
+      let right : r.right ≡ b = same_value r.right b r.right_value in
+      let none = r.refused in
+      cc
+
+  -- where the next product has an answer, no product so far is refused
+  pub products-next : {L : Type 0} (done : List (L × R)) (k : L) (a c s : R) → checked a c ≡ Some s → ((t : L × Fraction) → Among t (terms_of value done) → IsRefused is_held value checked (ratio t.1) (value c) → ⊥) → (t : L × Fraction) → Among t (terms_of value (done ++ (k, a) ∷ [])) → IsRefused is_held value checked (ratio t.1) (value c) → ⊥
+  products-next {L} [] k a c s e before t (inl here) r =
+      answered a c s e (subst (λ (u : L × Fraction). IsRefused is_held value checked (ratio u.1) (value c)) here r)
+  products-next [] k a c s e before t (inr none) r = absurd none
+  products-next (x ∷ done) k a c s e before t (inl here) r = before t (inl here) r
+  products-next (x ∷ done) k a c s e before t (inr m) r =
+      products-next done k a c s e (λ u n. before u (inr n)) t m r
+
+-- the next pair stands among the terms
+pub among-next : {L R : Type 0} (value : R → Ratio) (done : List (L × R)) (k : L) (a : R) (rest : List (L × R)) → Among (k, fraction (value a)) (terms_of value (done ++ (k, a) ∷ rest))
+among-next value [] k a rest = inl refl
+among-next value (x ∷ done) k a rest = inr (among-next value done k a rest)
+
+-- where nothing is left, all is done
+pub all_done : {A : Type 0} (done rest all entries : List A) → rest ≡ [] → done ++ rest ≡ all → all ≡ entries → done ≡ entries
+all_done done rest all entries none so_far is = sym (append-nil done) ∙ ap (λ es. done ++ es) (sym none) ∙ so_far ∙ is

@@ -1,11 +1,11 @@
-use Rattle.std.proofs.Common.{◌≡◌, List, [], ◌∷◌, ◌++◌, sym, ap, ◌∙◌, subst, append_assoc, append-nil}
+use Rattle.std.proofs.Common.{◌≡◌, List, [], ◌∷◌, ◌++◌, sym, ap, ◌∙◌, subst, append_assoc}
 use Rattle.std.specs.Prelude.{None}
 use Rattle.std.specs.List.{IsDistinct}
 use Rattle.std.specs.Map.{lookup, keys_of}
 use Rattle.indexmap.proofs.CallerLemmas.{insert_entry-new}
 use Rattle.indexmap.specs.IndexMap.{insert_entry}
 use Rattle.sparse_polys.specs.Combination.{IsCombination, terms_of, coefficient}
-use Rattle.sparse_polys.proofs.Steps.{absent_before}
+use Rattle.sparse_polys.proofs.Steps.{absent_before, all_done}
 use Rattle.sparse_polys.proofs.lin.Lin.copy.Goals as goal
 
 pub loop-label-preserved : goal.loop-label-preserved
@@ -26,12 +26,9 @@ loop-label-preserved g c =
     ∙ insert_entry-new eq c.loop-label.table k v none in
     ap (λ es. es ++ rest) here ∙ append_assoc done ((k, v) ∷ []) rest ∙ so_far
 
-all_copied : {A : Type 0} (done rest all entries : List A) → rest ≡ [] → done ++ rest ≡ all → all ≡ entries → done ≡ entries
-all_copied done rest all entries none so_far is = sym (append-nil done) ∙ ap (λ es. done ++ es) (sym none) ∙ so_far ∙ is
-
 copied : (g : goal.Over) (c : goal.In-None g) → c.loop-label.table.entries ≡ c.self.inside.table.entries
 copied g c =
-    all_copied c.loop-label.table.entries c.loop-label.label-iterator _ _ c.in-None.ensures.steps.0 c.loop-label.invariant c.into_iter-label-iterator.ensures.into_iter_gives.0
+    all_done c.loop-label.table.entries c.loop-label.label-iterator _ _ c.in-None.ensures.steps.0 c.loop-label.invariant c.into_iter-label-iterator.ensures.into_iter_gives.0
 
 pub invariant_of-result : goal.invariant_of-result
 invariant_of-result g c =
