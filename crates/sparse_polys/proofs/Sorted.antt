@@ -26,12 +26,12 @@ module _ {L R : Type 0} {eq : L → L → Bool} {order : L → L → Ordering} {
       by Greater e h = ap is_lt (total.antisymm x y ∙ ap ordering_reverse e)
 
   pub is_ordered-sorted : (es : List (L × R)) → IsDistinct eq (keys_of es) → are_terms is_label (terms_of value es) ≡ true
-      → ((k : ℕ) (d : L × R) → k + 1 < length es → is_lt (order (get_or es (k + 1) d).0 (get_or es k d).0) ≡ false) → is_ordered order (terms_of value es) ≡ true
+      → ((i j : ℕ) (d : L × R) → j ≡ i + 1 → j < length es → is_lt (order (get_or es j d).0 (get_or es i d).0) ≡ false) → is_ordered order (terms_of value es) ≡ true
   is_ordered-sorted [] distinct proper sorted = refl
   is_ordered-sorted (x ∷ []) distinct proper sorted = refl
   is_ordered-sorted (x ∷ y ∷ es) distinct proper sorted =
       let p = and_parts _ _ proper in
       let q = and_parts _ _ p.1 in
       and_from (is_lt (order x.0 y.0)) _
-      (stands_before x.0 y.0 (and_parts _ _ p.0).1 (and_parts _ _ q.0).1 (apart_from_distinct eq (keys_of (x ∷ y ∷ es)) 0 1 x.0 distinct (omega arith) (omega arith)) (sorted 0 x (omega arith)))
-      (is_ordered-sorted (y ∷ es) (IsDistinct-tail eq x.0 (keys_of (y ∷ es)) distinct) p.1 (λ k d h. sorted (suc k) d (omega arith)))
+      (stands_before x.0 y.0 (and_parts _ _ p.0).1 (and_parts _ _ q.0).1 (apart_from_distinct eq (keys_of (x ∷ y ∷ es)) 0 1 x.0 distinct (omega arith) (omega arith)) (sorted 0 1 x refl (omega arith)))
+      (is_ordered-sorted (y ∷ es) (IsDistinct-tail eq x.0 (keys_of (y ∷ es)) distinct) p.1 (λ i j d e h. sorted (suc i) (suc j) d (omega arith) (omega arith)))
