@@ -6,6 +6,7 @@ use Rattle.indexmap.proofs.CallerLemmas.{insert_entry-new}
 use Rattle.indexmap.specs.IndexMap.{insert_entry}
 use Rattle.sparse_polys.specs.Combination.{IsCombination, terms_of, coefficient}
 use Rattle.sparse_polys.proofs.Steps.{absent_before, all_done}
+use Rattle.sparse_polys.proofs.lin.Lin.copy.Given.{Over}
 use Rattle.sparse_polys.proofs.lin.Lin.copy.Goals as goal
 
 pub loop-label-preserved : goal.loop-label-preserved
@@ -26,7 +27,7 @@ loop-label-preserved g c =
     ∙ insert_entry-new eq c.loop-label.table k v none in
     ap (λ es. es ++ rest) here ∙ append_assoc done ((k, v) ∷ []) rest ∙ so_far
 
-copied : (g : goal.Over) (c : goal.In-None g) → c.loop-label.table.entries ≡ c.self.inside.table.entries
+copied : (g : Over) (c : goal.In-None g) → c.loop-label.table.entries ≡ c.self.inside.table.entries
 copied g c =
     all_done c.loop-label.table.entries c.loop-label.label-iterator _ _ c.in-None.ensures.steps.0 c.loop-label.invariant c.into_iter-label-iterator.ensures.into_iter_gives.0
 
