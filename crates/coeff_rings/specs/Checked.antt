@@ -1,7 +1,8 @@
 -- What the types of scalars hold, and the answers of their checked operations: a value where it fits.
-use Rattle.std.specs.Prelude.{◌≡◌, ℕ, ◌+◌, ◌*◌, ◌/◌, ◌^◌, ◌<◌, Bool, ◌&&◌, ℤ, pos, negsuc, ◌+ℤ◌, ◌-ℤ◌, ◌*ℤ◌, nat_lt, FitsSigned, Option, Some, None, if◌then◌else◌}
+use Rattle.std.specs.Prelude.{ℕ, ◌*◌, ◌/◌, ◌^◌, ◌<◌, Bool, ◌&&◌, ℤ, pos, negsuc, ◌+ℤ◌, ◌-ℤ◌, ◌*ℤ◌, neg_ℤ, nat_lt, FitsSigned, Option, Some, None, if◌then◌else◌}
 use Rattle.std.specs.Int.{w128}
-use Rattle.coeff_rings.specs.Ratio.{Ratio, InLowestTerms, greatest_common_divisor, ratio_sum, ratio_difference, ratio_negation}
+use Rattle.std.specs.Ordering.{int_eq}
+use Rattle.coeff_rings.specs.Ratio.{Ratio, whole, InLowestTerms, greatest_common_divisor, ratio_sum, ratio_difference, ratio_product, ratio_negation, ratio_quotient}
 
 -- z lies from -2^127 to 2^127 - 1
 abbrev pub fits_i128 : ℤ → Bool
@@ -44,12 +45,18 @@ numerator_over_common a b = a.num *ℤ pos (b.den / greatest_common_divisor a.de
 abbrev pub common_denominator : Ratio → Ratio → ℕ
 common_denominator a b = a.den * (b.den / greatest_common_divisor a.den b.den)
 
+-- both numerators over the least common denominator fit i128, and so does that denominator
+pub record CommonFits (a b : Ratio) : Type 0 where
+  pub left : FitsSigned w128 (numerator_over_common a b)
+  pub right : FitsSigned w128 (numerator_over_common b a)
+  pub den : common_denominator a b < 2 ^ 127
+
 -- whether the four numbers fit i128: both numerators over the least common denominator, what they
 -- come to, and that denominator
 abbrev pub four_numbers_fit : Ratio → Ratio → ℤ → Bool
 four_numbers_fit a b total =
     fits_i128 (numerator_over_common a b) && fits_i128 (numerator_over_common b a)
-    && fits_i128 total && nat_lt (common_denominator a b) (2 ^ 127)
+    && fits_i128 total && fits_i128 (pos (common_denominator a b))
 
 abbrev pub checked_ratio_sum : Ratio → Ratio → Option Ratio
 checked_ratio_sum a b =
@@ -58,3 +65,17 @@ checked_ratio_sum a b =
 abbrev pub checked_ratio_difference : Ratio → Ratio → Option Ratio
 checked_ratio_difference a b =
     where_fits (four_numbers_fit a b (numerator_over_common a b -ℤ numerator_over_common b a)) (ratio_difference a b)
+
+abbrev pub checked_ratio_product : Ratio → Ratio → Option Ratio
+checked_ratio_product a b = checked_fraction (ratio_product a b)
+
+abbrev pub checked_ratio_quotient : Ratio → Ratio → Option Ratio
+checked_ratio_quotient a b = checked_fraction (ratio_quotient a b)
+
+-- the negation, refused at the numerator -2^127 alone
+abbrev pub checked_ratio_negation : Ratio → Option Ratio
+checked_ratio_negation a = if int_eq a.num (neg_ℤ (pos (2 ^ 127))) then None else Some (ratio_negation a)
+
+-- the fraction num/den, refused where den is 0 or the reduced fraction does not fit
+abbrev pub checked_ratio_of : ℤ → ℤ → Option Ratio
+checked_ratio_of num den = if int_eq den (pos 0) then None else checked_ratio_quotient (whole num) (whole den)

@@ -5,3 +5,4 @@ pub mod Answers
 pub mod Checked
 pub mod Text
 pub mod Proved
+pub mod Signs

@@ -1,5 +1,5 @@
 -- Fractions of whole numbers, the values of scalars, and their arithmetic (school arithmetic).
-use Rattle.std.specs.Prelude.{◌≡◌, ℕ, zero, suc, ◌*◌, ◌/◌, ◌%◌, ◌<◌, Bool, ◌&&◌, ℤ, pos, negsuc, neg_ℤ, ◌+ℤ◌, ◌-ℤ◌, ◌*ℤ◌, unsigned_abs, int_div, nat_eq, if◌then◌else◌}
+use Rattle.std.specs.Prelude.{ℕ, zero, suc, ◌*◌, ◌/◌, ◌%◌, ◌<◌, Bool, ◌&&◌, ℤ, pos, negsuc, neg_ℤ, ◌+ℤ◌, ◌-ℤ◌, ◌*ℤ◌, unsigned_abs, int_div, nat_eq, if◌then◌else◌}
 use Rattle.std.specs.Int.{IsGcd}
 
 -- a fraction: a whole numerator over a denominator
@@ -14,6 +14,10 @@ whole z = record { num = z; den = 1 }
 -- a natural number as a fraction
 abbrev pub whole_count : ℕ → Ratio
 whole_count n = whole (pos n)
+
+-- a fraction times d, a multiple of its denominator: the whole number with the fraction cleared
+abbrev pub scaled : ℕ → Ratio → ℤ
+scaled d r = r.num *ℤ pos (d / r.den)
 
 -- the denominator is positive, and nothing but 1 divides both numbers
 pub record InLowestTerms (r : Ratio) : Type 0 where

@@ -1,9 +1,9 @@
 //! Natural numbers of 128 bits.
-ghost use Rattle.std.specs.Prelude.{◌≡◌, ℕ, ◌+◌, ◌*◌, ◌^◌, ◌<◌, pos};
+ghost use Rattle.std.specs.Prelude.{refl, ◌≡◌, ℕ, ◌+◌, ◌*◌, ◌^◌, ◌<◌, pos};
 ghost use Rattle.coeff_rings.specs.Ratio.{whole_count};
 ghost use Rattle.coeff_rings.specs.Checked.{checked_u128};
 ghost use Rattle.coeff_rings.specs.Proved.Fractions.{InLowestTerms-whole};
-ghost use Rattle.coeff_rings.specs.Proved.Whole.{same_count, checked_u128-held, sum_answers_u128, sum_laws_u128};
+ghost use Rattle.coeff_rings.specs.Proved.Whole.{zero_fits_u128, one_fits_u128, same_count, checked_u128-held, sum_answers_u128, sum_laws_u128};
 
 use crate::digits::Digits;
 use crate::scalar::Scalar;
@@ -50,6 +50,10 @@ impl Count {
 impl Scalar for Count {
     ghost value = { whole_count };
 
+    ghost zero = { 0 };
+
+    ghost one = { 1 };
+
     ghost is_held = { λ n. n < 2 ^ 128 };
 
     ghost checked_sum = { λ a b. checked_u128 (a + b) };
@@ -74,6 +78,10 @@ impl Scalar for Count {
         out.clear();
         out.put_unsigned(self.number);
     }
+
+    ghost zero_value = { (refl, zero_fits_u128) };
+
+    ghost one_value = { (refl, one_fits_u128) };
 
     ghost same_value = { same_count };
 

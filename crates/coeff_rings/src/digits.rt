@@ -9,6 +9,7 @@ use std::marker::Model;
 const CAPACITY: usize = 80;
 
 /// A buffer of 80 bytes with a length. A contract sees the bytes that it holds.
+#[derive(Drop)]
 pub struct Digits {
     bytes: [u8; CAPACITY],
     len: usize,

@@ -4,10 +4,17 @@
 
 mod count;
 mod digits;
+mod frac;
 mod int;
+mod laws;
 mod scalar;
 
 pub use count::Count;
 pub use digits::Digits;
+pub use frac::Frac;
 pub use int::Int;
+pub use laws::{field_law, fraction_examples, lowest_terms_law};
 pub use scalar::{Field, Ring, Scalar};
+
+#[cfg(test)]
+mod tests;

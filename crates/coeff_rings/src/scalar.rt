@@ -17,6 +17,11 @@ pub trait Scalar: Copy {
     // The fraction that a scalar stands for.
     ghost value: { Self → Ratio };
 
+    // The scalars 0 and 1.
+    ghost zero: { Self };
+
+    ghost one: { Self };
+
     // What is true of every scalar of the type.
     ghost is_held: { Self → Type 0 };
 
@@ -25,11 +30,13 @@ pub trait Scalar: Copy {
 
     /// The scalar 0.
     fn zero() -> Self
+        ensures zero { result ≡ zero }
         ensures value { value result ≡ whole (pos 0) }
         ensures held { is_held result };
 
     /// The scalar 1.
     fn one() -> Self
+        ensures one { result ≡ one }
         ensures value { value result ≡ whole (pos 1) }
         ensures held { is_held result };
 
@@ -52,6 +59,10 @@ pub trait Scalar: Copy {
     fn digits(&self, out: &mut Digits)
         ensures text { out.new ≡ decimal_text (value self.now) }
         ensures held { is_held self.now };
+
+    ghost zero_value: { (value zero ≡ whole (pos 0)) × is_held zero };
+
+    ghost one_value: { (value one ≡ whole (pos 1)) × is_held one };
 
     ghost same_value: { (a b : Self) → value a ≡ value b → a ≡ b };
 
@@ -133,6 +144,9 @@ pub trait Field: Ring {
         ensures answer { AnswersQuotient Self.value self other result }
         ensures held { Self.is_held self × Self.is_held other }
         ensures held_quotient { IfSome result Self.is_held };
+
+    ghost quotient_held: { (a b : Self) → Self.is_held a → Self.is_held b → Self.value b ≢ whole (pos 0)
+        → IfSome (checked_quotient a b) Self.is_held };
 
     ghost field_laws: { FieldLaws Self.is_held Self.value };
 }

@@ -1,5 +1,5 @@
 -- Fractions in lowest terms are a field, and so the values of every type of scalars keep its laws.
-use Rattle.std.proofs.Common.{◌≡◌, ◌≢◌, ℕ, zero, suc, ◌+◌, ◌*◌, ◌/◌, ◌<◌, sym, refl, ap, ◌∙◌, arith, ℤ, pos, negsuc, ◌+ℤ◌, ◌-ℤ◌, ◌*ℤ◌, neg_ℤ, unsigned_abs, subst}
+use Rattle.std.proofs.Common.{◌≡◌, ◌≢◌, ℕ, zero, suc, ◌*◌, ◌<◌, sym, refl, ap, ◌∙◌, arith, ℤ, pos, negsuc, ◌+ℤ◌, ◌*ℤ◌, neg_ℤ, unsigned_abs}
 use Rattle.std.specs.Int.{IsGcd}
 use Rattle.std.proofs.lemmas.Nat.Gcd.{IsGcd-swap}
 use Rattle.std.proofs.lemmas.Int.{ints}
@@ -8,7 +8,8 @@ use lib.IntN.{+ℤ_comm, *ℤ_comm, neg_ℤ-neg_ℤ}
 use Rattle.sym_model.proofs.Ring.{ring, negation-product}
 use Rattle.coeff_rings.specs.Ratio.{Ratio, whole, InLowestTerms, lowest_terms, ratio_sum, ratio_difference, ratio_product, ratio_negation, ratio_quotient, reciprocal, turned_over}
 use Rattle.coeff_rings.specs.Laws.{SumLaws, RingLaws, FieldLaws}
-use Rattle.coeff_rings.specs.Proved.Fractions.{Stands, Stands-same, Stands-itself, Stands-whole, Stands-sum, Stands-product, Stands-negation, Stands-lowest_terms}
+use Rattle.coeff_rings.specs.Proved.Cleared.{sum-cleared, product-cleared}
+use Rattle.coeff_rings.specs.Proved.Fractions.{Stands-same, Stands-itself, Stands-whole, Stands-sum, Stands-product, Stands-negation}
 
 -- ---- sums
 
@@ -142,6 +143,7 @@ sum_laws held value low = record {
   commutes = λ a b. sum_comm (value a) (value b);
   associates = λ a b c p q r. sum_assoc (value a) (value b) (value c) (low a p) (low b q) (low c r);
   zero_is_neutral = λ a p. sum-zero (value a) (low a p);
+  cleared = λ d a b p q some u v. sum-cleared d (value a) (value b) (low a p) (low b q) some u v;
 }
 
 pub ring_laws : {A : Type 0} (held : A → Type 0) (value : A → Ratio) → ((a : A) → held a → InLowestTerms (value a)) → RingLaws held value
@@ -152,6 +154,7 @@ ring_laws held value low = record {
   distributes = λ a b c p q r. distributes (value a) (value b) (value c) (low a p) (low b q) (low c r);
   negation_cancels = λ a p. sum-negation (value a) (low a p);
   difference_adds_negation = λ a b p q. difference-is (value a) (value b);
+  cleared = λ d e a b p q sd se u v. product-cleared d e (value a) (value b) (low a p) (low b q) sd se u v;
 }
 
 pub field_laws : {A : Type 0} (held : A → Type 0) (value : A → Ratio) → ((a : A) → held a → InLowestTerms (value a)) → FieldLaws held value

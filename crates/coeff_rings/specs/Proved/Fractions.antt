@@ -1,13 +1,13 @@
 -- Arithmetic of fractions. A fraction in lowest terms stands for n/d where its numerator times d is
 -- n times its denominator; two fractions that stand for equal quotients are the same.
-use Rattle.std.proofs.Common.{◌≡◌, ◌≢◌, ℕ, zero, suc, ◌+◌, ◌*◌, ◌/◌, ◌<◌, subst, sym, refl, ap, ◌∙◌, arith, ℤ, pos, negsuc, ◌+ℤ◌, ◌-ℤ◌, ◌*ℤ◌, neg_ℤ, unsigned_abs, int_div}
+use Rattle.std.proofs.Common.{◌≡◌, ℕ, zero, suc, ◌+◌, ◌*◌, ◌/◌, ◌<◌, subst, sym, refl, ap, ◌∙◌, arith, ℤ, pos, negsuc, ◌+ℤ◌, ◌*ℤ◌, neg_ℤ, unsigned_abs, int_div}
 use Rattle.std.specs.Int.{IsGcd, ◌∣◌}
 use Rattle.std.proofs.lemmas.Nat.Gcd.{IsGcd-swap, dvd_antisymm}
 use Rattle.std.proofs.lemmas.Int.{ints, unsigned_abs-mul}
-use native.Mathlib.Nat.{div-mul_cancel, dvd-mul_left, dvd-mul_right, mul-pos, eq_of_mul-eq-mul_right, zero-div, pos_of_dvd_of_pos, add-mul, mul_comm, mul-div_cancel'}
-use borrow.Author.Differences.{up, down, product_is, neg_is}
+use native.Mathlib.Nat.{div-mul_cancel, dvd-mul_left, mul-pos, eq_of_mul-eq-mul_right, add-mul, mul_comm}
+use borrow.Author.Differences.{up, down}
 use Rattle.sym_model.proofs.Ring.{ring, negation-product, product_assoc}
-use Rattle.coeff_rings.specs.Ratio.{Ratio, whole, InLowestTerms, greatest_common_divisor, lowest_terms, ratio_sum, ratio_difference, ratio_product, ratio_negation, ratio_quotient, reciprocal, turned_over}
+use Rattle.coeff_rings.specs.Ratio.{Ratio, whole, InLowestTerms, greatest_common_divisor, lowest_terms, ratio_sum, ratio_product, ratio_negation}
 use Rattle.coeff_rings.specs.Proved.Divisors.{IsGcd-greatest, divisor_positive, coprime_without, coprime-one, divides_other_factor, quotient_positive}
 
 -- ---- whole numbers

@@ -1,17 +1,17 @@
 -- Whole numbers as fractions, and the laws of `Int` and `Count`.
-use Rattle.std.proofs.Common.{◌≡◌, ◌≢◌, ℕ, zero, suc, ◌+◌, ◌*◌, ◌/◌, ◌<◌, ◌≤◌, ◌^◌, sym, refl, ap, ◌∙◌, subst, arith, ℤ, pos, negsuc, ◌+ℤ◌, ◌-ℤ◌, ◌*ℤ◌, neg_ℤ, unsigned_abs, Bool, true, false, FitsSigned, Option, Some, None, SomeIff, IsSome, IfSome, nat_lt}
+use Rattle.std.proofs.Common.{◌≡◌, ℕ, ◌+◌, ◌*◌, ◌<◌, ◌≤◌, ◌^◌, sym, refl, ap, ◌∙◌, subst, arith, ℤ, pos, negsuc, ◌+ℤ◌, ◌-ℤ◌, ◌*ℤ◌, neg_ℤ, unsigned_abs, Bool, true, false, FitsSigned, Option, Some, None, SomeIff, IsSome, IfSome, nat_lt}
 use Rattle.std.specs.Int.{w128}
 use Rattle.std.proofs.lemmas.Int.{ints, unsigned_abs-mul, fits_signed_from_abs}
-use Rattle.std.proofs.lemmas.Bool.{ltb-true, lt-ltb, both_ways, true_from_ne_false, cases_Bool}
+use Rattle.std.proofs.lemmas.Bool.{ltb-true, lt-ltb, both_ways}
 use lib.IntN.{+ℤ_idl, +ℤ_idr}
-use native.Mathlib.Nat.{div-one, mul-le-mul_left, mul-one, le-mul_of_pos_right, mul-le-mul}
+use native.Mathlib.Nat.{div-one, le-mul_of_pos_right, mul-le-mul}
 use Rattle.sym_model.proofs.Ring.{ring}
-use Rattle.coeff_rings.specs.Ratio.{Ratio, whole, whole_count, InLowestTerms, ratio_sum, ratio_difference, ratio_product, ratio_negation}
-use Rattle.coeff_rings.specs.Room.{magnitude, HasRoomForSum, HasRoomForProduct, HasRoomForNegation}
+use Rattle.coeff_rings.specs.Ratio.{Ratio, whole, whole_count, ratio_sum, ratio_difference, ratio_product, ratio_negation}
+use Rattle.coeff_rings.specs.Room.{magnitude, HasRoomForSum, HasRoomForProduct}
 use Rattle.coeff_rings.specs.Checked.{fits_i128, where_fits, checked_i128, checked_u128}
 use Rattle.coeff_rings.specs.Answers.{AnswersSum, AnswersDifference, AnswersProduct, AnswersNegation}
 use Rattle.coeff_rings.specs.Laws.{SumLaws, RingLaws}
-use Rattle.coeff_rings.specs.Proved.Fractions.{InLowestTerms-whole, Stands-same, Stands-whole, Stands-sum, Stands-product, Stands-negation}
+use Rattle.coeff_rings.specs.Proved.Fractions.{InLowestTerms-whole, Stands-same, Stands-whole, Stands-sum, Stands-product}
 use Rattle.coeff_rings.specs.Proved.FractionLaws.{sum_laws, ring_laws, difference-is}
 
 -- ---- a value where a test holds
@@ -56,6 +56,18 @@ checked_u128-from n answer h = where_fits-from (nat_lt n (2 ^ 128)) (n < 2 ^ 128
 
 pub checked_u128-held : (n : ℕ) → IfSome (checked_u128 n) (λ m. m < 2 ^ 128)
 checked_u128-held n = IfSome-where_fits (nat_lt n (2 ^ 128)) n (λ m. m < 2 ^ 128) (ltb-true n (2 ^ 128))
+
+pub zero_fits_i128 : FitsSigned w128 (pos 0)
+zero_fits_i128 = omega (arith, ints)
+
+pub one_fits_i128 : FitsSigned w128 (pos 1)
+one_fits_i128 = omega (arith, ints)
+
+pub zero_fits_u128 : 0 < 2 ^ 128
+zero_fits_u128 = omega arith
+
+pub one_fits_u128 : 1 < 2 ^ 128
+one_fits_u128 = omega arith
 
 -- ---- whole numbers as fractions
 
