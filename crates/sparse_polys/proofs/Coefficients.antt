@@ -1,0 +1,89 @@
+-- Coefficients in lowest terms, and the coefficient of a label in a list of pairs.
+use Rattle.std.proofs.Common.{◌≡◌, ◌≢◌, ℕ, zero, suc, ◌<◌, ◌*◌, ◌+◌, Bool, true, false, ◌&&◌, cond, List, [], ◌∷◌, ◌++◌, map, ℤ, pos, negsuc, ◌*ℤ◌, nat_abs, unsigned_abs, neg_ℤ, refl, sym, ap, ◌∙◌, subst, zero-mul, arith}
+use Rattle.std.specs.Prelude.{Option, Some, None}
+use Rattle.std.specs.Option.{option_map, unwrap_or}
+use Rattle.std.specs.Map.{lookup, keys_of}
+use Rattle.std.specs.Int.{IsGcd}
+use Rattle.std.proofs.lemmas.Bool.{and_parts, and_from}
+use Rattle.coeff_rings.specs.Ratio.{Ratio, whole, InLowestTerms, ratio_product}
+use Rattle.coeff_rings.specs.Proved.Fractions.{Stands-same, Stands-itself, Stands-whole, Stands-product}
+use Rattle.coeff_rings.specs.Proved.FractionLaws.{num-zero}
+use Rattle.sym_model.specs.Expansion.{Fraction, Terms}
+use Rattle.sym_model.specs.Canonical.{is_reduced}
+use Rattle.sym_model.proofs.Orders.{IsReduced, is_reduced-from, is_reduced-tells}
+use Rattle.sparse_polys.specs.Combination.{fraction, ratio, terms_of, coefficient}
+
+-- ---- lowest terms
+
+nat_abs-is : (z : ℤ) → nat_abs z ≡ unsigned_abs z
+nat_abs-is (pos n) = refl
+nat_abs-is (negsuc n) = refl
+
+nat_abs-positive : (z : ℤ) → z ≢ pos 0 → 0 < nat_abs z
+nat_abs-positive (pos zero) other = absurd (other refl)
+nat_abs-positive (pos (suc n)) other = omega arith
+nat_abs-positive (negsuc n) other = omega arith
+
+-- a value in lowest terms that is not 0 passes the test of a coefficient
+pub is_reduced-lowest : (r : Ratio) → InLowestTerms r → r ≢ whole (pos 0) → is_reduced (fraction r) ≡ true
+is_reduced-lowest r lowest other =
+    is_reduced-from (fraction r) (record {
+      denominator = lowest.positive;
+      nonzero = nat_abs-positive r.num (λ e. other (num-zero r lowest e));
+      lowest = subst (λ n. IsGcd n r.den 1) (sym (nat_abs-is r.num)) lowest.coprime;
+    })
+
+pub lowest-is_reduced : (c : Fraction) → is_reduced c ≡ true → InLowestTerms (ratio c)
+lowest-is_reduced c h =
+    let t = is_reduced-tells c h in
+    record { positive = t.denominator; coprime = subst (λ n. IsGcd n c.1 1) (nat_abs-is c.0) t.lowest }
+
+not_zero : (c : Fraction) → 0 < nat_abs c.0 → ratio c ≡ whole (pos 0) → ⊥
+not_zero c h e = let none : nat_abs c.0 ≡ 0 = ap (λ (r : Ratio). nat_abs r.num) e in omega arith
+
+pub not_zero-is_reduced : (c : Fraction) → is_reduced c ≡ true → ratio c ≢ whole (pos 0)
+not_zero-is_reduced c h = not_zero c (is_reduced-tells c h).nonzero
+
+-- a product with 0 is 0
+*ℤ-zero_left : (n : ℤ) → pos 0 *ℤ n ≡ pos 0
+*ℤ-zero_left (pos n) = ap pos (zero-mul n)
+*ℤ-zero_left (negsuc n) = ap (λ m. neg_ℤ (pos m)) (zero-mul (suc n))
+
+zero_cross : (n : ℤ) (d : ℕ) → (pos 0 *ℤ n) *ℤ pos 1 ≡ pos 0 *ℤ pos (1 * d)
+zero_cross n d =
+    let left : (pos 0 *ℤ n) *ℤ pos 1 ≡ pos 0 = ap (λ z. z *ℤ pos 1) (*ℤ-zero_left n) in
+    let none : 0 * (1 * d) ≡ 0 = omega arith in
+    left ∙ sym (ap pos none)
+
+pub product-zero : (r : Ratio) → InLowestTerms r → ratio_product (whole (pos 0)) r ≡ whole (pos 0)
+product-zero r lowest =
+    Stands-same _ _ _ _ _ _ (Stands-product (whole (pos 0)) r _ _ _ _ (Stands-whole (pos 0)) (Stands-itself r lowest)) (Stands-whole (pos 0)) (zero_cross r.num r.den)
+
+-- ---- look-ups
+
+pub lookup-terms_of : {L R : Type 0} (value : R → Ratio) (test : L → Bool) (es : List (L × R)) → lookup test (terms_of value es) ≡ option_map (λ (c : R). fraction (value c)) (lookup test es)
+lookup-terms_of value test [] = refl
+lookup-terms_of {L} {R} value test (e ∷ es) = by (test e.0) (lookup-terms_of value test es)
+  where
+    rest : Option Fraction
+    rest = lookup test (terms_of value es)
+
+    by : (b : Bool) → rest ≡ option_map (λ (c : R). fraction (value c)) (lookup test es) → cond b (Some (fraction (value e.1))) rest ≡ option_map (λ (c : R). fraction (value c)) (cond b (Some e.1) (lookup test es))
+    by true h = refl
+    by false h = h
+
+pub keys-terms_of : {L R : Type 0} (value : R → Ratio) (es : List (L × R)) → keys_of (terms_of value es) ≡ keys_of es
+keys-terms_of value [] = refl
+keys-terms_of value (e ∷ es) = ap (λ ks. e.0 ∷ ks) (keys-terms_of value es)
+
+-- the value that a look-up stands for
+abbrev pub value_at : {R : Type 0} → (R → Ratio) → Option R → Ratio
+value_at value None = whole (pos 0)
+value_at value (Some c) = value c
+
+pub coefficient-terms_of : {L R : Type 0} (eq : L → L → Bool) (value : R → Ratio) (es : List (L × R)) (label : L) → coefficient eq (terms_of value es) label ≡ value_at value (lookup (eq label) es)
+coefficient-terms_of {R = R} eq value es label = ap (λ o. ratio (unwrap_or o (pos 0, 1))) (lookup-terms_of value (eq label) es) ∙ by (lookup (eq label) es)
+  where
+    by : (o : Option R) → ratio (unwrap_or (option_map (λ (c : R). fraction (value c)) o) (pos 0, 1)) ≡ value_at value o
+    by None = refl
+    by (Some c) = refl

@@ -1,0 +1,4 @@
+pub mod Coefficients
+pub mod Tables
+pub mod Steps
+pub mod Sorted

@@ -1,0 +1,37 @@
+-- Lists of pairs in order: a sort of distinct labels puts each strictly before the next.
+use Rattle.std.proofs.Common.{◌≡◌, ℕ, zero, suc, ◌+◌, ◌<◌, Bool, true, false, ◌&&◌, List, [], ◌∷◌, length, get_or, refl, sym, ap, ◌∙◌, subst, arith}
+use Rattle.std.specs.Prelude.{IsSorted}
+use Rattle.std.specs.Cmp.{IsEquivalence, IsTotalOrder}
+use Rattle.std.specs.List.{IsDistinct}
+use Rattle.std.specs.Map.{keys_of}
+use Rattle.std.specs.Ordering.{is_lt, ordering_reverse}
+use Rattle.std.specs.declared.cmp.Ordering.{Ordering}
+use Rattle.std.specs.declared.cmp.Ordering.TheVariants.{Less, Equal, Greater}
+use Rattle.std.proofs.lemmas.Bool.{and_parts, and_from}
+use Rattle.std.proofs.lemmas.Map.Keys.{IsDistinct-tail, apart_from_distinct}
+use Rattle.coeff_rings.specs.Ratio.{Ratio}
+use Rattle.sym_model.specs.Expansion.{Fraction, Terms}
+use Rattle.sym_model.specs.Canonical.{is_ordered, is_reduced}
+use Rattle.sparse_polys.specs.Combination.{terms_of, are_terms}
+
+module _ {L R : Type 0} {eq : L → L → Bool} {order : L → L → Ordering} {is_label : L → Bool} (laws : IsEquivalence eq) (total : IsTotalOrder order)
+    (exact : (a b : L) → is_label a ≡ true → is_label b ≡ true → order a b ≡ Equal → a ≡ b) (value : R → Ratio) where
+  -- of two labels that differ the one that is not after stands strictly before
+  stands_before : (x y : L) → is_label x ≡ true → is_label y ≡ true → eq x y ≡ false → is_lt (order y x) ≡ false → is_lt (order x y) ≡ true
+  stands_before x y p q apart up = by (order y x) refl up
+    where
+      by : (o : Ordering) → order y x ≡ o → is_lt o ≡ false → is_lt (order x y) ≡ true
+      by Less e h = cc
+      by Equal e h = let same : x ≡ y = sym (exact y x q p e) in let here : eq x x ≡ false = ap (eq x) same ∙ apart in let itself = laws.refl x in cc
+      by Greater e h = ap is_lt (total.antisymm x y ∙ ap ordering_reverse e)
+
+  pub is_ordered-sorted : (es : List (L × R)) → IsDistinct eq (keys_of es) → are_terms is_label (terms_of value es) ≡ true
+      → ((i j : ℕ) (d : L × R) → j ≡ i + 1 → j < length es → is_lt (order (get_or es j d).0 (get_or es i d).0) ≡ false) → is_ordered order (terms_of value es) ≡ true
+  is_ordered-sorted [] distinct proper sorted = refl
+  is_ordered-sorted (x ∷ []) distinct proper sorted = refl
+  is_ordered-sorted (x ∷ y ∷ es) distinct proper sorted =
+      let p = and_parts _ _ proper in
+      let q = and_parts _ _ p.1 in
+      and_from (is_lt (order x.0 y.0)) _
+      (stands_before x.0 y.0 (and_parts _ _ p.0).1 (and_parts _ _ q.0).1 (apart_from_distinct eq (keys_of (x ∷ y ∷ es)) 0 1 x.0 distinct (omega arith) (omega arith)) (sorted 0 1 x refl (omega arith)))
+      (is_ordered-sorted (y ∷ es) (IsDistinct-tail eq x.0 (keys_of (y ∷ es)) distinct) p.1 (λ i j d e h. sorted (suc i) (suc j) d (omega arith) (omega arith)))

@@ -1,0 +1,3 @@
+pub mod Combination
+pub mod Refusal
+pub mod Labels

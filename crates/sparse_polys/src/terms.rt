@@ -1,0 +1,71 @@
+//! Lists of terms in the printed order.
+ghost use Rattle.std.specs.Prelude.{◌≡◌, ◌↔◌, [], length, slice_get, IsTrue};
+ghost use Rattle.std.specs.Option.{option_map};
+ghost use Rattle.sym_model.specs.Canonical.{IsCanonical};
+ghost use Rattle.sparse_polys.specs.Combination.{fraction, terms_of, IsCanonicalList};
+
+use crate::label::Label;
+use coeff_rings::Scalar;
+use partitions::Partition;
+use std::marker::Model;
+
+/// The terms of a finite map, strictly in the order in which labels are printed. A contract sees the list of labels
+/// with the values of their coefficients.
+#[derive(Drop)]
+pub struct Terms<L: Label, R: Scalar> {
+    pairs: Vec<(L, R)>,
+}
+
+impl<L: Label, R: Scalar> Model for Terms<L, R> {
+    ghost use Rattle.sym_model.specs.Expansion.{Terms as TermList};
+    ghost use Rattle.sparse_polys.specs.Combination.{terms_of, IsCanonicalList};
+
+    ghost Value = { TermList L };
+
+    ghost view = { λ t. terms_of R.value t.pairs.items };
+
+    ghost invariant = { λ t. IsCanonicalList L.order L.is_label (terms_of R.value t.pairs.items) };
+}
+
+impl<L: Label, R: Scalar> Terms<L, R> {
+    // The list of pairs that are in order.
+    pub(crate) fn from_sorted(pairs: Vec<(L, R)>) -> Terms<L, R>
+        requires { IsCanonicalList L.order L.is_label (terms_of R.value pairs.items) }
+        ensures { result ≡ terms_of R.value pairs.items }
+    {
+        Terms { pairs }
+    }
+
+    /// The number of terms.
+    pub fn len(&self) -> usize
+        ensures len { result ≡ length self.now }
+        ensures canonical { IsCanonicalList L.order L.is_label self.now }
+    {
+        self.pairs.len()
+    }
+
+    /// Whether there are no terms.
+    pub fn is_empty(&self) -> bool
+        ensures { IsTrue result ↔ (self.now ≡ []) }
+    {
+        self.pairs.is_empty()
+    }
+
+    /// The label and the coefficient of a term, counted from 0. `None` exactly past the last one.
+    pub fn get(&self, i: usize) -> Option<(&L, R)>
+        ensures term { option_map (λ t. (t.0.now, fraction (R.value t.1))) result ≡ slice_get self.now i }
+        ensures canonical { IsCanonicalList L.order L.is_label self.now }
+    {
+        let (label, c) = self.pairs.get(i)?;
+        Some((label, *c))
+    }
+}
+
+impl<R: Scalar> Terms<Partition, R> {
+    /// Does nothing when it runs: it tells a proof that terms with partitions as labels are a canonical list.
+    pub fn is_canonical(&self)
+        ensures { IsCanonical self.now }
+    {
+        let _ = self.len();
+    }
+}
