@@ -8,3 +8,8 @@ pub mod PrintedOrder
 pub mod Canonical
 pub mod PrintedBlock
 pub mod PowerSumCommand
+pub mod Expression
+pub mod Weight
+pub mod Words
+pub mod Offence
+pub mod LeftToRight

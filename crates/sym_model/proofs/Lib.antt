@@ -1,0 +1,2 @@
+pub mod PhraseRuns
+pub mod PhrasePrefixes
