@@ -1,12 +1,12 @@
 -- A phrase that is read from the left is the phrase that is found, so a word spells one.
-use Rattle.std.proofs.Common.{◌≡◌, ℕ, ◌+◌, ◌-◌, ◌*◌, ◌<◌, ◌≤◌, ◌==◌, nat_le, Bool, true, false, cond, ◌&&◌, List, [], ◌∷◌, ◌++◌, length, map, refl, sym, ap, ◌∙◌, subst, append_assoc, arith, rules}
+use Rattle.std.proofs.Common.{◌≡◌, ℕ, ◌+◌, ◌-◌, ◌*◌, ◌<◌, ◌≤◌, ◌==◌, nat_le, Bool, true, false, cond, ◌&&◌, List, [], ◌∷◌, ◌++◌, length, map, refl, sym, ap, ◌∙◌, subst, append_assoc, arith, rules, Option, Some, None, option_map}
 use Rattle.std.proofs.lemmas.Bool.{le-leb}
 use Rattle.std.proofs.lemmas.List.{append-nil}
 use Rattle.std.specs.Prelude.{codes}
 use Rattle.sym_model.specs.Expansion.{Basis, monomials, elementaries, completes, power_sums, schurs}
 use Rattle.sym_model.specs.PowerSumCommand.{IsDigit, AreDigits, IsNumberWord, AreNumberWords, comma_separated}
 use Rattle.sym_model.specs.Words.{Phrase, numeral, ratio, label, brackets, times, minus_first, plus, minus, Level, expression, term, factor, Is, HasAtoms, letter, spelling, SpellsPhrase}
-use Rattle.sym_model.specs.LeftToRight.{Symbol, digit, plus_sign, minus_sign, star, slash, opens, closes, opens_list, closes_list, comma, letter_of, other, symbol, sign_symbol, BeforeTerm, no_term, negating, adding, subtracting, BeforeFactor, no_factor, multiplying, Opened, outermost, inside, Piece, awaited, in_number, after_slash, in_denominator, after_letter, in_list, in_entry, closed, State, at, dead, step, run, start, phrases, join, join_factor, join_term, after_factor, before_factor}
+use Rattle.sym_model.specs.LeftToRight.{Symbol, digit, plus_sign, minus_sign, star, slash, opens, closes, opens_list, closes_list, comma, letter_of, other, symbol, sign_symbol, BeforeTerm, no_term, negating, adding, subtracting, BeforeFactor, no_factor, multiplying, Opened, outermost, inside, Piece, awaited, in_number, after_slash, in_denominator, after_letter, in_list, in_entry, closed, State, at, dead, step, run, start, phrases, join, join_factor, join_term, after_factor, before_factor, factor_found, found}
 
 -- a byte that is a digit is read as one
 pub symbol-digit : (b : ℕ) → IsDigit b → symbol b ≡ digit b
@@ -300,53 +300,43 @@ reads expression (minus l r) a = read-minus l r a.0 (reads expression l a.0) (re
 reads term (minus l r) a = absurd a
 reads factor (minus l r) a = absurd a
 
--- the factor that has been read
-abbrev pub factor_of : Piece Phrase (List ℕ) → Phrase
-factor_of (in_number ds) = numeral ds
-factor_of (in_denominator ds es) = ratio ds es
-factor_of (closed e) = e
-factor_of _ = numeral []
+factor_found-piece : (e : Phrase) → Is factor e → factor_found phrases (piece_of e) ≡ Some e
+factor_found-piece (numeral ds) a = refl
+factor_found-piece (ratio ds es) a = refl
+factor_found-piece (label basis ws) a = refl
+factor_found-piece (brackets e) a = refl
+factor_found-piece (times l r) a = absurd a
+factor_found-piece (minus_first e) a = absurd a
+factor_found-piece (plus l r) a = absurd a
+factor_found-piece (minus l r) a = absurd a
 
--- the expression that has been read
-abbrev pub found : Reading → Phrase
-found (at p t f o) = join phrases t f (factor_of p)
-found dead = numeral []
+found-term : (e : Phrase) (t : BeforeTerm Phrase) → Is term e → found phrases (ended_term t outermost e) ≡ Some (join_term phrases t e)
+found-term (numeral ds) t a = refl
+found-term (ratio ds es) t a = refl
+found-term (label basis ws) t a = refl
+found-term (brackets e) t a = refl
+found-term (times l r) t a = ap (option_map (join phrases t (multiplying l))) (factor_found-piece r a.1)
+found-term (minus_first e) t a = absurd a
+found-term (plus l r) t a = absurd a
+found-term (minus l r) t a = absurd a
 
-factor_of-piece : (e : Phrase) → Is factor e → factor_of (piece_of e) ≡ e
-factor_of-piece (numeral ds) a = refl
-factor_of-piece (ratio ds es) a = refl
-factor_of-piece (label basis ws) a = refl
-factor_of-piece (brackets e) a = refl
-factor_of-piece (times l r) a = absurd a
-factor_of-piece (minus_first e) a = absurd a
-factor_of-piece (plus l r) a = absurd a
-factor_of-piece (minus l r) a = absurd a
+pub found-expression : (e : Phrase) → Is expression e → found phrases (ended outermost e) ≡ Some e
+found-expression (numeral ds) a = refl
+found-expression (ratio ds es) a = refl
+found-expression (label basis ws) a = refl
+found-expression (brackets e) a = refl
+found-expression (times l r) a = found-term (times l r) no_term a
+found-expression (minus_first e) a = found-term e negating a
+found-expression (plus l r) a = found-term r (adding l) a.1
+found-expression (minus l r) a = found-term r (subtracting l) a.1
 
-found-term : (e : Phrase) (t : BeforeTerm Phrase) (o : Opened Phrase) → Is term e → found (ended_term t o e) ≡ join_term phrases t e
-found-term (numeral ds) t o a = refl
-found-term (ratio ds es) t o a = refl
-found-term (label basis ws) t o a = refl
-found-term (brackets e) t o a = refl
-found-term (times l r) t o a = ap (λ x. join_term phrases t (times l x)) (factor_of-piece r a.1)
-found-term (minus_first e) t o a = absurd a
-found-term (plus l r) t o a = absurd a
-found-term (minus l r) t o a = absurd a
-
-pub found-expression : (e : Phrase) (o : Opened Phrase) → Is expression e → found (ended o e) ≡ e
-found-expression (numeral ds) o a = refl
-found-expression (ratio ds es) o a = refl
-found-expression (label basis ws) o a = refl
-found-expression (brackets e) o a = refl
-found-expression (times l r) o a = found-term (times l r) no_term o a
-found-expression (minus_first e) o a = found-term e negating o a
-found-expression (plus l r) o a = found-term r (adding l) o a.1
-found-expression (minus l r) o a = found-term r (subtracting l) o a.1
+-- reading a word that spells a phrase finds the phrase
+pub found-spelled : (word : List ℕ) (e : Phrase) → SpellsPhrase word e → found phrases (read_on word start) ≡ Some e
+found-spelled word e h =
+    ap (λ w. found phrases (read_on w start)) h.spelled
+    ∙ ap (found phrases) (reads expression e h.allowed outermost)
+    ∙ found-expression e h.allowed
 
 -- a word spells one phrase
 pub one_phrase : (word : List ℕ) (p q : Phrase) → SpellsPhrase word p → SpellsPhrase word q → p ≡ q
-one_phrase word p q h k =
-    sym (found-expression p outermost h.allowed)
-    ∙ ap found (sym (reads expression p h.allowed outermost))
-    ∙ ap (λ w. found (read_on w start)) (sym h.spelled ∙ k.spelled)
-    ∙ ap found (reads expression q k.allowed outermost)
-    ∙ found-expression q outermost k.allowed
+one_phrase word p q h k = let e = sym (found-spelled word p h) ∙ found-spelled word q k in cc

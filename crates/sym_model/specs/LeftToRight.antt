@@ -1,6 +1,6 @@
 -- An expression read byte by byte from the left: what is kept of the bytes so far, and how the next one changes it.
 -- A reader is proved by this; what an expression is, the grammar of Words says (this project's own).
-use Rattle.std.specs.Prelude.{ℕ, ◌+◌, ◌-◌, ◌*◌, ◌==◌, nat_le, ◌&&◌, cond, List, [], ◌∷◌, ◌++◌, map}
+use Rattle.std.specs.Prelude.{ℕ, ◌+◌, ◌-◌, ◌*◌, ◌==◌, nat_le, Bool, true, false, ◌&&◌, cond, List, [], ◌∷◌, ◌++◌, Option, Some, None, option_map}
 use Rattle.sym_model.specs.Expansion.{Basis, monomials, elementaries, completes, power_sums}
 use Rattle.sym_model.specs.Partition.{without_last_zeros}
 use Rattle.sym_model.specs.Expression.{Tree, number, fraction, atom, negation, sum, difference, product}
@@ -184,3 +184,38 @@ trees = record {
   plus_of = sum;
   minus_of = difference;
 }
+
+-- whether the bytes so far begin an expression
+abbrev pub is_live : {A N : Type 0} → State A N → Bool
+is_live dead = false
+is_live (at p t f o) = true
+
+-- whether no parenthesis is open
+abbrev pub is_outermost : {A : Type 0} → Opened A → Bool
+is_outermost outermost = true
+is_outermost (inside o t f) = false
+
+-- whether a factor is there whole
+abbrev pub is_factor : {A N : Type 0} → Piece A N → Bool
+is_factor (in_number n) = true
+is_factor (in_denominator n k) = true
+is_factor (closed x) = true
+is_factor _ = false
+
+-- whether the bytes so far are an expression
+abbrev pub is_whole : {A N : Type 0} → State A N → Bool
+is_whole dead = false
+is_whole (at p t f o) = is_factor p && is_outermost o
+
+-- the factor that is there
+abbrev pub factor_found : {A N : Type 0} → Makes A N → Piece A N → Option A
+factor_found m (in_number n) = Some (m.numeral_of n)
+factor_found m (in_denominator n k) = Some (m.ratio_of n k)
+factor_found m (closed x) = Some x
+factor_found m _ = None
+
+-- the expression that is there
+abbrev pub found : {A N : Type 0} → Makes A N → State A N → Option A
+found m dead = None
+found m (at p t f (inside o t' f')) = None
+found m (at p t f outermost) = option_map (join m t f) (factor_found m p)

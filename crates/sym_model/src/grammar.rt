@@ -1,11 +1,12 @@
 //! The grammar of the words of a command has one reading.
 
-ghost use Rattle.std.specs.Prelude.{◌≡◌, ℕ, List, [], ◌∷◌, codes};
+ghost use Rattle.std.specs.Prelude.{◌≡◌, ◌↔◌, ℕ, List, [], ◌∷◌, codes, IsTrue};
 ghost use Rattle.sym_model.specs.Expansion.{monomials, power_sums};
 ghost use Rattle.sym_model.specs.Expression.{Tree, number, fraction, negation, sum, difference, denominator};
 ghost use Rattle.sym_model.specs.Weight.{numerator, growth};
 ghost use Rattle.sym_model.specs.Words.{Phrase, numeral, ratio, label, times, SpellsPhrase, SpellsTree, Command, SpellsCommand};
-ghost use Rattle.sym_model.specs.Offence.{shape, range, first_of, offences};
+ghost use Rattle.sym_model.specs.Offence.{shape, range, first_of, offences, BeginsExpression};
+ghost use Rattle.sym_model.specs.LeftToRight.{run, start, phrases, found, is_live};
 
 /// No word spells two phrases or two expressions, and no list of words two commands.
 pub fn grammar_law()
@@ -17,6 +18,17 @@ pub fn grammar_law()
     }
     ensures one_command {
         (words : List (List ℕ)) (a b : Command) → SpellsCommand words a → SpellsCommand words b → a ≡ b
+    }
+{
+}
+
+/// A text read byte by byte from the left: it begins an expression exactly where no byte is at fault, and it spells a
+/// phrase exactly where the phrase is what is found at its end.
+pub fn left_to_right_law()
+    ensures begins { (word : List ℕ) → BeginsExpression word ↔ IsTrue (is_live (run phrases word start)) }
+    ensures finds {
+        (word : List ℕ) (phrase : Phrase) → SpellsPhrase word phrase
+            ↔ (found phrases (run phrases word start) ≡ Some phrase)
     }
 {
 }

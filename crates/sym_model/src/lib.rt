@@ -13,7 +13,7 @@ mod ring;
 mod sums;
 
 pub use examples::worked_examples_law;
-pub use grammar::{expression_examples_law, grammar_law};
+pub use grammar::{expression_examples_law, grammar_law, left_to_right_law};
 pub use printing::printed_block_law;
 pub use restriction::restriction_law;
 pub use ring::poly_ring_law;
