@@ -1,2 +1,13 @@
 pub mod PhraseRuns
 pub mod PhrasePrefixes
+pub mod Ring
+pub mod Sums
+pub mod Exponents
+pub mod Polynomials
+pub mod PolynomialLaws
+pub mod LeadingTerms
+pub mod Decimals
+pub mod Blocks
+pub mod Orders
+pub mod CanonicalLists
+pub mod PartitionLists

@@ -13,3 +13,5 @@ pub mod Weight
 pub mod Words
 pub mod Offence
 pub mod LeftToRight
+pub mod Leading
+pub mod PartitionList

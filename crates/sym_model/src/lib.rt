@@ -7,14 +7,18 @@
 
 mod examples;
 mod grammar;
+mod partition_lists;
+mod plain_order;
 mod printing;
 mod restriction;
-mod ring;
-mod sums;
+mod ring_laws;
+mod sum_laws;
 
-pub use examples::worked_examples_law;
 pub use grammar::{expression_examples_law, grammar_law, left_to_right_law};
+pub use examples::{block_examples_law, order_examples_law, worked_examples_law};
+pub use partition_lists::partitions_of_law;
+pub use plain_order::{plain_falling_lexicographic, plain_printed_order, plain_size};
 pub use printing::printed_block_law;
 pub use restriction::restriction_law;
-pub use ring::poly_ring_law;
-pub use sums::sum_law;
+pub use ring_laws::poly_ring_law;
+pub use sum_laws::sum_law;

@@ -1,0 +1,169 @@
+-- How texts that go to a sink one after another join: `Goes-then` for two, `Goes-as` for an equal text, `Goes-nothing`
+-- where nothing was put, `Goes-stopped` after a fault, `Goes-item` in a loop over a list, and `Goes-prints` at a printer's end.
+use Rattle.std.proofs.Common.{◌≡◌, ℕ, ◌+◌, ◌<◌, ◌≤◌, min, max, List, [], ◌∷◌, ◌++◌, length, take, get_or, Option, Some, None, Bool, true, false, refl, sym, ◌∙◌, ap, subst, arith, append_assoc, append-nil, length-append}
+use Rattle.std.specs.Prelude.{Result, Ok, Err, is_ok}
+use Rattle.std.specs.List.{flat_map}
+use Rattle.std.proofs.lemmas.List.{take_more}
+use Rattle.std.proofs.lemmas.Grind.{flat_map-append}
+use Rattle.calc_base.specs.Fault.{counted_up, Rose, HasCause}
+use Rattle.calc_base.specs.Sink.{greatest_length, grown, longer, Appends, IsPrefix, AppendsPrefix}
+use Rattle.calc_base.specs.Goes.{Goes, Prints}
+
+-- appending two texts is appending them joined
+grown-grown : (told : Option (List ℕ)) (a b : List ℕ) → grown (grown told a) b ≡ grown told (a ++ b)
+grown-grown None a b = refl
+grown-grown (Some bytes) a b = ap Some (append_assoc bytes a b)
+
+grown-nothing : (told : Option (List ℕ)) → told ≡ grown told []
+grown-nothing None = refl
+grown-nothing (Some bytes) = ap Some (sym (append-nil bytes))
+
+number-number : (n a b c limit : ℕ) → c ≡ a + b
+    → max (max n (min (n + a) limit)) (min (max n (min (n + a) limit) + b) limit) ≡ max n (min (n + c) limit)
+number-number n a b c limit e = omega arith
+
+longer-longer : (told : Option ℕ) (a b : List ℕ) → longer (longer told a) b ≡ longer told (a ++ b)
+longer-longer None a b = refl
+longer-longer (Some n) a b =
+    ap Some (number-number n (length a) (length b) (length (a ++ b)) greatest_length (length-append a b))
+
+longer-nothing : (told : Option ℕ) → told ≡ longer told []
+longer-nothing None = refl
+longer-nothing (Some n) = ap Some (number-nothing n greatest_length)
+  where
+    number-nothing : (n limit : ℕ) → n ≡ max n (min (n + 0) limit)
+    number-nothing n limit = omega arith
+
+-- ---- what one call appended
+
+pub Appends-then : {S : Type 0} {written : S → Option (List ℕ)} {count : S → Option ℕ} {old mid new : S} {a b : List ℕ}
+    → Appends written count old mid a → Appends written count mid new b → Appends written count old new (a ++ b)
+Appends-then {written = written} {count = count} {old = old} {a = a} {b = b} first second = record {
+  bytes = second.bytes ∙ ap (λ t. grown t b) first.bytes ∙ grown-grown (written old) a b;
+  number = second.number ∙ ap (λ t. longer t b) first.number ∙ longer-longer (count old) a b;
+}
+
+pub Appends-nothing : {S : Type 0} (written : S → Option (List ℕ)) (count : S → Option ℕ) (s : S)
+    → Appends written count s s []
+Appends-nothing written count s = record { bytes = grown-nothing (written s); number = longer-nothing (count s) }
+
+-- a prefix of the first text is one of the two joined
+pub AppendsPrefix-more : {S : Type 0} {written : S → Option (List ℕ)} {count : S → Option ℕ} {old new : S} {a : List ℕ} (b : List ℕ)
+    → AppendsPrefix written count old new a → AppendsPrefix written count old new (a ++ b)
+AppendsPrefix-more b cut = record {
+  front = cut.front;
+  is_prefix = record {
+    rest = cut.is_prefix.rest ++ b;
+    joined = sym (append_assoc cut.front cut.is_prefix.rest b) ∙ ap (λ t. t ++ b) cut.is_prefix.joined;
+  };
+  appends = cut.appends;
+}
+
+-- the first text whole and a prefix of the second are a prefix of the two joined
+pub AppendsPrefix-then : {S : Type 0} {written : S → Option (List ℕ)} {count : S → Option ℕ} {old mid new : S} {a b : List ℕ}
+    → Appends written count old mid a → AppendsPrefix written count mid new b
+    → AppendsPrefix written count old new (a ++ b)
+AppendsPrefix-then {a = a} first cut = record {
+  front = a ++ cut.front;
+  is_prefix = record {
+    rest = cut.is_prefix.rest;
+    joined = append_assoc a cut.front cut.is_prefix.rest ∙ ap (λ t. a ++ t) cut.is_prefix.joined;
+  };
+  appends = Appends-then first cut.appends;
+}
+
+pub AppendsPrefix-whole : {S : Type 0} {written : S → Option (List ℕ)} {count : S → Option ℕ} {old new : S} {a : List ℕ}
+    → Appends written count old new a → AppendsPrefix written count old new a
+AppendsPrefix-whole {a = a} all = record { front = a; is_prefix = record { rest = []; joined = append-nil a }; appends = all }
+
+-- ---- what several calls appended
+
+-- two texts, one after the other
+pub Goes-then : {S : Type 0} {written : S → Option (List ℕ)} {count : S → Option ℕ} {faults : S → ℕ}
+    {before mid now : Bool} {old between new : S} {a b : List ℕ}
+    → Goes written count faults before old mid between a → Goes written count faults mid between now new b
+    → Goes written count faults before old now new (a ++ b)
+Goes-then {S = S} {written = written} {count = count} {faults = faults} {before = before} {mid = mid} {now = now}
+    {old = old} {between = between} {new = new} {a = a} {b = b} first second = record {
+      whole = λ well. let went : mid ≡ true = still mid now second.ill well in
+          Appends-then (first.whole went) (second.whole well);
+      cut = λ began ended. by_cut mid refl began ended;
+      rose = λ began ended. by_rose mid refl began ended;
+      later = omega (arith, first.later, second.later);
+      untouched = λ ill. second.untouched (first.ill ill) ∙ first.untouched ill;
+      ill = λ ill. second.ill (first.ill ill);
+    }
+  where
+    still : (m n : Bool) → (m ≡ false → n ≡ false) → n ≡ true → m ≡ true
+    still true n h well = refl
+    still false n h well = let stopped : n ≡ false = h refl in cc
+
+    by_cut : (m : Bool) → mid ≡ m → before ≡ true → now ≡ false → AppendsPrefix written count old new (a ++ b)
+    by_cut true went began ended = AppendsPrefix-then (first.whole went) (second.cut went ended)
+    by_cut false went began ended =
+        let P : S → Type 0 = λ s. AppendsPrefix written count old s (a ++ b) in
+        subst P (sym (second.untouched went)) (AppendsPrefix-more b (first.cut began went))
+
+    by_rose : (m : Bool) → mid ≡ m → before ≡ true → now ≡ false → Rose (faults old) (faults new)
+    by_rose true went began ended =
+        let risen : Rose (faults between) (faults new) = second.rose went ended in omega (arith, risen, first.later)
+    by_rose false went began ended =
+        let risen : Rose (faults old) (faults between) = first.rose began went in omega (arith, risen, second.later)
+
+-- the same text, written otherwise
+pub Goes-as : {S : Type 0} {written : S → Option (List ℕ)} {count : S → Option ℕ} {faults : S → ℕ}
+    {before now : Bool} {old new : S} {a b : List ℕ} → a ≡ b
+    → Goes written count faults before old now new a → Goes written count faults before old now new b
+Goes-as {written = written} {count = count} {faults = faults} {before = before} {now = now} {old = old} {new = new} same goes =
+    let P : List ℕ → Type 0 = λ t. Goes written count faults before old now new t in subst P same goes
+
+-- nothing was put
+pub Goes-nothing : {S : Type 0} (written : S → Option (List ℕ)) (count : S → Option ℕ) (faults : S → ℕ) (before : Bool) (s : S)
+    → Goes written count faults before s before s []
+Goes-nothing written count faults before s = record {
+  whole = λ well. Appends-nothing written count s;
+  cut = λ began ended. AppendsPrefix-whole (Appends-nothing written count s);
+  rose = λ began ended. let clash : true ≡ false = sym began ∙ ended in cc;
+  later = omega arith;
+  untouched = λ ill. refl;
+  ill = λ ill. ill;
+}
+
+-- a printer that began well, and answers whether it ended so
+pub Goes-prints : {S E : Type 0} {written : S → Option (List ℕ)} {count : S → Option ℕ} {faults : S → ℕ}
+    {now : Bool} {old new : S} {text : List ℕ} (result : Result (Unit {0}) E)
+    → Goes written count faults true old now new text → is_ok result ≡ now
+    → Prints written count faults old new text result
+Goes-prints {now = now} (Ok x) goes answer =
+    let well : now ≡ true = sym answer in
+    record { whole = goes.whole well; cut = tt; cause = record { later = goes.later; failed = tt } }
+Goes-prints {now = now} (Err e) goes answer =
+    let ended : now ≡ false = sym answer in
+    record { whole = tt; cut = goes.cut refl ended; cause = record { later = goes.later; failed = goes.rose refl ended } }
+
+-- after a fault nothing more is put, whatever the text
+pub Goes-stopped : {S : Type 0} (written : S → Option (List ℕ)) (count : S → Option ℕ) (faults : S → ℕ) (s : S) (text : List ℕ)
+    → Goes written count faults false s false s text
+Goes-stopped written count faults s text = record {
+  whole = λ well. let clash : false ≡ true = well in cc;
+  cut = λ began ended. let clash : false ≡ true = began in cc;
+  rose = λ began ended. let clash : false ≡ true = began in cc;
+  later = omega arith;
+  untouched = λ ill. refl;
+  ill = λ ill. ill;
+}
+
+-- one more item of a list whose items go to the sink one after another: the step of a printer's loop
+pub Goes-item : {S X : Type 0} {written : S → Option (List ℕ)} {count : S → Option ℕ} {faults : S → ℕ}
+    {before mid now : Bool} {old between new : S} (text : X → List ℕ) (items : List X) (index : ℕ) (item : X)
+    → index < length items
+    → Goes written count faults before old mid between (flat_map text (take index items))
+    → Goes written count faults mid between now new (text (get_or items index item))
+    → Goes written count faults before old now new (flat_map text (take (index + 1) items))
+Goes-item text items index item below first second =
+    Goes-as (sym one_more) (Goes-then first second)
+  where
+    one_more : flat_map text (take (index + 1) items) ≡ flat_map text (take index items) ++ text (get_or items index item)
+    one_more = ap (flat_map text) (take_more items index item below)
+        ∙ flat_map-append text (take index items) (get_or items index item ∷ [])
+        ∙ ap (λ t. flat_map text (take index items) ++ t) (append-nil (text (get_or items index item)))

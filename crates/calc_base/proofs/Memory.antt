@@ -1,0 +1,49 @@
+-- What a source and a sink in memory do, over plain lists.
+use Rattle.std.proofs.Common.{◌≡◌, ℕ, ◌+◌, ◌-◌, ◌<◌, ◌≤◌, min, max, List, [], ◌∷◌, ◌++◌, length, take, drop, Option, Some, refl, sym, ◌∙◌, ap, arith, length-append}
+use Rattle.std.proofs.lemmas.List.{take-append-drop}
+use Rattle.std.proofs.Math.Seq.{take-append_seam}
+use Rattle.std.proofs.lemmas.Grind.{common_steps}
+use Rattle.calc_base.specs.Source.{Takes}
+use Rattle.calc_base.specs.Sink.{greatest_length, longer, Appends, IsPrefix, AppendsPrefix}
+use Rattle.calc_base.specs.Store.{Store, told_length}
+
+-- the first bytes of what is left, moved to the front of a buffer
+pub Takes-front : (rest later filled behind buffer : List ℕ) (piece count : ℕ)
+    → filled ≡ take count rest → later ≡ drop count rest → buffer ≡ filled ++ behind
+    → count ≡ min (length buffer) (min piece (length rest)) → 0 < length buffer → 1 ≤ piece
+    → Takes (Some rest) (Some later) buffer count
+Takes-front rest later filled behind buffer piece count front back whole number room some = record {
+  fits = omega arith;
+  given = ap Some (sym (take-append-drop count rest) ∙ parts (take count buffer) later in_front (sym back));
+  ended = λ none. nothing rest (omega arith);
+}
+  where
+    long : length filled ≡ count
+    long = grind (arith, common_steps)
+
+    in_front : take count rest ≡ take count buffer
+    in_front = sym front ∙ sym (take-append_seam filled behind) ∙ ap (λ k. take k (filled ++ behind)) long
+        ∙ ap (take count) (sym whole)
+
+    parts : (a b : List ℕ) → take count rest ≡ a → drop count rest ≡ b → take count rest ++ drop count rest ≡ a ++ b
+    parts a b e f = cc
+
+    nothing : (xs : List ℕ) → length xs ≡ 0 → xs ≡ []
+    nothing [] e = refl
+    nothing (x ∷ xs) e = cc
+
+-- a store whose bytes grew by some of the piece
+pub Store-appends : (s t : Store) (piece : List ℕ) (count : ℕ) → t.bytes ≡ s.bytes ++ take count piece
+    → AppendsPrefix (λ s. Some s.bytes) told_length s t piece
+Store-appends s t piece count grew = record {
+  front = take count piece;
+  is_prefix = record { rest = drop count piece; joined = take-append-drop count piece };
+  appends = record {
+    bytes = ap Some grew;
+    number = ap Some (number (length s.bytes) (length (take count piece)) (length t.bytes) greatest_length
+        (ap length grew ∙ length-append s.bytes (take count piece)));
+  };
+}
+  where
+    number : (n a all limit : ℕ) → all ≡ n + a → min all limit ≡ max (min n limit) (min (min n limit + a) limit)
+    number n a all limit e = omega arith

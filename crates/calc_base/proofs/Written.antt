@@ -1,0 +1,27 @@
+-- What several writes do to the bytes that a writer holds, where those are known.
+use Rattle.std.proofs.Common.{◌≡◌, ℕ, ◌+◌, ◌-◌, ◌≤◌, List, ◌++◌, length, take, drop, Option, Some, None, sym, ◌∙◌, ap, subst, arith, append_assoc, length-drop}
+use Rattle.std.proofs.Math.Seq.{take-add, take-length}
+use Rattle.std.specs.Io.KnownBytes.{Appends}
+
+-- two writes
+Appends-append : (before between after : Option (List ℕ)) (a b : List ℕ)
+    → Appends before between a → Appends between after b → Appends before after (a ++ b)
+Appends-append None between after a b first second = tt
+Appends-append (Some x) (Some y) (Some z) a b first second =
+    second ∙ ap (λ t. t ++ b) first ∙ append_assoc x a b
+Appends-append (Some x) (Some y) None a b first second = absurd second
+Appends-append (Some x) None after a b first second = absurd first
+
+-- a write of some of the bytes that were left to write
+pub Appends-more : (before between after : Option (List ℕ)) (bytes left : List ℕ) (at count : ℕ)
+    → left ≡ take (length bytes - at) (drop at bytes)
+    → Appends before between (take at bytes) → Appends between after (take count left)
+    → Appends before after (take (at + count) bytes)
+Appends-more before between after bytes left at count is_left first second =
+    subst (Appends before after) joined (Appends-append before between after (take at bytes) (take count left) first second)
+  where
+    all_left : left ≡ drop at bytes
+    all_left = is_left ∙ ap (λ n. take n (drop at bytes)) (sym (length-drop at bytes)) ∙ take-length (drop at bytes)
+
+    joined : take at bytes ++ take count left ≡ take (at + count) bytes
+    joined = ap (λ t. take at bytes ++ take count t) all_left ∙ sym (take-add at count bytes)

@@ -1,0 +1,8 @@
+use Rattle.std.proofs.Common.{◌≡◌, sym, ◌∙◌, ap, ◌++◌, take}
+use Rattle.calc_base.proofs.Memory.{Store-appends}
+use Rattle.calc_base.proofs.mem_sink.MemSinkSink.put.Goals as goal
+
+pub returns-then-listed-2-clause-err : goal.returns-then-listed-2-clause-err
+returns-then-listed-2-clause-err c =
+    let grew = rw c.unwrap.ensures at c.extend_from_slice.ensures.items in
+    rw (← c.self.view_is) (Store-appends _ _ _ c.min-fits.result grew)

@@ -1,0 +1,15 @@
+-- The exit codes.
+use Rattle.std.specs.Prelude.{ℕ}
+use Rattle.calc_base.specs.declared.status.Status.{Status}
+use Rattle.calc_base.specs.declared.status.Status.TheVariants.{Done, SomeRefused, Syntax, Range, Past, SinkFault, SourceFault, NoMemory}
+
+-- the code that the program ends with
+abbrev pub code_of : Status → ℕ
+code_of Done = 0
+code_of SomeRefused = 1
+code_of Syntax = 2
+code_of Range = 3
+code_of Past = 4
+code_of SinkFault = 5
+code_of SourceFault = 6
+code_of NoMemory = 7

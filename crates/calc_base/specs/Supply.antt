@@ -1,0 +1,25 @@
+-- A source in memory, as its contracts see it.
+use Rattle.std.specs.Prelude.{ℕ, List, length, drop, min, Bool, Result, Ok, Err, ◌==◌}
+use Rattle.std.specs.List.{list_any}
+use Rattle.calc_base.specs.Fault.{counted_up}
+
+-- the bytes that are left, how many one call gives at most, the calls that fail, and how many calls and faults there were
+pub record Supply : Type 0 where
+  pub rest : List ℕ
+  pub piece : ℕ
+  pub fails : List ℕ
+  pub calls : ℕ
+  pub failed : ℕ
+
+-- whether a call is one of those that fail
+abbrev pub is_listed : List ℕ → ℕ → Bool
+is_listed fails call = list_any (λ k. k == call) fails
+
+-- how many bytes a call gives into a buffer of that length
+abbrev pub given_count : Supply → ℕ → ℕ
+given_count s room = min room (min s.piece (length s.rest))
+
+-- a supply after a call with that answer
+abbrev pub after_take : {E : Type 0} → Supply → Result ℕ E → Supply
+after_take s (Ok count) = record s { rest = drop count s.rest; calls = counted_up s.calls }
+after_take s (Err e) = record s { calls = counted_up s.calls; failed = counted_up s.failed }

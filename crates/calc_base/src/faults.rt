@@ -1,0 +1,66 @@
+// What a call answers where memory, a source or a sink failed it.
+ghost use Rattle.std.specs.Prelude.{◌≡◌};
+ghost use Rattle.calc_base.specs.declared.faults.SumFault.TheVariants.{NoMemory as no_memory};
+
+use std::alloc::{AllocError, AllocFailed};
+use thiserror::Error;
+
+/// Memory was refused.
+#[derive(Clone, Copy, Debug, PartialEq, Eq, Hash, Error)]
+#[error("out of memory")]
+pub struct NoMemory;
+
+/// A source failed to give bytes.
+#[derive(Clone, Copy, Debug, PartialEq, Eq, Hash, Error)]
+#[error("reading failed")]
+pub struct SourceFault;
+
+/// A sink failed to take bytes.
+#[derive(Clone, Copy, Debug, PartialEq, Eq, Hash, Error)]
+#[error("writing failed")]
+pub struct SinkFault;
+
+/// Why a sum of terms is not given: a coefficient is too large, or memory was refused.
+#[derive(Clone, Copy, Debug, PartialEq, Eq, Hash, Error)]
+pub enum SumFault {
+    #[error("a coefficient is too large")]
+    Large,
+    #[error("out of memory")]
+    NoMemory,
+}
+
+impl From<AllocError> for NoMemory {
+    fn from(_: AllocError) -> Self {
+        NoMemory
+    }
+}
+
+impl<T: Drop> From<AllocFailed<T>> for NoMemory {
+    fn from(_: AllocFailed<T>) -> Self {
+        NoMemory
+    }
+}
+
+impl From<NoMemory> for SumFault {
+    ghost from_gives = { λ _ e. e ≡ no_memory };
+
+    fn from(_: NoMemory) -> Self {
+        SumFault::NoMemory
+    }
+}
+
+impl From<AllocError> for SumFault {
+    ghost from_gives = { λ _ e. e ≡ no_memory };
+
+    fn from(_: AllocError) -> Self {
+        SumFault::NoMemory
+    }
+}
+
+impl<T: Drop> From<AllocFailed<T>> for SumFault {
+    ghost from_gives = { λ _ e. e ≡ no_memory };
+
+    fn from(_: AllocFailed<T>) -> Self {
+        SumFault::NoMemory
+    }
+}

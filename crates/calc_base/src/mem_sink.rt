@@ -1,0 +1,127 @@
+// A sink into memory, which fails at chosen calls and where its room ends.
+ghost use Rattle.std.specs.Prelude.{◌≡◌, ◌≤◌, [], Some, false, IfOk, OnOk, OnErr, is_ok, is_err, refl, length as list_length, vec_capacity};
+ghost use Rattle.calc_base.specs.Fault.{HasCause};
+ghost use Rattle.calc_base.specs.Sink.{Appends, AppendsPrefix};
+ghost use Rattle.calc_base.specs.Store.{Store, told_length, fails_now, put_fails, after_put, after_finish};
+
+use crate::calls::Calls;
+use crate::{NoMemory, Sink, SinkFault};
+use std::alloc::Global;
+use std::marker::Model;
+
+/// A sink into memory, with a fixed room, that fails at chosen calls.
+#[derive(Drop)]
+pub struct MemSink {
+    bytes: Vec<u8>,
+    room: usize,
+    calls: Calls,
+    finished: bool,
+}
+
+impl Model for MemSink {
+    ghost Value = { Store };
+
+    ghost view = { λ s. record {
+      bytes = s.bytes.items;
+      room = s.room;
+      fails = s.calls.fails.items;
+      calls = s.calls.made;
+      failed = s.calls.faults;
+      finished = s.finished;
+    } };
+
+    ghost invariant = { λ s. (list_length s.bytes.items ≤ s.room) × (s.room ≤ vec_capacity s.bytes) };
+}
+
+impl MemSink {
+    /// An empty sink with room for so many bytes, which it takes now. A call of `put` or `finish` fails where its
+    /// number, from 0, is in `fails`, and a `put` also where its piece is longer than the room left.
+    pub fn new(alloc: Global, room: usize, fails: &[u64]) -> Result<MemSink, NoMemory>
+        ensures { IfOk result (λ sink. sink ≡ record {
+          bytes = [];
+          room = room;
+          fails = fails.now;
+          calls = 0;
+          failed = 0;
+          finished = false;
+        }) }
+    {
+        Ok(MemSink {
+            bytes: Vec::with_capacity(alloc, room)?,
+            room,
+            calls: Calls::new(alloc, fails)?,
+            finished: false,
+        })
+    }
+
+    /// What was written.
+    pub fn bytes(&self) -> &[u8]
+        ensures { result.now ≡ self.now.bytes }
+    {
+        &self.bytes
+    }
+
+    /// How many calls failed, up to 2^64 - 1.
+    pub fn faults(&self) -> u64
+        ensures { result ≡ self.now.failed }
+    {
+        self.calls.faults
+    }
+}
+
+impl Sink for MemSink {
+    ghost written = { λ s. Some s.bytes };
+
+    ghost length = { told_length };
+
+    ghost faults = { λ s. s.failed };
+
+    ghost settled = { λ s. s.finished };
+
+    fn put(&mut self, bytes: &[u8]) -> Result<(), SinkFault>
+        // What each sink owes.
+        ensures ok { OnOk result (Appends (λ s. Some s.bytes) told_length self.old self.new bytes.now) }
+        ensures err { OnErr result (AppendsPrefix (λ s. Some s.bytes) told_length self.old self.new bytes.now) }
+        ensures cause { HasCause self.old.failed self.new.failed result }
+        ensures settled { self.new.finished ≡ false }
+
+        // What this one does.
+        ensures fails { is_err result ≡ put_fails self.old bytes.now }
+        ensures after { self.new ≡ after_put self.old bytes.now }
+    {
+        let listed = self.calls.begin();
+        self.finished = false;
+        let room = if listed {
+            0
+        } else {
+            self.room - self.bytes.len()
+        };
+        let fits = room.min(bytes.len());
+        self.bytes.extend_from_slice(&bytes[..fits]).unwrap();
+        if listed || fits < bytes.len() {
+            self.calls.fault();
+            return Err(SinkFault);
+        }
+        Ok(())
+    }
+
+    fn finish(&mut self) -> Result<(), SinkFault>
+        // What each sink owes.
+        ensures same { Appends (λ s. Some s.bytes) told_length self.old self.new [] }
+        ensures cause { HasCause self.old.failed self.new.failed result }
+        ensures settled { self.new.finished ≡ is_ok result }
+
+        // What this one does.
+        ensures fails { is_err result ≡ fails_now self.old }
+        ensures after { self.new ≡ after_finish self.old }
+    {
+        self.finished = !self.calls.begin();
+        if !self.finished {
+            self.calls.fault();
+            return Err(SinkFault);
+        }
+        Ok(())
+    }
+
+    ghost counted = { λ s. refl };
+}

@@ -1,0 +1,37 @@
+// Where bytes go.
+ghost use Rattle.std.specs.Prelude.{◌≡◌, ℕ, List, [], Bool, false, is_ok, OnOk, OnErr, Option};
+ghost use Rattle.calc_base.specs.Fault.{HasCause};
+ghost use Rattle.calc_base.specs.Sink.{Appends, AppendsPrefix, IsCounted};
+
+use crate::SinkFault;
+
+/// A sink of bytes. It may tell what was written, or how much, and no call changes which of them it tells.
+pub trait Sink {
+    /// The bytes so far, where the sink tells them.
+    ghost written: { Self → Option (List ℕ) };
+
+    /// The number of bytes so far, or 2^128 - 1 where there are more. It is told wherever the bytes are.
+    ghost length: { Self → Option ℕ };
+
+    /// How often a call failed, up to 2^64 - 1.
+    ghost faults: { Self → ℕ };
+
+    /// Whether the last call was a `finish` that answered `Ok`.
+    ghost settled: { Self → Bool };
+
+    /// Appends the piece. At an `Err` a prefix of it was appended, and the count of faults rose.
+    fn put(&mut self, bytes: &[u8]) -> Result<(), SinkFault>
+        ensures ok { OnOk result (Appends written length self.old self.new bytes.now) }
+        ensures err { OnErr result (AppendsPrefix written length self.old self.new bytes.now) }
+        ensures cause { HasCause (faults self.old) (faults self.new) result }
+        ensures settled { settled self.new ≡ false };
+
+    /// Hands on what was put, and appends nothing. At an `Err` the count of faults rose.
+    fn finish(&mut self) -> Result<(), SinkFault>
+        ensures same { Appends written length self.old self.new [] }
+        ensures cause { HasCause (faults self.old) (faults self.new) result }
+        ensures settled { settled self.new ≡ is_ok result };
+
+    /// Where the bytes are told, so is their number.
+    ghost counted: { (s : Self) → IsCounted (written s) (length s) };
+}

@@ -1,0 +1,27 @@
+// Where bytes come from.
+ghost use Rattle.std.specs.Prelude.{◌≡◌, ◌<◌, ℕ, List, length, IfOk, OnErr, Option};
+ghost use Rattle.calc_base.specs.Fault.{HasCause};
+ghost use Rattle.calc_base.specs.Source.{Takes, Spends};
+
+use crate::SourceFault;
+
+/// A source of bytes. It may tell what is left, and no call changes whether it does.
+pub trait Source {
+    /// The bytes still to come, where the source tells them.
+    ghost left: { Self → Option (List ℕ) };
+
+    /// A number that falls by at least the bytes that are taken: a loop that takes some each time ends.
+    ghost allowance: { Self → ℕ };
+
+    /// How often a call failed, up to 2^64 - 1.
+    ghost faults: { Self → ℕ };
+
+    /// Takes the next bytes to the front of `buf`, and answers how many: 0 only at the end of the input, where it
+    /// stays. At an `Err` no byte is given, and the count of faults rose.
+    fn take(&mut self, buf: &mut [u8]) -> Result<usize, SourceFault>
+        requires { 0 < length buf.old }
+        ensures ok { IfOk result (Takes (left self.old) (left self.new) buf.new) }
+        ensures err { OnErr result (left self.new ≡ left self.old) }
+        ensures spends { Spends (allowance self.old) (allowance self.new) result }
+        ensures cause { HasCause (faults self.old) (faults self.new) result };
+}

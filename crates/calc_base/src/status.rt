@@ -1,0 +1,43 @@
+// How a command ended.
+ghost use Rattle.std.specs.Prelude.{◌≡◌};
+
+/// How a command ended, with the code that the program ends with.
+#[derive(Clone, Copy, Debug, PartialEq, Eq, Hash)]
+pub enum Status {
+    /// The text of the command was put and finished.
+    Done,
+    /// Some line of a batch was refused.
+    SomeRefused,
+    /// The words are no command.
+    Syntax,
+    /// A number or a list of the words is past a limit or out of shape.
+    Range,
+    /// A number of the words, or the answer, is too large to be held.
+    Past,
+    /// The sink failed.
+    SinkFault,
+    /// The source failed.
+    SourceFault,
+    /// Memory was refused.
+    NoMemory,
+}
+
+impl Status {
+    ghost use Rattle.calc_base.specs.Status.{code_of};
+
+    /// The code that the program ends with: 0 to 7, in the order of the statuses.
+    pub fn code(self) -> u8
+        ensures { result ≡ code_of self }
+    {
+        match self {
+            Status::Done => 0,
+            Status::SomeRefused => 1,
+            Status::Syntax => 2,
+            Status::Range => 3,
+            Status::Past => 4,
+            Status::SinkFault => 5,
+            Status::SourceFault => 6,
+            Status::NoMemory => 7,
+        }
+    }
+}

@@ -1,0 +1,131 @@
+// The source over the program's input.
+ghost use Rattle.std.specs.Prelude.{◌≡◌, ◌+◌, ◌^◌, ◌<◌, None, length, IfOk, OnErr, IsErr, is_err};
+ghost use Rattle.std.specs.Io.KnownBytes.{ReadConsumes};
+ghost use Rattle.calc_base.specs.Fault.{HasCause};
+ghost use Rattle.calc_base.specs.Source.{Takes, Spends};
+ghost use Rattle.calc_base.specs.Store.{failed_after};
+ghost use Rattle.calc_base.specs.Edge.{Intake};
+
+use crate::{Source, SourceFault};
+use std::io::Read;
+use std::marker::Model;
+
+const ALLOWANCE: u64 = 1 << 62;
+
+/// The source over the program's input, at any reader. It tells nothing of what is left, and gives 2^62 bytes at most.
+#[derive(Drop)]
+pub struct StdIn<R> {
+    reader: R,
+    allowance: u64,
+    faults: u64,
+}
+
+impl<R> Model for StdIn<R> {
+    ghost Value = { Intake R };
+
+    ghost view = { λ s. record { reader = s.reader; allowance = s.allowance; failed = s.faults } };
+}
+
+impl<R> StdIn<R> {
+    /// A source over the reader.
+    pub fn new(reader: R) -> StdIn<R>
+        ensures { result ≡ record { reader = reader; allowance = 2 ^ 62; failed = 0 } }
+    {
+        StdIn {
+            reader,
+            allowance: ALLOWANCE,
+            faults: 0,
+        }
+    }
+}
+
+impl<R: Read> Source for StdIn<R> {
+    ghost left = { λ _. None };
+
+    ghost allowance = { λ s. s.allowance };
+
+    ghost faults = { λ s. s.failed };
+
+    /// Reads once. A read that fails is the fault, and so is a call with no allowance left.
+    fn take(&mut self, buf: &mut [u8]) -> Result<usize, SourceFault>
+        requires { 0 < length buf.old }
+
+        // What each source owes.
+        ensures ok { IfOk result (Takes None None buf.new) }
+        ensures spends { Spends self.old.allowance self.new.allowance result }
+        ensures cause { HasCause self.old.failed self.new.failed result }
+
+        // What this one does.
+        ensures bytes { ReadConsumes (R.remaining self.old.reader) (R.remaining self.new.reader) result buf.new }
+        ensures spent { IfOk result (λ count. self.new.allowance + count ≡ self.old.allowance) }
+        ensures unspent { OnErr result (self.new.allowance ≡ self.old.allowance) }
+        ensures exhausted { self.old.allowance ≡ 0 → IsErr result }
+        ensures counted { self.new.failed ≡ failed_after self.old.failed (is_err result) }
+    {
+        if self.allowance > 0 {
+            let most = self.allowance.min(buf.len() as u64) as usize;
+            if let Ok(count) = self.reader.read(&mut buf[..most]) {
+                self.allowance -= count as u64;
+                return Ok(count);
+            }
+        }
+        self.faults = self.faults.saturating_add(1);
+        Err(SourceFault)
+    }
+}
+
+#[cfg(test)]
+mod tests {
+    use super::*;
+    use std::io;
+    use std::io::ErrorKind;
+    use std::test::Fail;
+
+    // Gives a byte, fails, gives a byte, and is at its end.
+    #[derive(Drop)]
+    struct Faulty {
+        reads: u64,
+    }
+
+    impl Read for Faulty {
+        fn read(&mut self, buf: &mut [u8]) -> io::Result<usize> {
+            self.reads = self.reads.saturating_add(1);
+            if self.reads == 2 {
+                return Err(io::Error::from(ErrorKind::Other));
+            }
+            if self.reads > 3 || buf.is_empty() {
+                return Ok(0);
+            }
+            buf[0] = b'a' + self.reads as u8;
+            Ok(1)
+        }
+    }
+
+    #[test]
+    fn a_failing_read_is_a_fault_and_loses_no_byte(rt: HostRuntime) -> Result<(), Fail> {
+        let mut source = StdIn::new(Faulty { reads: 0 });
+        let mut buf = [0; 4];
+        assert_eq!(rt; (source.take(&mut buf)?, buf[0]), (1, b'b'));
+        assert_eq!(rt; source.take(&mut buf), Err(SourceFault));
+        assert_eq!(rt; source.faults, 1);
+        assert_eq!(rt; (source.take(&mut buf)?, buf[0]), (1, b'd'));
+        assert_eq!(rt; source.take(&mut buf)?, 0);
+        assert_eq!(rt; source.faults, 1);
+        assert_eq!(rt; source.allowance, ALLOWANCE - 2);
+        Ok(())
+    }
+
+    #[test]
+    fn with_no_allowance_left_a_call_is_a_fault(rt: HostRuntime) -> Result<(), Fail> {
+        let mut source = StdIn {
+            reader: b"abc".as_slice(),
+            allowance: 2,
+            faults: 0,
+        };
+        let mut buf = [0; 4];
+        assert_eq!(rt; source.take(&mut buf)?, 2);
+        assert_eq!(rt; source.take(&mut buf), Err(SourceFault));
+        assert_eq!(rt; source.faults, 1);
+        Ok(())
+    }
+}

@@ -1,0 +1,183 @@
+// The sink over the program's output.
+ghost use Rattle.std.specs.Prelude.{◌≡◌, [], None, false, OnOk, is_ok, is_err, OnErr};
+ghost use Rattle.std.specs.Bool.{OnTrue};
+ghost use Rattle.std.specs.Io.KnownBytes.{Keeps};
+ghost use Rattle.std.specs.Io.KnownBytes.{Appends as WriterAppends};
+ghost use Rattle.calc_base.specs.Fault.{HasCause};
+ghost use Rattle.calc_base.specs.Sink.{Appends, AppendsPrefix};
+ghost use Rattle.calc_base.specs.Store.{failed_after};
+ghost use Rattle.calc_base.specs.Edge.{Outlet};
+
+use crate::{Sink, SinkFault};
+use std::io::Write;
+use std::marker::Model;
+
+/// The sink over the program's output, at any writer. It tells nothing of what was written.
+#[derive(Drop)]
+pub struct StdOut<W> {
+    writer: W,
+    faults: u64,
+    finished: bool,
+}
+
+impl<W> Model for StdOut<W> {
+    ghost Value = { Outlet W };
+
+    ghost view = { λ s. record { writer = s.writer; failed = s.faults; finished = s.finished } };
+}
+
+impl<W> StdOut<W> {
+    /// A sink over the writer.
+    pub fn new(writer: W) -> StdOut<W>
+        ensures { result ≡ record { writer = writer; failed = 0; finished = false } }
+    {
+        StdOut {
+            writer,
+            faults: 0,
+            finished: false,
+        }
+    }
+}
+
+impl<W: Write> Sink for StdOut<W> {
+    ghost written = { λ _. None };
+
+    ghost length = { λ _. None };
+
+    ghost faults = { λ s. s.failed };
+
+    ghost settled = { λ s. s.finished };
+
+    /// Writes until all is written. A write that fails, or takes nothing of what is left, is the fault.
+    fn put(&mut self, bytes: &[u8]) -> Result<(), SinkFault>
+        // What each sink owes.
+        ensures ok { OnOk result (Appends (λ _. None) (λ _. None) self.old self.new bytes.now) }
+        ensures err { OnErr result (AppendsPrefix (λ _. None) (λ _. None) self.old self.new bytes.now) }
+        ensures cause { HasCause self.old.failed self.new.failed result }
+        ensures settled { self.new.finished ≡ false }
+
+        // What this one does.
+        ensures bytes { OnOk result (WriterAppends (W.contents self.old.writer) (W.contents self.new.writer) bytes.now) }
+        ensures counted { self.new.failed ≡ failed_after self.old.failed (is_err result) }
+    {
+        self.finished = false;
+        if write_whole(&mut self.writer, bytes) {
+            return Ok(());
+        }
+        self.faults = self.faults.saturating_add(1);
+        Err(SinkFault)
+    }
+
+    /// Flushes. A flush that fails is the fault.
+    fn finish(&mut self) -> Result<(), SinkFault>
+        // What each sink owes.
+        ensures same { Appends (λ _. None) (λ _. None) self.old self.new [] }
+        ensures cause { HasCause self.old.failed self.new.failed result }
+        ensures settled { self.new.finished ≡ is_ok result }
+
+        // What this one does.
+        ensures bytes { Keeps (W.contents self.old.writer) (W.contents self.new.writer) }
+        ensures counted { self.new.failed ≡ failed_after self.old.failed (is_err result) }
+    {
+        self.finished = self.writer.flush().is_ok();
+        if self.finished {
+            return Ok(());
+        }
+        self.faults = self.faults.saturating_add(1);
+        Err(SinkFault)
+    }
+
+    ghost counted = { λ _. tt };
+}
+
+/// Writes all of the bytes, and answers whether each write took some of what was left.
+fn write_whole<W: Write>(writer: &mut W, bytes: &[u8]) -> bool
+    ensures { OnTrue result (WriterAppends (W.contents writer.old) (W.contents writer.new) bytes.now) }
+{
+    let mut at = 0;
+    while at < bytes.len() {
+        match writer.write(&bytes[at..]) {
+            Ok(count) if count > 0 => at += count,
+            _ => return false,
+        }
+    }
+    true
+}
+
+#[cfg(test)]
+mod tests {
+    use super::*;
+    use std::io;
+    use std::io::ErrorKind;
+    use std::test::Fail;
+
+    // Takes a byte at a time, fails at one write, and takes nothing at another.
+    #[derive(Drop)]
+    struct Narrow {
+        taken: Vec<u8>,
+        writes: u64,
+        failing: u64,
+        empty: u64,
+    }
+
+    impl Write for Narrow {
+        fn write(&mut self, buf: &[u8]) -> io::Result<usize> {
+            let write = self.writes;
+            self.writes = self.writes.saturating_add(1);
+            if write == self.failing {
+                return Err(io::Error::from(ErrorKind::Other));
+            }
+            if write == self.empty {
+                return Ok(0);
+            }
+            match buf {
+                [] => Ok(0),
+                [first, ..] => {
+                    self.taken.push(*first)?;
+                    Ok(1)
+                }
+            }
+        }
+
+        fn flush(&mut self) -> io::Result<()> {
+            if self.writes == self.failing {
+                return Err(io::Error::from(ErrorKind::Other));
+            }
+            Ok(())
+        }
+    }
+
+    #[test]
+    fn a_piece_is_written_until_a_write_fails_or_takes_nothing(
+        rt: HostRuntime,
+    ) -> Result<(), Fail> {
+        let mut sink = StdOut::new(Narrow {
+            taken: Vec::new(rt.alloc()),
+            writes: 0,
+            failing: 4,
+            empty: 6,
+        });
+        sink.put(b"abc")?;
+        sink.put(b"")?;
+        assert_eq!(rt; sink.put(b"de"), Err(SinkFault));
+        assert_eq!(rt; sink.put(b"fg"), Err(SinkFault));
+        assert_eq!(rt; sink.faults, 2);
+        assert_eq!(rt; sink.writer.taken.as_slice(), b"abcdf".as_slice());
+        sink.finish()?;
+        assert!(rt; sink.finished);
+        Ok(())
+    }
+
+    #[test]
+    fn a_flush_that_fails_is_a_fault(rt: HostRuntime) {
+        let mut sink = StdOut::new(Narrow {
+            taken: Vec::new(rt.alloc()),
+            writes: 0,
+            failing: 0,
+            empty: 0,
+        });
+        assert_eq!(rt; sink.finish(), Err(SinkFault));
+        assert_eq!(rt; sink.faults, 1);
+        assert!(rt; !sink.finished);
+    }
+}

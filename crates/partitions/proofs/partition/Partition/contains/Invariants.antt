@@ -1,0 +1,6 @@
+-- Each row before this one is no longer inside than outside.
+use Rattle.std.proofs.Common.{ℕ, ◌<◌, ◌≤◌, slice_index}
+use Rattle.partitions.proofs.partition.Partition.contains.Given as goal
+
+abbrev pub invariant-loop-row : goal.invariant-loop-row
+invariant-loop-row l = (k : ℕ) → k < l.row → slice_index l.part-items k ≤ slice_index l.outer k

@@ -1,0 +1,28 @@
+// Why a list of numbers is not taken as a partition.
+ghost use Rattle.std.specs.Prelude.{◌≡◌};
+ghost use Rattle.partitions.specs.declared.fault.PartFault.TheVariants.{NoMemory as no_memory};
+
+use std::alloc::AllocError;
+use thiserror::Error;
+
+/// Why a list of numbers is not taken as a partition.
+#[derive(Clone, Copy, Debug, PartialEq, Eq, Hash, Error)]
+pub enum PartFault {
+    #[error("more than 512 parts")]
+    TooMany,
+    /// The number at the place `at`, counted from 0, is greater than the one before it.
+    #[error("the number at place {at} is greater than the one before it")]
+    Rising { at: usize },
+    #[error("more than 4096 cells")]
+    TooBig,
+    #[error("out of memory")]
+    NoMemory,
+}
+
+impl From<AllocError> for PartFault {
+    ghost from_gives = { λ _ e. e ≡ no_memory };
+
+    fn from(_: AllocError) -> Self {
+        PartFault::NoMemory
+    }
+}

@@ -1,0 +1,206 @@
+// The type of a partition.
+ghost use Rattle.std.specs.Prelude.{◌≡◌, ℕ, ◌+◌, ◌-◌, ◌*◌, ◌<◌, ◌≤◌, ◌↔◌, length, take, slice_index, nat_eq, IsTrue, IsOk, IfOk, OnOk, IsErrOf, MatchOption};
+ghost use Rattle.std.specs.Cmp.{partial_equiv_from_equiv};
+ghost use Rattle.std.specs.Cmp.Lexicographic.{pointwise, nat_list_eq_equiv};
+ghost use Rattle.std.specs.Cmp.Rules.{hashing};
+ghost use Rattle.std.specs.Hash as fed;
+ghost use Rattle.std.proofs.Common.{rules};
+ghost use Rattle.sym_model.specs.Partition.{Falls, Holds, part, rows, size, without_last_zeros};
+ghost use Rattle.sym_model.specs.PrintedOrder.{printed_order};
+ghost use Rattle.partitions.specs.Limits.{IsWithinLimits, RisesFirstAt};
+
+use crate::PartFault;
+use calc_base::NoMemory;
+use smallvec::SmallVec;
+use std::alloc::Global;
+use std::cmp::Ordering;
+use std::hash::{Hash, Hasher};
+use std::marker::Model;
+
+// The most rows, and the most cells, of a partition.
+const MAX_ROWS: usize = 512;
+
+const MAX_CELLS: u32 = 4096;
+
+/// A partition: a weakly falling list of positive numbers, its parts. It has at most 512 parts and at most 4,096 cells.
+/// Up to 16 parts are kept with no memory taken.
+#[derive(Debug, Drop)]
+pub struct Partition {
+    parts: SmallVec<u16, 16>,
+}
+
+impl Model for Partition {
+    ghost use Rattle.std.specs.Prelude.{ℕ, List};
+    ghost use Rattle.partitions.specs.Limits.{IsWithinLimits};
+
+    ghost Value = { List ℕ };
+
+    ghost view = { λ p. p.parts.items };
+
+    ghost invariant = { λ p. IsWithinLimits p.parts.items };
+}
+
+impl Partition {
+    /// The partition with these parts, where zeros at the end are dropped.
+    ///
+    /// It is refused as `TooMany` where more than 512 numbers are left, else as `Rising` at the first place, counted
+    /// from 0, with a number greater than the one before it, else as `TooBig` where their sum is past 4,096.
+    /// At most 16 parts take no memory.
+    pub fn from_parts(alloc: Global, parts: &[u16]) -> Result<Partition, PartFault>
+        ensures ok { IfOk result (λ p. p ≡ without_last_zeros parts.now) }
+        ensures limits { OnOk result (IsWithinLimits (without_last_zeros parts.now)) }
+
+        ensures too_many { IsErrOf result PartFault.TooMany
+            ↔ (512 < rows (without_last_zeros parts.now)) }
+        ensures rising { (at : ℕ) → IsErrOf result (PartFault.Rising at)
+            ↔ ((rows (without_last_zeros parts.now) ≤ 512) × RisesFirstAt (without_last_zeros parts.now) at) }
+        ensures too_big { IsErrOf result PartFault.TooBig
+            ↔ ((rows (without_last_zeros parts.now) ≤ 512) × Falls (without_last_zeros parts.now)
+            × (4096 < size (without_last_zeros parts.now))) }
+        ensures inline { rows (without_last_zeros parts.now) ≤ 16 → ¬ IsErrOf result PartFault.NoMemory }
+    {
+        let kept = kept_numbers(parts);
+        if kept.len() > MAX_ROWS {
+            return Err(PartFault::TooMany);
+        }
+        if let Some(at) = first_rise(kept) {
+            return Err(PartFault::Rising { at });
+        }
+        if sum_of(kept) > MAX_CELLS {
+            return Err(PartFault::TooBig);
+        }
+        Ok(Partition {
+            parts: SmallVec::from_slice(alloc, kept)?,
+        })
+    }
+
+    /// The parts.
+    pub fn parts(&self) -> &[u16]
+        ensures value { result.now ≡ self.now }
+        ensures limits { IsWithinLimits self.now }
+    {
+        self.parts.as_slice()
+    }
+
+    /// The size: the sum of the parts, which is the number of cells.
+    pub fn size(&self) -> u16
+        ensures value { result ≡ size self.now }
+        ensures limits { IsWithinLimits self.now }
+    {
+        sum_of(self.parts()) as u16
+    }
+
+    /// The number of rows, which is the number of parts.
+    pub fn rows(&self) -> u16
+        ensures value { result ≡ rows self.now }
+        ensures limits { IsWithinLimits self.now }
+    {
+        self.parts().len() as u16
+    }
+
+    /// Part `i`, counted from 1; 0 past the last row.
+    pub fn part(&self, i: u16) -> u16
+        requires { 1 ≤ i }
+        ensures value { result ≡ part self.now i }
+        ensures limits { IsWithinLimits self.now }
+    {
+        match self.parts().get(usize::from(i) - 1) {
+            Some(part) => *part,
+            None => 0,
+        }
+    }
+
+    /// Whether the shape of `inner` lies inside this one: no part of `inner` is greater than the part of the same row.
+    pub fn contains(&self, inner: &Partition) -> bool
+        ensures { IsTrue result ↔ Holds self.now inner.now }
+    {
+        let outer = self.parts();
+        for (row, part) in inner.parts().iter().enumerate() {
+            if outer.get(row).copied().unwrap_or(0) < *part {
+                return false;
+            }
+        }
+        true
+    }
+
+    /// How this partition and `other` stand in print: the greater size first, then falling lexicographic order.
+    /// `Equal` only for equal partitions.
+    pub fn cmp_printed(&self, other: &Partition) -> Ordering
+        ensures value { result ≡ printed_order self.now other.now }
+        ensures equal { result ≡ Ordering.Equal → self.now ≡ other.now }
+    {
+        other
+            .size()
+            .cmp(&self.size())
+            .then(other.parts().cmp(&self.parts()))
+    }
+
+    /// An equal partition. At most 16 parts take no memory.
+    pub fn copy(&self) -> Result<Partition, NoMemory>
+        ensures ok { IfOk result (λ copy. copy ≡ self.now) }
+        ensures inline { rows self.now ≤ 16 → IsOk result }
+    {
+        Ok(Partition {
+            parts: SmallVec::from_slice(*self.parts.allocator(), self.parts.as_slice())?,
+        })
+    }
+}
+
+impl PartialEq for Partition {
+    ghost eq = { pointwise nat_eq };
+
+    ghost laws = { partial_equiv_from_equiv nat_list_eq_equiv };
+
+    fn eq(&self, other: &Partition) -> bool {
+        self.parts() == other.parts()
+    }
+}
+
+impl Eq for Partition {
+    ghost laws = { nat_list_eq_equiv };
+}
+
+impl Hash for Partition {
+    ghost hash_input = { fed.slice fed.u16 };
+
+    ghost respects_eq = { Prim.search (hashing, rules) };
+
+    fn hash<H: Hasher>(&self, state: &mut H) {
+        self.parts().hash(state);
+    }
+}
+
+// The numbers without the zeros at their end.
+fn kept_numbers(numbers: &[u16]) -> &[u16]
+    ensures { result.now ≡ without_last_zeros numbers.now }
+{
+    let mut len = numbers.len();
+    while len > 0 && numbers[len - 1] == 0 {
+        len -= 1;
+    }
+    &numbers[..len]
+}
+
+// The first place with a number greater than the one before it.
+fn first_rise(numbers: &[u16]) -> Option<usize>
+    ensures { MatchOption result (Falls numbers.now) (RisesFirstAt numbers.now) }
+{
+    for at in 1..numbers.len() {
+        if numbers[at] > numbers[at - 1] {
+            return Some(at);
+        }
+    }
+    None
+}
+
+// The sum of the numbers.
+fn sum_of(numbers: &[u16]) -> u32
+    requires { length numbers.now ≤ 512 }
+    ensures { result ≡ size numbers.now }
+{
+    let mut sum: u32 = 0;
+    for number in numbers {
+        sum += u32::from(*number);
+    }
+    sum
+}

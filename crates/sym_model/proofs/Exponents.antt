@@ -1,0 +1,186 @@
+-- Exponent lists: `same` decides their equality, `join` is their sum, `resize` cuts and pads them.
+use Rattle.std.proofs.Common.{◌≡◌, ℕ, zero, suc, ◌+◌, ◌≤◌, max, ◌⊎◌, Bool, true, false, ◌&&◌, ◌==◌, eqb, List, [], ◌∷◌, length, replicate, sym, ◌∙◌, ap, ap₂, subst, refl, inl, inr, true≢false, arith, eqb-true, eq-eqb, add-zero, add_comm, add_assoc, add_left_cancel, eqb→eq}
+use Rattle.std.proofs.lemmas.Bool.{and_parts, and_from, cases_Bool, false_from_ne_true, both_ways}
+use Rattle.sym_model.specs.Polynomial.{same, join, resize, all_zero, fits_in, no_exponents}
+
+-- two tests that are true together are one test
+pub tests_agree : (x y : Bool) → (x ≡ true → y ≡ true) → (y ≡ true → x ≡ true) → x ≡ y
+tests_agree true y f g = sym (f refl)
+tests_agree false true f g = g refl
+tests_agree false false f g = refl
+
+-- ---- same
+
+pub same_refl : (α : List ℕ) → same α α ≡ true
+same_refl [] = refl
+same_refl (a ∷ α) = and_from (a == a) (same α α) (eq-eqb a a refl) (same_refl α)
+
+pub same_true : (α β : List ℕ) → same α β ≡ true → α ≡ β
+same_true [] [] e = refl
+same_true [] (b ∷ β) e = absurd (cc)
+same_true (a ∷ α) [] e = absurd (cc)
+same_true (a ∷ α) (b ∷ β) e = let p = and_parts (a == b) (same α β) e in ap₂ ◌∷◌ (eqb-true a b p.0) (same_true α β p.1)
+
+pub same_from : (α β : List ℕ) → α ≡ β → same α β ≡ true
+same_from α β e = subst (λ γ. same α γ ≡ true) e (same_refl α)
+
+pub same_false : (α β : List ℕ) → same α β ≡ false → α ≡ β → ⊥
+same_false α β e d = both_ways (same α β) e (same_from α β d)
+
+pub same_apart : (α β : List ℕ) → (α ≡ β → ⊥) → same α β ≡ false
+same_apart α β h = false_from_ne_true (same α β) (λ e. h (same_true α β e))
+
+-- two exponent lists are equal, or they are not
+pub same_or_not : (α β : List ℕ) → (α ≡ β) ⊎ (α ≡ β → ⊥)
+same_or_not α β = elim (cases_Bool (same α β)) [ inl e ↦ inl (same_true α β e) | inr e ↦ inr (same_false α β e) ]
+
+pub same_sym : (α β : List ℕ) → same α β ≡ same β α
+same_sym α β = tests_agree (same α β) (same β α) (λ e. same_from β α (sym (same_true α β e))) (λ e. same_from α β (sym (same_true β α e)))
+
+-- ---- join
+
+pub join-nil : (α : List ℕ) → join α [] ≡ α
+join-nil [] = refl
+join-nil (a ∷ α) = refl
+
+pub join_comm : (α β : List ℕ) → join α β ≡ join β α
+join_comm [] β = sym (join-nil β)
+join_comm (a ∷ α) [] = refl
+join_comm (a ∷ α) (b ∷ β) = ap₂ ◌∷◌ (add_comm a b) (join_comm α β)
+
+pub join_assoc : (α β γ : List ℕ) → join (join α β) γ ≡ join α (join β γ)
+join_assoc [] β γ = refl
+join_assoc (a ∷ α) [] γ = refl
+join_assoc (a ∷ α) (b ∷ β) [] = refl
+join_assoc (a ∷ α) (b ∷ β) (c ∷ γ) = ap₂ ◌∷◌ (add_assoc a b c) (join_assoc α β γ)
+
+pub join_left_comm : (α β γ : List ℕ) → join α (join β γ) ≡ join β (join α γ)
+join_left_comm α β γ = sym (join_assoc α β γ) ∙ ap (λ δ. join δ γ) (join_comm α β) ∙ join_assoc β α γ
+
+pub length-join : (α β : List ℕ) → length (join α β) ≡ max (length α) (length β)
+length-join [] β = omega arith
+length-join (a ∷ α) [] = omega arith
+length-join (a ∷ α) (b ∷ β) = let e = length-join α β in omega arith
+
+pub length-join_same : (n : ℕ) (α β : List ℕ) → length α ≡ n → length β ≡ n → length (join α β) ≡ n
+length-join_same n α β d e = omega (arith, length-join α β)
+
+-- the exponents of 1 change nothing
+pub join_zeros : (n : ℕ) (α : List ℕ) → n ≤ length α → join (replicate n 0) α ≡ α
+join_zeros zero α h = refl
+join_zeros (suc n) [] h = absurd (omega arith)
+join_zeros (suc n) (a ∷ α) h = ap₂ ◌∷◌ (let e : 0 + a ≡ a = omega arith in e) (join_zeros n α (omega arith))
+
+pub join_cancel_left : (α β γ : List ℕ) → length β ≡ length γ → join α β ≡ join α γ → β ≡ γ
+join_cancel_left [] β γ l e = e
+join_cancel_left (a ∷ α) [] [] l e = refl
+join_cancel_left (a ∷ α) [] (c ∷ γ) l e = absurd (omega arith)
+join_cancel_left (a ∷ α) (b ∷ β) [] l e = absurd (omega arith)
+join_cancel_left (a ∷ α) (b ∷ β) (c ∷ γ) l e =
+    let h : a + b ≡ a + c = cc in
+    let t : join α β ≡ join α γ = cc in
+    ap₂ ◌∷◌ (omega arith) (join_cancel_left α β γ (omega arith) t)
+
+pub join_cancel_right : (α β γ : List ℕ) → length α ≡ length β → join α γ ≡ join β γ → α ≡ β
+join_cancel_right α β γ l e = join_cancel_left γ α β l (join_comm γ α ∙ e ∙ join_comm β γ)
+
+-- ---- resize, all_zero and fits_in
+
+pub length-resize : (n : ℕ) (α : List ℕ) → length (resize n α) ≡ n
+length-resize zero α = refl
+length-resize (suc n) [] = ap suc (length-resize n [])
+length-resize (suc n) (a ∷ α) = ap suc (length-resize n α)
+
+pub resize_same : (n : ℕ) (α : List ℕ) → length α ≡ n → resize n α ≡ α
+resize_same zero [] e = refl
+resize_same zero (a ∷ α) e = absurd (omega arith)
+resize_same (suc n) [] e = absurd (omega arith)
+resize_same (suc n) (a ∷ α) e = ap (λ β. a ∷ β) (resize_same n α (omega arith))
+
+pub resize-nil : (n : ℕ) → resize n [] ≡ replicate n 0
+resize-nil zero = refl
+resize-nil (suc n) = ap (λ β. 0 ∷ β) (resize-nil n)
+
+pub resize_zeros : (n k : ℕ) → resize n (replicate k 0) ≡ replicate n 0
+resize_zeros zero k = refl
+resize_zeros (suc n) zero = resize-nil (suc n)
+resize_zeros (suc n) (suc k) = ap (λ β. 0 ∷ β) (resize_zeros n k)
+
+pub resize-join : (n : ℕ) (α β : List ℕ) → resize n (join α β) ≡ join (resize n α) (resize n β)
+resize-join zero α β = refl
+resize-join (suc n) [] [] = ap₂ ◌∷◌ refl (resize-join n [] [])
+resize-join (suc n) [] (b ∷ β) = ap₂ ◌∷◌ (let e : b ≡ 0 + b = omega arith in e) (resize-join n [] β)
+resize-join (suc n) (a ∷ α) [] = ap₂ ◌∷◌ (sym (add-zero a)) (ap (resize n) (sym (join-nil α)) ∙ resize-join n α [])
+resize-join (suc n) (a ∷ α) (b ∷ β) = ap₂ ◌∷◌ refl (resize-join n α β)
+
+pub resize-resize : (k n : ℕ) (α : List ℕ) → k ≤ n → resize k (resize n α) ≡ resize k α
+resize-resize zero n α h = refl
+resize-resize (suc k) zero α h = absurd (omega arith)
+resize-resize (suc k) (suc n) [] h = ap (λ β. 0 ∷ β) (resize-resize k n [] (omega arith))
+resize-resize (suc k) (suc n) (a ∷ α) h = ap (λ β. a ∷ β) (resize-resize k n α (omega arith))
+
+zero_sum : (a b : ℕ) → (a + b == 0) ≡ ((a == 0) && (b == 0))
+zero_sum a b =
+    tests_agree
+      (a + b == 0)
+      ((a == 0) && (b == 0))
+      (λ e. let d = eqb-true (a + b) 0 e in and_from (a == 0) (b == 0) (eq-eqb a 0 (omega arith)) (eq-eqb b 0 (omega arith)))
+      (λ e. let p = and_parts (a == 0) (b == 0) e in let c = eqb-true a 0 p.0 in let d = eqb-true b 0 p.1 in eq-eqb (a + b) 0 (omega arith))
+
+and_exchange : (p q r s : Bool) → ((p && q) && (r && s)) ≡ ((p && r) && (q && s))
+and_exchange true true r s = refl
+and_exchange true false true s = refl
+and_exchange true false false s = refl
+and_exchange false q r s = refl
+
+and_true : (p : Bool) → (p && true) ≡ p
+and_true true = refl
+and_true false = refl
+
+pub all_zero-join : (α β : List ℕ) → all_zero (join α β) ≡ (all_zero α && all_zero β)
+all_zero-join [] β = refl
+all_zero-join (a ∷ α) [] = sym (and_true (all_zero (a ∷ α)))
+all_zero-join (a ∷ α) (b ∷ β) = ap₂ ◌&&◌ (zero_sum a b) (all_zero-join α β) ∙ and_exchange (a == 0) (b == 0) (all_zero α) (all_zero β)
+
+pub fits_in-join : (n : ℕ) (α β : List ℕ) → fits_in n (join α β) ≡ (fits_in n α && fits_in n β)
+fits_in-join zero α β = all_zero-join α β
+fits_in-join (suc n) [] β = refl
+fits_in-join (suc n) (a ∷ α) [] = sym (and_true (fits_in n α))
+fits_in-join (suc n) (a ∷ α) (b ∷ β) = fits_in-join n α β
+
+pub all_zero_zeros : (k : ℕ) → all_zero (replicate k 0) ≡ true
+all_zero_zeros zero = refl
+all_zero_zeros (suc k) = all_zero_zeros k
+
+pub fits_in_zeros : (n k : ℕ) → fits_in n (replicate k 0) ≡ true
+fits_in_zeros zero k = all_zero_zeros k
+fits_in_zeros (suc n) zero = refl
+fits_in_zeros (suc n) (suc k) = fits_in_zeros n k
+
+-- a list of at most n places has no exponent past place n
+pub fits_in_length : (n : ℕ) (α : List ℕ) → length α ≤ n → fits_in n α ≡ true
+fits_in_length zero [] h = refl
+fits_in_length zero (a ∷ α) h = absurd (omega arith)
+fits_in_length (suc n) [] h = refl
+fits_in_length (suc n) (a ∷ α) h = fits_in_length n α (omega arith)
+
+and_left_comm : (p q r : Bool) → (p && (q && r)) ≡ (q && (p && r))
+and_left_comm true true r = refl
+and_left_comm true false r = refl
+and_left_comm false true r = refl
+and_left_comm false false r = refl
+
+fits_in_padded : (k n : ℕ) → fits_in k (resize n []) ≡ true
+fits_in_padded k n = ap (fits_in k) (resize-nil n) ∙ fits_in_zeros k n
+
+all_zero-resize : (n : ℕ) (α : List ℕ) → (fits_in n α && all_zero (resize n α)) ≡ all_zero α
+all_zero-resize zero α = and_true (all_zero α)
+all_zero-resize (suc n) [] = fits_in_padded 0 n
+all_zero-resize (suc n) (a ∷ α) = and_left_comm (fits_in n α) (a == 0) (all_zero (resize n α)) ∙ ap (λ b. (a == 0) && b) (all_zero-resize n α)
+
+-- what fits in k places fits in n, and is seen there
+pub fits_in-resize : (k n : ℕ) (α : List ℕ) → k ≤ n → (fits_in n α && fits_in k (resize n α)) ≡ fits_in k α
+fits_in-resize zero n α h = all_zero-resize n α
+fits_in-resize (suc k) zero α h = absurd (omega arith)
+fits_in-resize (suc k) (suc n) [] h = fits_in_padded k n
+fits_in-resize (suc k) (suc n) (a ∷ α) h = fits_in-resize k n α (omega arith)

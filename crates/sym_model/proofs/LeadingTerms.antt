@@ -1,0 +1,171 @@
+-- The lexicographic order of exponent lists, and leading monomials of products: at the sum of two
+-- leading monomials a product has the product of their coefficients, so a factor that leads with 1 or -1 cancels.
+use Rattle.std.proofs.Common.{◌≡◌, ℕ, zero, suc, ◌+◌, ◌≤◌, ◌<◌, ◌⊎◌, Bool, true, false, cond, not, List, [], ◌∷◌, length, sym, ◌∙◌, ap, ap₂, subst, refl, inl, inr, arith, ℤ, pos, ◌+ℤ◌, ◌*ℤ◌, neg_ℤ}
+use Rattle.std.proofs.lemmas.Bool.{cases_eq, cases_Bool, cases_order}
+use Rattle.std.proofs.lemmas.Int.{ints}
+use Rattle.sym_model.specs.Sum.{total, select, Among}
+use Rattle.sym_model.specs.Polynomial.{Term, Poly, same, coefficient, Same, In, nothing, join, plus, negate, times, pair}
+use Rattle.sym_model.specs.Leading.{Above, IsNoneAbove, Leads}
+use Rattle.sym_model.proofs.Ring.{ring, one-product, product-one}
+use Rattle.sym_model.proofs.Sums.{total_none}
+use Rattle.sym_model.proofs.Exponents.{tests_agree, same_refl, same_true, same_from, same_apart, same_or_not, length-join_same, join_cancel_left, join_comm}
+use Rattle.sym_model.proofs.Polynomials.{at_only, coefficient_pair, pair_agree, pair_factor, pair_ext, pair_zero, pair_times, others, others_there, others_elsewhere, length_others, Same_refl, Same_trans, Same_sym, times_respects, In_select, In_times, In_plus, In_negate, coefficient_outside, coefficient_plus, coefficient_negate}
+use lib.IntN.{*ℤ-zero, zero-*ℤ, *ℤ_comm}
+
+-- ---- the lexicographic order
+
+pub Above_irrefl : (α : List ℕ) → Above α α → ⊥
+Above_irrefl [] h = h
+Above_irrefl (a ∷ α) (inl h) = absurd (omega arith)
+Above_irrefl (a ∷ α) (inr h) = Above_irrefl α h.1
+
+pub Above_trans : (α β γ : List ℕ) → Above α β → Above β γ → Above α γ
+Above_trans [] β γ h k = absurd h
+Above_trans (a ∷ α) [] γ h k = absurd k
+Above_trans (a ∷ α) (b ∷ β) [] h k = tt
+Above_trans (a ∷ α) (b ∷ β) (c ∷ γ) (inl h) (inl k) = inl (omega arith)
+Above_trans (a ∷ α) (b ∷ β) (c ∷ γ) (inl h) (inr k) = let e = k.0 in inl (omega arith)
+Above_trans (a ∷ α) (b ∷ β) (c ∷ γ) (inr h) (inl k) = let e = h.0 in inl (omega arith)
+Above_trans (a ∷ α) (b ∷ β) (c ∷ γ) (inr h) (inr k) = inr (h.0 ∙ k.0, Above_trans α β γ h.1 k.1)
+
+-- of two lists one is above the other, or they are equal
+pub Above_total : (α β : List ℕ) → (α ≡ β) ⊎ (Above α β ⊎ Above β α)
+Above_total [] [] = inl refl
+Above_total [] (b ∷ β) = inr (inr tt)
+Above_total (a ∷ α) [] = inr (inl tt)
+Above_total (a ∷ α) (b ∷ β) =
+    elim (cases_order a b) [
+      inl e ↦ elim (Above_total α β) [
+        inl d ↦ inl (ap₂ ◌∷◌ e d)
+      | inr (inl h) ↦ inr (inl (inr (e, h)))
+      | inr (inr h) ↦ inr (inr (inr (sym e, h)))
+      ]
+    | inr (inl h) ↦ inr (inr (inl h))
+    | inr (inr h) ↦ inr (inl (inl h))
+    ]
+
+-- a sum above another has a summand above that of the other
+pub Above_from_join : (α δ τ β : List ℕ) → length α ≡ length τ → length δ ≡ length β → length α ≡ length δ → Above (join α δ) (join τ β) → Above α τ ⊎ Above δ β
+Above_from_join [] [] τ β k l m h = absurd h
+Above_from_join [] (d ∷ δ) τ β k l m h = absurd (omega arith)
+Above_from_join (a ∷ α) [] τ β k l m h = absurd (omega arith)
+Above_from_join (a ∷ α) (d ∷ δ) [] β k l m h = absurd (omega arith)
+Above_from_join (a ∷ α) (d ∷ δ) (t ∷ τ) [] k l m h = absurd (omega arith)
+Above_from_join (a ∷ α) (d ∷ δ) (t ∷ τ) (b ∷ β) k l m h =
+    by (cases_order a t) (cases_order d b) h (Above_from_join α δ τ β (omega arith) (omega arith) (omega arith))
+  where
+    by : (a ≡ t) ⊎ ((a < t) ⊎ (t < a)) → (d ≡ b) ⊎ ((d < b) ⊎ (b < d)) → (t + b < a + d) ⊎ ((a + d ≡ t + b) × Above (join α δ) (join τ β))
+        → (Above (join α δ) (join τ β) → Above α τ ⊎ Above δ β) → Above (a ∷ α) (t ∷ τ) ⊎ Above (d ∷ δ) (b ∷ β)
+    by (inr (inr p)) q h rest = inl (inl p)
+    by p (inr (inr q)) h rest = inr (inl q)
+    by (inl p) (inl q) (inl h) rest = absurd (omega arith)
+    by (inl p) (inl q) (inr h) rest = elim (rest h.1) [ inl x ↦ inl (inr (p, x)) | inr y ↦ inr (inr (q, y)) ]
+    by (inl p) (inr (inl q)) (inl h) rest = absurd (omega arith)
+    by (inl p) (inr (inl q)) (inr h) rest = let e = h.0 in absurd (omega arith)
+    by (inr (inl p)) (inl q) (inl h) rest = absurd (omega arith)
+    by (inr (inl p)) (inl q) (inr h) rest = let e = h.0 in absurd (omega arith)
+    by (inr (inl p)) (inr (inl q)) (inl h) rest = absurd (omega arith)
+    by (inr (inl p)) (inr (inl q)) (inr h) rest = let e = h.0 in absurd (omega arith)
+
+-- adding exponents keeps the order
+pub Above-join : (α τ δ : List ℕ) → length α ≡ length τ → length δ ≡ length α → Above α τ → Above (join α δ) (join τ δ)
+Above-join [] τ δ k l h = absurd h
+Above-join (a ∷ α) [] δ k l h = absurd (omega arith)
+Above-join (a ∷ α) (t ∷ τ) [] k l h = absurd (omega arith)
+Above-join (a ∷ α) (t ∷ τ) (d ∷ δ) k l (inl h) = inl (omega arith)
+Above-join (a ∷ α) (t ∷ τ) (d ∷ δ) k l (inr h) = inr (ap (λ x. x + d) h.0, Above-join α τ δ (omega arith) (omega arith) h.1)
+
+-- where the first summand falls and the sum stays, the second rises
+pub Above_rest : (α δ τ β : List ℕ) → length α ≡ length τ → length δ ≡ length β → length α ≡ length δ → Above τ α → join α δ ≡ join τ β → Above δ β
+Above_rest α δ τ β k l m h e =
+    elim (Above_from_join τ δ τ β refl l (sym k ∙ m) (subst (λ γ. Above (join τ δ) γ) e (Above-join τ α δ (sym k) (sym m ∙ k) h))) [
+      inl x ↦ absurd (Above_irrefl τ x)
+    | inr x ↦ x
+    ]
+
+-- ---- coefficients of a product at and above the sum of two leading exponent lists
+
+-- the coefficient of a product, by pairings
+coefficient_times : (f g : Poly) (γ : List ℕ) → coefficient (times f g) γ ≡ pair f (λ α. pair g (λ δ. at_only γ (join α δ)))
+coefficient_times f g γ = coefficient_pair (times f g) γ ∙ pair_times f g (at_only γ)
+
+-- a pairing with a test at which g's coefficients are 0 wherever it asks is 0
+asks_nothing : (g : Poly) (α γ : List ℕ) → ((δ : List ℕ) → join α δ ≡ γ → coefficient g δ ≡ pos 0) → pair g (λ δ. at_only γ (join α δ)) ≡ pos 0
+asks_nothing g α γ h =
+    pair_agree g (λ δ. at_only γ (join α δ)) (λ δ. pos 0) (λ δ. elim (cases_Bool (same (join α δ) γ)) [
+        inl e ↦ inl (h δ (same_true (join α δ) γ e))
+      | inr e ↦ inr (ap (λ b. cond b (pos 1) (pos 0)) e)
+      ])
+      ∙ pair_zero g
+
+-- a list is of n places, or the polynomial in n variables has no coefficient there
+places_or_none : (n : ℕ) (f : Poly) (α : List ℕ) → In n f → (coefficient f α ≡ pos 0) ⊎ (length α ≡ n)
+places_or_none n f α i = elim (cases_eq (length α) n) [ inl e ↦ inr e | inr d ↦ inl (coefficient_outside n f α i d) ]
+
+pub coefficient_at_top : (n : ℕ) (f g : Poly) (τ β : List ℕ) → In n f → In n g → length τ ≡ n → length β ≡ n → IsNoneAbove f τ → IsNoneAbove g β
+    → coefficient (times f g) (join τ β) ≡ coefficient f τ *ℤ coefficient g β
+coefficient_at_top n f g τ β i j k l a b =
+    coefficient_times f g (join τ β)
+      ∙ pair_agree f (λ α. pair g (λ δ. at_only (join τ β) (join α δ))) (λ α. coefficient g β *ℤ at_only τ α) at
+      ∙ pair_factor (coefficient g β) f (at_only τ)
+      ∙ *ℤ_comm (coefficient g β) (pair f (at_only τ))
+      ∙ ap (λ c. c *ℤ coefficient g β) (sym (coefficient_pair f τ))
+  where
+    at_τ : pair g (λ δ. at_only (join τ β) (join τ δ)) ≡ coefficient g β
+    at_τ =
+        pair_agree g (λ δ. at_only (join τ β) (join τ δ)) (at_only β) (λ δ. elim (places_or_none n g δ j) [
+            inl z ↦ inl z
+          | inr m ↦ inr (ap (λ t. cond t (pos 1) (pos 0)) (tests_agree (same (join τ δ) (join τ β)) (same δ β)
+              (λ e. same_from δ β (join_cancel_left τ δ β (m ∙ sym l) (same_true (join τ δ) (join τ β) e)))
+              (λ e. same_from (join τ δ) (join τ β) (ap (join τ) (same_true δ β e)))))
+          ])
+          ∙ sym (coefficient_pair g β)
+    below : (α : List ℕ) → length α ≡ n → Above τ α → pair g (λ δ. at_only (join τ β) (join α δ)) ≡ pos 0
+    below α m h = asks_nothing g α (join τ β) (λ δ e. elim (places_or_none n g δ j) [
+        inl z ↦ z
+      | inr p ↦ b δ (Above_rest α δ τ β (m ∙ sym k) (p ∙ sym l) (m ∙ sym p) h e)
+      ])
+    at : (α : List ℕ) → (coefficient f α ≡ pos 0) ⊎ (pair g (λ δ. at_only (join τ β) (join α δ)) ≡ coefficient g β *ℤ at_only τ α)
+    at α = elim (places_or_none n f α i) [
+        inl z ↦ inl z
+      | inr m ↦ elim (Above_total α τ) [
+          inl e ↦ inr (subst (λ γ. pair g (λ δ. at_only (join τ β) (join γ δ)) ≡ coefficient g β *ℤ at_only τ γ) (sym e)
+            (at_τ ∙ sym (product-one (coefficient g β)) ∙ ap (λ t. coefficient g β *ℤ cond t (pos 1) (pos 0)) (sym (same_refl τ))))
+        | inr (inl x) ↦ inl (a α x)
+        | inr (inr x) ↦ inr (below α m x ∙ sym (*ℤ-zero (coefficient g β)) ∙ ap (λ t. coefficient g β *ℤ cond t (pos 1) (pos 0)) (sym (same_apart α τ (λ e. Above_irrefl τ (subst (λ γ. Above τ γ) e x)))))
+        ]
+      ]
+
+pub none_above_times : (n : ℕ) (f g : Poly) (τ β : List ℕ) → In n f → In n g → length τ ≡ n → length β ≡ n → IsNoneAbove f τ → IsNoneAbove g β → IsNoneAbove (times f g) (join τ β)
+none_above_times n f g τ β i j k l a b γ h =
+    coefficient_times f g γ
+      ∙ pair_agree f (λ α. pair g (λ δ. at_only γ (join α δ))) (λ α. pos 0) at
+      ∙ pair_zero f
+  where
+    rises : (α δ : List ℕ) → length α ≡ n → length δ ≡ n → join α δ ≡ γ → Above α τ ⊎ Above δ β
+    rises α δ m p e = Above_from_join α δ τ β (m ∙ sym k) (p ∙ sym l) (m ∙ sym p) (subst (λ ε. Above ε (join τ β)) (sym e) h)
+    at_or_below : (α : List ℕ) → length α ≡ n → (Above α τ → ⊥) → pair g (λ δ. at_only γ (join α δ)) ≡ pos 0
+    at_or_below α m d = asks_nothing g α γ (λ δ e. elim (places_or_none n g δ j) [
+        inl z ↦ z
+      | inr p ↦ elim (rises α δ m p e) [ inl x ↦ absurd (d x) | inr y ↦ b δ y ]
+      ])
+    at : (α : List ℕ) → (coefficient f α ≡ pos 0) ⊎ (pair g (λ δ. at_only γ (join α δ)) ≡ pos 0)
+    at α = elim (places_or_none n f α i) [
+        inl z ↦ inl z
+      | inr m ↦ elim (Above_total α τ) [
+          inl e ↦ inr (at_or_below α m (λ x. Above_irrefl τ (subst (λ γ. Above γ τ) e x)))
+        | inr (inl x) ↦ inl (a α x)
+        | inr (inr x) ↦ inr (at_or_below α m (λ y. Above_irrefl τ (Above_trans τ α τ x y)))
+        ]
+      ]
+
+-- ---- the greatest exponents of the terms
+
+-- no monomial stands above the greatest exponents that the terms have
+pub none_above_terms : (f : Poly) (top : List ℕ) → ((t : Term) → Among t f → Above t.0 top → ⊥) → IsNoneAbove f top
+none_above_terms f top h α x =
+    total_none (λ (t : Term). cond (same t.0 α) t.1 (pos 0)) f (λ t m. ap (λ b. cond b t.1 (pos 0)) (same_apart t.0 α (λ e. h t m (subst (λ γ. Above γ top) (sym e) x))))
+
+greatest : (t : Term) (f : Poly) → (s : Term) × Among s (t ∷ f) × ((u : Term) → Among u (t ∷ f) → Above u.0 s.0 → ⊥)
+greatest t [] = (t, inl refl, ?)
+greatest t (u ∷ f) = ?

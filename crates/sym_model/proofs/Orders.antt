@@ -1,0 +1,176 @@
+-- The printed order and the tests of a canonical list, as facts: the order is total and ties only equal
+-- partitions, the tests decide what they are named for, and the gcd is the greatest common divisor.
+use Rattle.std.proofs.Common.{◌≡◌, ℕ, zero, suc, ◌+◌, ◌*◌, ◌-◌, ◌^◌, ◌<◌, ◌≤◌, ◌/◌, ◌%◌, Bool, true, false, ◌&&◌, List, [], ◌∷◌, ◌++◌, length, get_or, map, cond, eqb, leb, ltb, ℤ, pos, negsuc, nat_abs, refl, sym, ap, ◌∙◌, subst, inl, inr, mod-lt, arith, rules}
+use Rattle.std.specs.Int.{IsGcd}
+use Rattle.std.specs.Int.RustNames.{FitsSigned}
+use mir.Syntax.{w128}
+use Rattle.std.specs.Cmp.{IsTotalOrder}
+use Rattle.std.specs.Cmp.Lexicographic.{slice_cmp}
+use Rattle.std.specs.List.{AllPairs}
+use Rattle.std.specs.Ordering.{nat_cmp, ordering_then, ordering_reverse, flip_args, on, then_cmp, is_lt, MatchOrdering}
+use Rattle.std.specs.declared.cmp.Ordering.{Ordering}
+use Rattle.std.specs.declared.cmp.Ordering.TheVariants.{Less, Equal, Greater}
+use Rattle.std.proofs.lemmas.Cmp.{ranked, nat_cmp_total, back_total, lists_total, on_total, then_total, tied_itself}
+use Rattle.std.proofs.lemmas.Bool.{eq-eqb, eqb-true, leb-true, ltb-true, lt-ltb, le-leb, and_parts, and_from}
+use Rattle.std.proofs.lemmas.Nat.Gcd.{IsGcd-from_zero, IsGcd-from_mod, same_from_IsGcd}
+use Rattle.sym_model.specs.Sum.{Among, Once}
+use Rattle.sym_model.specs.Polynomial.{resize}
+use Rattle.sym_model.specs.Partition.{Falls, ArePositive, IsPartition, size, rows}
+use Rattle.sym_model.specs.PrintedOrder.{falling_lexicographic, printed_order}
+use Rattle.sym_model.specs.Expansion.{Fraction, Terms}
+use Rattle.sym_model.specs.Canonical.{gcd_within, gcd, is_reduced, is_partition, is_label, fits_128_bits}
+
+-- numbers compared the other way round
+abbrev falling : ℕ → ℕ → Ordering
+falling = flip_args nat_cmp
+
+-- the lists padded with zeros to one length, compared number by number
+falling_lexicographic-padded : (n : ℕ) (xs ys : List ℕ) → length xs ≤ n → length ys ≤ n → falling_lexicographic xs ys ≡ slice_cmp falling (resize n xs) (resize n ys)
+falling_lexicographic-padded zero [] [] h k = refl
+falling_lexicographic-padded zero [] (y ∷ ys) h k = absurd (omega arith)
+falling_lexicographic-padded zero (x ∷ xs) ys h k = absurd (omega arith)
+falling_lexicographic-padded (suc n) [] [] h k = falling_lexicographic-padded n [] [] (omega arith) (omega arith)
+falling_lexicographic-padded (suc n) [] (y ∷ ys) h k =
+    ap (ordering_then (nat_cmp y 0)) (falling_lexicographic-padded n [] ys (omega arith) (omega arith))
+falling_lexicographic-padded (suc n) (x ∷ xs) [] h k =
+    ap (ordering_then (nat_cmp 0 x)) (falling_lexicographic-padded n xs [] (omega arith) (omega arith))
+falling_lexicographic-padded (suc n) (x ∷ xs) (y ∷ ys) h k =
+    ap (ordering_then (nat_cmp y x)) (falling_lexicographic-padded n xs ys (omega arith) (omega arith))
+
+-- falling lexicographic order is a total order, up to zeros at the end
+pub falling_lexicographic-total : IsTotalOrder falling_lexicographic
+falling_lexicographic-total = record { antisymm = antisymm; trans = trans; congr = congr }
+  where
+    total : IsTotalOrder (slice_cmp falling)
+    total = lists_total (back_total nat_cmp_total)
+
+    antisymm : (x y : List ℕ) → falling_lexicographic x y ≡ ordering_reverse (falling_lexicographic y x)
+    antisymm x y =
+        let n : ℕ = length x + length y in
+        let p = resize n x in
+        let q = resize n y in
+        falling_lexicographic-padded n x y (omega arith) (omega arith) ∙ (total.antisymm p q ∙ ap ordering_reverse (sym (falling_lexicographic-padded n y x (omega arith) (omega arith))))
+
+    trans : (x y z : List ℕ) → falling_lexicographic x y ≡ Less → falling_lexicographic y z ≡ Less → falling_lexicographic x z ≡ Less
+    trans x y z h k =
+        let n : ℕ = length x + (length y + length z) in
+        falling_lexicographic-padded n x z (omega arith) (omega arith) ∙ total.trans (resize n x) (resize n y) (resize n z) (sym (falling_lexicographic-padded n x y (omega arith) (omega arith)) ∙ h) (sym (falling_lexicographic-padded n y z (omega arith) (omega arith)) ∙ k)
+
+    congr : (x y z : List ℕ) → falling_lexicographic x y ≡ Equal → falling_lexicographic x z ≡ falling_lexicographic y z
+    congr x y z h =
+        let n : ℕ = length x + (length y + length z) in
+        falling_lexicographic-padded n x z (omega arith) (omega arith) ∙ (total.congr (resize n x) (resize n y) (resize n z) (sym (falling_lexicographic-padded n x y (omega arith) (omega arith)) ∙ h) ∙ sym (falling_lexicographic-padded n y z (omega arith) (omega arith)))
+
+-- the printed order is a total order: turned round it gives the reverse, it is transitive, and what ties compares alike
+pub printed_order-total : IsTotalOrder printed_order
+printed_order-total = then_total (on_total size (back_total nat_cmp_total)) falling_lexicographic-total
+
+pub printed_order-itself : (x : List ℕ) → printed_order x x ≡ Equal
+printed_order-itself x = tied_itself printed_order-total x
+
+-- what ties in two orders one after the other ties in both
+then-equal : (o p : Ordering) → ordering_then o p ≡ Equal → (o ≡ Equal) × (p ≡ Equal)
+then-equal Less p h = cc
+then-equal Equal p h = (refl, h)
+then-equal Greater p h = cc
+
+pub nat_cmp-equal : (a b : ℕ) → nat_cmp a b ≡ Equal → a ≡ b
+nat_cmp-equal a b h = subst (λ o. MatchOrdering o (a < b) (a ≡ b) (b < a)) h (ranked a b (nat_cmp a b) refl)
+
+-- lists of positive numbers that tie are equal
+pub falling_lexicographic-equal : (x y : List ℕ) → ArePositive x → ArePositive y → falling_lexicographic x y ≡ Equal → x ≡ y
+falling_lexicographic-equal [] [] h k e = refl
+falling_lexicographic-equal [] (b ∷ y) h k e =
+    let z = nat_cmp-equal b 0 (then-equal (nat_cmp b 0) _ e).0 in absurd (omega (arith, k.0))
+falling_lexicographic-equal (a ∷ x) [] h k e =
+    let z = nat_cmp-equal 0 a (then-equal (nat_cmp 0 a) _ e).0 in absurd (omega (arith, h.0))
+falling_lexicographic-equal (a ∷ x) (b ∷ y) h k e =
+    let p = then-equal (nat_cmp b a) (falling_lexicographic x y) e in
+    ap (λ c. c ∷ x) (sym (nat_cmp-equal b a p.0)) ∙ ap (λ z. b ∷ z) (falling_lexicographic-equal x y h.1 k.1 p.1)
+
+-- lists of one length that tie are equal
+pub falling_lexicographic-same_length : (x y : List ℕ) → length x ≡ length y → falling_lexicographic x y ≡ Equal → x ≡ y
+falling_lexicographic-same_length [] [] h e = refl
+falling_lexicographic-same_length [] (b ∷ y) h e = absurd (omega arith)
+falling_lexicographic-same_length (a ∷ x) [] h e = absurd (omega arith)
+falling_lexicographic-same_length (a ∷ x) (b ∷ y) h e =
+    let p = then-equal (nat_cmp b a) (falling_lexicographic x y) e in
+    ap (λ c. c ∷ x) (sym (nat_cmp-equal b a p.0)) ∙ ap (λ z. b ∷ z) (falling_lexicographic-same_length x y (omega arith) p.1)
+
+-- partitions that tie in the printed order are equal
+pub printed_order-equal : (x y : List ℕ) → ArePositive x → ArePositive y → printed_order x y ≡ Equal → x ≡ y
+printed_order-equal x y h k e =
+    falling_lexicographic-equal x y h k (then-equal (nat_cmp (size y) (size x)) _ e).1
+
+-- the test of a partition decides it
+pub is_partition-tells : (parts : List ℕ) → is_partition parts ≡ true → IsPartition parts
+is_partition-tells [] h = record { falls = tt; positive = tt }
+is_partition-tells (a ∷ []) h = record { falls = tt; positive = (ltb-true 0 a h, tt) }
+is_partition-tells (a ∷ b ∷ parts) h =
+    let p = and_parts (leb b a) (is_partition (b ∷ parts)) h in
+    let rest = is_partition-tells (b ∷ parts) p.1 in
+    let le : b ≤ a = leb-true b a p.0 in
+    let low : 0 < b = rest.positive.0 in
+    record { falls = (le, rest.falls); positive = (omega arith, rest.positive) }
+
+pub is_partition-from : (parts : List ℕ) → IsPartition parts → is_partition parts ≡ true
+is_partition-from [] h = refl
+is_partition-from (a ∷ []) h = lt-ltb 0 a h.positive.0
+is_partition-from (a ∷ b ∷ parts) h =
+    and_from (leb b a) (is_partition (b ∷ parts)) (le-leb b a h.falls.0) (is_partition-from (b ∷ parts) (record { falls = h.falls.1; positive = h.positive.1 }))
+
+-- a label: a partition of at most 512 rows and 4096 cells
+pub record IsLabel (parts : List ℕ) : Type 0 where
+  pub partition : IsPartition parts
+  pub rows : rows parts ≤ 512
+  pub size : size parts ≤ 4096
+
+pub is_label-tells : (parts : List ℕ) → is_label parts ≡ true → IsLabel parts
+is_label-tells parts h =
+    let p = and_parts (is_partition parts && leb (rows parts) 512) (leb (size parts) 4096) h in
+    let q = and_parts (is_partition parts) (leb (rows parts) 512) p.0 in
+    record { partition = is_partition-tells parts q.0; rows = leb-true _ _ q.1; size = leb-true _ _ p.1 }
+
+pub is_label-from : (parts : List ℕ) → IsLabel parts → is_label parts ≡ true
+is_label-from parts h =
+    and_from (is_partition parts && leb (rows parts) 512) (leb (size parts) 4096) (and_from (is_partition parts) (leb (rows parts) 512) (is_partition-from parts h.partition) (le-leb _ _ h.rows)) (le-leb _ _ h.size)
+
+-- Euclid's rule in enough steps gives the greatest common divisor
+gcd_within-is : (steps a b : ℕ) → b < steps → IsGcd a b (gcd_within steps a b)
+gcd_within-is zero a b h = absurd (omega arith)
+gcd_within-is (suc steps) a zero h = IsGcd-from_zero a 0 refl
+gcd_within-is (suc steps) a (suc b) h =
+    let low : a % suc b < suc b = mod-lt a (omega arith) in
+    IsGcd-from_mod a (suc b) _ (gcd_within-is steps (suc b) (a % suc b) (omega arith))
+
+-- the gcd is the greatest common divisor, and the only one
+pub gcd-is : (a b : ℕ) → IsGcd a b (gcd a b)
+gcd-is a b = gcd_within-is (b + 1) a b (omega arith)
+
+pub gcd-only : (a b g : ℕ) → IsGcd a b g → gcd a b ≡ g
+gcd-only a b g h = same_from_IsGcd a b (gcd a b) g (gcd-is a b) h
+
+-- a fraction that is not 0, in lowest terms, with a positive denominator
+pub record IsReduced (c : Fraction) : Type 0 where
+  pub denominator : 0 < c.1
+  pub nonzero : 0 < nat_abs c.0
+  pub lowest : IsGcd (nat_abs c.0) c.1 1
+
+pub is_reduced-tells : (c : Fraction) → is_reduced c ≡ true → IsReduced c
+is_reduced-tells c h =
+    let p = and_parts (ltb 0 c.1 && ltb 0 (nat_abs c.0)) (eqb (gcd (nat_abs c.0) c.1) 1) h in
+    let q = and_parts (ltb 0 c.1) (ltb 0 (nat_abs c.0)) p.0 in
+    record { denominator = ltb-true _ _ q.0; nonzero = ltb-true _ _ q.1; lowest = subst (IsGcd (nat_abs c.0) c.1) (eqb-true _ _ p.1) (gcd-is (nat_abs c.0) c.1) }
+
+pub is_reduced-from : (c : Fraction) → IsReduced c → is_reduced c ≡ true
+is_reduced-from c h =
+    and_from (ltb 0 c.1 && ltb 0 (nat_abs c.0)) (eqb (gcd (nat_abs c.0) c.1) 1) (and_from (ltb 0 c.1) (ltb 0 (nat_abs c.0)) (lt-ltb 0 c.1 h.denominator) (lt-ltb 0 (nat_abs c.0) h.nonzero)) (eq-eqb _ _ (gcd-only (nat_abs c.0) c.1 1 h.lowest))
+
+-- a number of 128 bits with a sign, as the program's integers are
+pub fits_128_bits-from : (z : ℤ) → FitsSigned w128 z → fits_128_bits z ≡ true
+fits_128_bits-from (pos n) h = lt-ltb n (2 ^ 127) h.sfits
+fits_128_bits-from (negsuc n) h = lt-ltb n (2 ^ 127) h.sfits
+
+pub fits_128_bits-tells : (z : ℤ) → fits_128_bits z ≡ true → FitsSigned w128 z
+fits_128_bits-tells (pos n) h = record { sfits = ltb-true n (2 ^ 127) h }
+fits_128_bits-tells (negsuc n) h = record { sfits = ltb-true n (2 ^ 127) h }

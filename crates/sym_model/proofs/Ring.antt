@@ -1,0 +1,72 @@
+-- The integers are a commutative ring: what std's laws of the sum lack about products and negations.
+--     ring      the set for `simp`: a polynomial identity over the integers is `simp ring (omega (arith, ints))`
+--     diff      an integer as a difference of two naturals, for identities with casts from the naturals:
+--               `simp (diff_add, diff_mul, diff_neg) (diff_same .. (omega arith))`
+use Rattle.std.proofs.Common.{◌≡◌, ℕ, ◌+◌, ◌*◌, sym, ◌∙◌, ap, arith, ℤ, pos, ◌+ℤ◌, ◌-ℤ◌, ◌*ℤ◌, neg_ℤ}
+use Rattle.std.proofs.lemmas.Int.{ints}
+use borrow.Author.Differences.{up, down, sum_is_lem, product_is, neg_is}
+use lib.IntN.{*ℤ_comm, zero-*ℤ, *ℤ-zero, neg_ℤ-neg_ℤ, neg_ℤ-+ℤ}
+
+-- ---- products, sums and negations
+
+pub distributes_left : (a b c : ℤ) → a *ℤ (b +ℤ c) ≡ a *ℤ b +ℤ a *ℤ c
+distributes_left a b c = omega (arith, ints, ap (λ n. up a * n) (sum_is_lem b c), ap (λ n. down a * n) (sum_is_lem b c))
+
+pub distributes_right : (a b c : ℤ) → (a +ℤ b) *ℤ c ≡ a *ℤ c +ℤ b *ℤ c
+distributes_right a b c = *ℤ_comm (a +ℤ b) c ∙ distributes_left c a b ∙ rw (*ℤ_comm a c, *ℤ_comm b c)
+
+pub product_assoc : (a b c : ℤ) → (a *ℤ b) *ℤ c ≡ a *ℤ (b *ℤ c)
+product_assoc a b c =
+    omega (
+      arith,
+      ints,
+      ap (λ n. n * up c) (product_is a b).0,
+      ap (λ n. n * down c) (product_is a b).0,
+      ap (λ n. n * up c) (product_is a b).1,
+      ap (λ n. n * down c) (product_is a b).1,
+      ap (λ n. up a * n) (product_is b c).0,
+      ap (λ n. down a * n) (product_is b c).0,
+      ap (λ n. up a * n) (product_is b c).1,
+      ap (λ n. down a * n) (product_is b c).1,
+    )
+
+pub product_left_comm : (a b c : ℤ) → a *ℤ (b *ℤ c) ≡ b *ℤ (a *ℤ c)
+product_left_comm a b c = sym (product_assoc a b c) ∙ ap (λ x. x *ℤ c) (*ℤ_comm a b) ∙ product_assoc b a c
+
+pub product-negation : (a b : ℤ) → a *ℤ neg_ℤ b ≡ neg_ℤ (a *ℤ b)
+product-negation a b = omega (arith, ints, ap (λ n. up a * n) (neg_is b).0, ap (λ n. up a * n) (neg_is b).1, ap (λ n. down a * n) (neg_is b).0, ap (λ n. down a * n) (neg_is b).1)
+
+pub negation-product : (a b : ℤ) → neg_ℤ a *ℤ b ≡ neg_ℤ (a *ℤ b)
+negation-product a b = *ℤ_comm (neg_ℤ a) b ∙ product-negation b a ∙ ap neg_ℤ (*ℤ_comm b a)
+
+pub product-one : (a : ℤ) → a *ℤ pos 1 ≡ a
+product-one a = omega (arith, ints)
+
+pub one-product : (a : ℤ) → pos 1 *ℤ a ≡ a
+one-product a = *ℤ_comm (pos 1) a ∙ product-one a
+
+-- products written out over sums and negations, with their factors in one order
+pub ruleset ring = (distributes_left, distributes_right, product_assoc, product-negation, negation-product, product_left_comm, *ℤ_comm, zero-*ℤ, *ℤ-zero, product-one, one-product)
+
+-- ---- an integer as a difference of two naturals
+
+abbrev pub diff : ℕ → ℕ → ℤ
+diff p n = pos p -ℤ pos n
+
+pub diff_of : (z : ℤ) → z ≡ diff (up z) (down z)
+diff_of z = omega (arith, ints)
+
+pub diff_same : (a b c d : ℕ) → a + d ≡ c + b → diff a b ≡ diff c d
+diff_same a b c d e = omega (arith, ints)
+
+pub diff_pos : (n : ℕ) → pos n ≡ diff n 0
+diff_pos n = omega (arith, ints)
+
+pub diff_add : (a b c d : ℕ) → diff a b +ℤ diff c d ≡ diff (a + c) (b + d)
+diff_add a b c d = omega (arith, ints)
+
+pub diff_neg : (a b : ℕ) → neg_ℤ (diff a b) ≡ diff b a
+diff_neg a b = omega (arith, ints)
+
+pub diff_mul : (a b c d : ℕ) → diff a b *ℤ diff c d ≡ diff (a * c + b * d) (a * d + b * c)
+diff_mul a b c d = simp ring (omega (arith, ints))

@@ -1,0 +1,18 @@
+-- The leading monomial of a polynomial, in the lexicographic order of exponent lists.
+use Rattle.std.specs.Prelude.{◌≡◌, ℕ, ◌<◌, ◌⊎◌, pos, neg_ℤ, List, [], ◌∷◌}
+use Rattle.sym_model.specs.Polynomial.{Poly, coefficient}
+
+-- the lexicographic order: at the first place where the lists differ the first has the greater exponent
+abbrev pub Above : List ℕ → List ℕ → Type 0
+Above [] β = ⊥
+Above (a ∷ α) [] = Unit {0}
+Above (a ∷ α) (b ∷ β) = (b < a) ⊎ ((a ≡ b) × Above α β)
+
+-- the polynomial has no monomial above this one
+abbrev pub IsNoneAbove : Poly → List ℕ → Type 0
+IsNoneAbove f top = (α : List ℕ) → Above α top → coefficient f α ≡ pos 0
+
+-- the greatest monomial of f is x^top, and its coefficient is 1 or -1
+pub record Leads (f : Poly) (top : List ℕ) : Type 0 where
+  pub unit_at_top : (coefficient f top ≡ pos 1) ⊎ (coefficient f top ≡ neg_ℤ (pos 1))
+  pub none_above : IsNoneAbove f top

@@ -1,0 +1,28 @@
+-- The partitions of a number, listed in falling lexicographic order (this project's own).
+use Rattle.std.specs.Prelude.{◌≡◌, ℕ, zero, suc, ◌-◌, min, List, [], ◌∷◌, map}
+use Rattle.std.specs.declared.cmp.Ordering.TheVariants.{Less}
+use Rattle.sym_model.specs.Sum.{each, Among}
+use Rattle.sym_model.specs.PrintedOrder.{falling_lexicographic}
+
+-- the numbers from k down to 1
+abbrev pub down_from : ℕ → List ℕ
+down_from zero = []
+down_from (suc k) = suc k ∷ down_from k
+
+-- the partitions of a size that have no part above `most` and at most so many rows: the first part runs down from the
+-- greatest that it can be, and behind it come the partitions of what is left, with no part above the first
+unfoldable pub partitions_within : ℕ → ℕ → ℕ → List (List ℕ)
+partitions_within zero most rows = [] ∷ []
+partitions_within (suc left) most zero = []
+partitions_within (suc left) most (suc rows) =
+    each (λ a. map (λ parts. a ∷ parts) (partitions_within (suc left - a) a rows)) (down_from (min most (suc left)))
+
+-- the partitions of d in falling lexicographic order
+abbrev pub partitions_of : ℕ → List (List ℕ)
+partitions_of d = partitions_within d d d
+
+-- each list of numbers stands before all the later ones in falling lexicographic order
+abbrev pub FallsLexicographically : List (List ℕ) → Type 0
+FallsLexicographically [] = Unit {0}
+FallsLexicographically (x ∷ xs) =
+    ((y : List ℕ) → Among y xs → falling_lexicographic x y ≡ Less) × FallsLexicographically xs
