@@ -1,5 +1,6 @@
 pub mod PhraseRuns
 pub mod PhrasePrefixes
+pub mod GreatestCommonDivisors
 pub mod Ring
 pub mod Sums
 pub mod Exponents

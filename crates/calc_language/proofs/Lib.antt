@@ -1,0 +1,3 @@
+pub mod TreeFacts
+pub mod WeightFacts
+pub mod GrowthFacts

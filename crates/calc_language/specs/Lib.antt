@@ -1,0 +1,3 @@
+-- The expressions and the words that the reader answers for.
+pub mod Trees
+pub mod Weights

@@ -1,0 +1,10 @@
+//! The words of a command: expressions with their weights, and how words are read as a command.
+#![tactic(auto)]
+
+mod expr;
+mod formula;
+mod weigh;
+
+pub use calc_base::{Basis, Weight};
+pub use expr::Expr;
+pub use formula::Formula;
