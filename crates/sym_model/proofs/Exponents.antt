@@ -1,7 +1,7 @@
 -- Exponent lists: `same` decides their equality, `join` is their sum, `resize` cuts and pads them.
-use Rattle.std.proofs.Common.{◌≡◌, ℕ, zero, suc, ◌+◌, ◌≤◌, max, ◌⊎◌, Bool, true, false, ◌&&◌, ◌==◌, eqb, List, [], ◌∷◌, length, replicate, sym, ◌∙◌, ap, ap₂, subst, refl, inl, inr, true≢false, arith, eqb-true, eq-eqb, add-zero, add_comm, add_assoc, add_left_cancel, eqb→eq}
+use Rattle.std.proofs.Common.{◌≡◌, ℕ, zero, suc, ◌+◌, ◌≤◌, max, ◌⊎◌, Bool, true, false, ◌&&◌, ◌==◌, List, [], ◌∷◌, length, replicate, sym, ◌∙◌, ap, ap₂, subst, refl, inl, inr, arith, eqb-true, eq-eqb, add-zero, add_comm, add_assoc}
 use Rattle.std.proofs.lemmas.Bool.{and_parts, and_from, cases_Bool, false_from_ne_true, both_ways}
-use Rattle.sym_model.specs.Polynomial.{same, join, resize, all_zero, fits_in, no_exponents}
+use Rattle.sym_model.specs.Polynomial.{same, join, resize, all_zero, fits_in}
 
 -- two tests that are true together are one test
 pub tests_agree : (x y : Bool) → (x ≡ true → y ≡ true) → (y ≡ true → x ≡ true) → x ≡ y
@@ -122,10 +122,10 @@ resize-resize (suc k) (suc n) (a ∷ α) h = ap (λ β. a ∷ β) (resize-resize
 zero_sum : (a b : ℕ) → (a + b == 0) ≡ ((a == 0) && (b == 0))
 zero_sum a b =
     tests_agree
-      (a + b == 0)
-      ((a == 0) && (b == 0))
-      (λ e. let d = eqb-true (a + b) 0 e in and_from (a == 0) (b == 0) (eq-eqb a 0 (omega arith)) (eq-eqb b 0 (omega arith)))
-      (λ e. let p = and_parts (a == 0) (b == 0) e in let c = eqb-true a 0 p.0 in let d = eqb-true b 0 p.1 in eq-eqb (a + b) 0 (omega arith))
+    (a + b == 0)
+    ((a == 0) && (b == 0))
+    (λ e. let d = eqb-true (a + b) 0 e in and_from (a == 0) (b == 0) (eq-eqb a 0 (omega arith)) (eq-eqb b 0 (omega arith)))
+    (λ e. let p = and_parts (a == 0) (b == 0) e in let c = eqb-true a 0 p.0 in let d = eqb-true b 0 p.1 in eq-eqb (a + b) 0 (omega arith))
 
 and_exchange : (p q r s : Bool) → ((p && q) && (r && s)) ≡ ((p && r) && (q && s))
 and_exchange true true r s = refl
@@ -184,3 +184,25 @@ fits_in-resize zero n α h = all_zero-resize n α
 fits_in-resize (suc k) zero α h = absurd (omega arith)
 fits_in-resize (suc k) (suc n) [] h = fits_in_padded k n
 fits_in-resize (suc k) (suc n) (a ∷ α) h = fits_in-resize k n α (omega arith)
+
+-- zeros alone
+pub all_zero_is : (n : ℕ) (α : List ℕ) → length α ≡ n → all_zero α ≡ true → α ≡ replicate n 0
+all_zero_is zero [] e z = refl
+all_zero_is zero (a ∷ α) e z = absurd (omega arith)
+all_zero_is (suc n) [] e z = absurd (omega arith)
+all_zero_is (suc n) (a ∷ α) e z = let p = and_parts (a == 0) (all_zero α) z in ap₂ ◌∷◌ (eqb-true a 0 p.0) (all_zero_is n α (omega arith) p.1)
+
+-- what fits in k places is had back by padding
+pub resize_back : (k n : ℕ) (α : List ℕ) → k ≤ n → length α ≡ n → fits_in k α ≡ true → resize n (resize k α) ≡ α
+resize_back zero n α h e t = resize-nil n ∙ sym (all_zero_is n α e t)
+resize_back (suc k) zero α h e t = absurd (omega arith)
+resize_back (suc k) (suc n) [] h e t = absurd (omega arith)
+resize_back (suc k) (suc n) (a ∷ α) h e t = ap (λ β. a ∷ β) (resize_back k n α (omega arith) (omega arith) t)
+
+-- what is padded fits
+pub fits_in_resized : (k n : ℕ) (α : List ℕ) → length α ≡ k → fits_in k (resize n α) ≡ true
+fits_in_resized zero n [] e = fits_in_padded 0 n
+fits_in_resized zero n (a ∷ α) e = absurd (omega arith)
+fits_in_resized (suc k) zero α e = refl
+fits_in_resized (suc k) (suc n) [] e = absurd (omega arith)
+fits_in_resized (suc k) (suc n) (a ∷ α) e = fits_in_resized k n α (omega arith)

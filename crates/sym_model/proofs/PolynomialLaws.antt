@@ -1,11 +1,11 @@
 -- The laws of the ring of polynomials, and of restriction to fewer variables, by pairings.
-use Rattle.std.proofs.Common.{◌≡◌, ℕ, ◌≤◌, Bool, true, false, ◌&&◌, cond, List, map, length, replicate, sym, ◌∙◌, ap, ap₂, refl, arith, ℤ, pos, ◌+ℤ◌, ◌*ℤ◌, neg_ℤ, append_assoc}
+use Rattle.std.proofs.Common.{◌≡◌, ℕ, ◌≤◌, Bool, true, false, ◌&&◌, cond, List, sym, ◌∙◌, ap, ap₂, refl, arith, ℤ, pos, ◌+ℤ◌, ◌*ℤ◌, neg_ℤ, append_assoc, [], ◌∷◌, length}
+use Rattle.std.proofs.lemmas.Bool.{both_ways}
 use Rattle.std.proofs.lemmas.Int.{ints}
-use Rattle.std.proofs.lemmas.List.{length-replicate}
-use Rattle.sym_model.specs.Polynomial.{Term, Poly, Same, In, nothing, no_exponents, one, join, plus, scale, negate, times, pair, resize, fits_in, restrict}
-use Rattle.sym_model.proofs.Exponents.{join_comm, join_assoc, join_zeros, resize_same, resize_zeros, resize-join, resize-resize, fits_in-join, fits_in_zeros, fits_in_length, fits_in-resize}
-use Rattle.sym_model.proofs.Polynomials.{pair_ext, pair_in, pair_add, pair_factor, pair_opposite, pair_zero, pair_exchange, pair_plus, pair_scale, pair_negate, pair_times, pair_one, pair_restrict, same_from_pair, same_of_equal, Same_refl, Same_trans, times_respects, In_restrict}
-use lib.IntN.{+ℤ_idl, +ℤ_comm, *ℤ-zero}
+use Rattle.sym_model.specs.Polynomial.{Term, Poly, same, coefficient, Same, In, nothing, no_exponents, one, join, plus, scale, negate, times, pair, resize, fits_in, restrict}
+use Rattle.sym_model.proofs.Exponents.{tests_agree, same_true, same_from, same_apart, join_cancel_left, resize_back, fits_in_resized, join_comm, join_assoc, join_zeros, resize_same, resize_zeros, resize-join, resize-resize, fits_in-join, fits_in_zeros, fits_in_length, fits_in-resize}
+use Rattle.sym_model.proofs.Polynomials.{at_only, coefficient_pair, pair_ext, pair_in, pair_add, pair_factor, pair_opposite, pair_zero, pair_exchange, pair_plus, pair_scale, pair_negate, pair_times, pair_one, pair_restrict, same_from_pair, same_of_equal, Same_trans}
+use lib.IntN.{+ℤ_idr}
 
 -- ---- sums
 
@@ -23,28 +23,28 @@ plus-negate f = same_from_pair (plus f (negate f)) nothing (λ φ. omega (arith,
 pub times_comm : (f g : Poly) → Same (times f g) (times g f)
 times_comm f g =
     same_from_pair (times f g) (times g f) (λ φ.
-      pair_times f g φ
-        ∙ pair_exchange f g (λ α β. φ (join α β))
-        ∙ pair_ext g (λ β. pair f (λ α. φ (join α β))) (λ β. pair f (λ α. φ (join β α))) (λ β. pair_ext f (λ α. φ (join α β)) (λ α. φ (join β α)) (λ α. ap φ (join_comm α β)))
-        ∙ sym (pair_times g f φ))
+    pair_times f g φ
+    ∙ pair_exchange f g (λ α β. φ (join α β))
+    ∙ pair_ext g (λ β. pair f (λ α. φ (join α β))) (λ β. pair f (λ α. φ (join β α))) (λ β. pair_ext f (λ α. φ (join α β)) (λ α. φ (join β α)) (λ α. ap φ (join_comm α β)))
+    ∙ sym (pair_times g f φ))
 
 pub times_assoc : (f g h : Poly) → Same (times (times f g) h) (times f (times g h))
 times_assoc f g h =
     same_from_pair (times (times f g) h) (times f (times g h)) (λ φ.
-      pair_times (times f g) h φ
-        ∙ pair_times f g (λ α. pair h (λ γ. φ (join α γ)))
-        ∙ pair_ext f (λ α. pair g (λ β. pair h (λ γ. φ (join (join α β) γ)))) (λ α. pair (times g h) (λ β. φ (join α β))) (λ α.
-          pair_ext g (λ β. pair h (λ γ. φ (join (join α β) γ))) (λ β. pair h (λ γ. φ (join α (join β γ)))) (λ β.
-            pair_ext h (λ γ. φ (join (join α β) γ)) (λ γ. φ (join α (join β γ))) (λ γ. ap φ (join_assoc α β γ)))
-            ∙ sym (pair_times g h (λ β. φ (join α β))))
-        ∙ sym (pair_times f (times g h) φ))
+    pair_times (times f g) h φ
+    ∙ pair_times f g (λ α. pair h (λ γ. φ (join α γ)))
+    ∙ pair_ext f (λ α. pair g (λ β. pair h (λ γ. φ (join (join α β) γ)))) (λ α. pair (times g h) (λ β. φ (join α β))) (λ α.
+    pair_ext g (λ β. pair h (λ γ. φ (join (join α β) γ))) (λ β. pair h (λ γ. φ (join α (join β γ)))) (λ β.
+    pair_ext h (λ γ. φ (join (join α β) γ)) (λ γ. φ (join α (join β γ))) (λ γ. ap φ (join_assoc α β γ)))
+    ∙ sym (pair_times g h (λ β. φ (join α β))))
+    ∙ sym (pair_times f (times g h) φ))
 
 pub one-times : (n : ℕ) (f : Poly) → In n f → Same (times (one n) f) f
 one-times n f i =
     same_from_pair (times (one n) f) f (λ φ.
-      pair_times (one n) f φ
-        ∙ pair_one n (λ α. pair f (λ β. φ (join α β)))
-        ∙ pair_in n f (λ β. φ (join (no_exponents n) β)) φ i (λ β e. ap φ (join_zeros n β (omega arith))))
+    pair_times (one n) f φ
+    ∙ pair_one n (λ α. pair f (λ β. φ (join α β)))
+    ∙ pair_in n f (λ β. φ (join (no_exponents n) β)) φ i (λ β e. ap φ (join_zeros n β (omega arith))))
 
 pub times-one : (n : ℕ) (f : Poly) → In n f → Same (times f (one n)) f
 times-one n f i = Same_trans (times f (one n)) (times (one n) f) f (times_comm f (one n)) (one-times n f i)
@@ -52,40 +52,40 @@ times-one n f i = Same_trans (times f (one n)) (times (one n) f) f (times_comm f
 pub times-plus : (f g h : Poly) → Same (times f (plus g h)) (plus (times f g) (times f h))
 times-plus f g h =
     same_from_pair (times f (plus g h)) (plus (times f g) (times f h)) (λ φ.
-      pair_times f (plus g h) φ
-        ∙ pair_ext f (λ α. pair (plus g h) (λ β. φ (join α β))) (λ α. pair g (λ β. φ (join α β)) +ℤ pair h (λ β. φ (join α β))) (λ α. pair_plus g h (λ β. φ (join α β)))
-        ∙ pair_add f (λ α. pair g (λ β. φ (join α β))) (λ α. pair h (λ β. φ (join α β)))
-        ∙ sym (pair_plus (times f g) (times f h) φ ∙ ap₂ ◌+ℤ◌ (pair_times f g φ) (pair_times f h φ)))
+    pair_times f (plus g h) φ
+    ∙ pair_ext f (λ α. pair (plus g h) (λ β. φ (join α β))) (λ α. pair g (λ β. φ (join α β)) +ℤ pair h (λ β. φ (join α β))) (λ α. pair_plus g h (λ β. φ (join α β)))
+    ∙ pair_add f (λ α. pair g (λ β. φ (join α β))) (λ α. pair h (λ β. φ (join α β)))
+    ∙ sym (pair_plus (times f g) (times f h) φ ∙ ap₂ ◌+ℤ◌ (pair_times f g φ) (pair_times f h φ)))
 
 pub plus-times : (f g h : Poly) → Same (times (plus f g) h) (plus (times f h) (times g h))
 plus-times f g h =
     same_from_pair (times (plus f g) h) (plus (times f h) (times g h)) (λ φ.
-      pair_times (plus f g) h φ
-        ∙ pair_plus f g (λ α. pair h (λ β. φ (join α β)))
-        ∙ sym (pair_plus (times f h) (times g h) φ ∙ ap₂ ◌+ℤ◌ (pair_times f h φ) (pair_times g h φ)))
+    pair_times (plus f g) h φ
+    ∙ pair_plus f g (λ α. pair h (λ β. φ (join α β)))
+    ∙ sym (pair_plus (times f h) (times g h) φ ∙ ap₂ ◌+ℤ◌ (pair_times f h φ) (pair_times g h φ)))
 
 pub scale-times : (c : ℤ) (f g : Poly) → Same (scale c (times f g)) (times (scale c f) g)
 scale-times c f g =
     same_from_pair (scale c (times f g)) (times (scale c f) g) (λ φ.
-      pair_scale c (times f g) φ
-        ∙ ap (λ n. c *ℤ n) (pair_times f g φ)
-        ∙ sym (pair_times (scale c f) g φ ∙ pair_scale c f (λ α. pair g (λ β. φ (join α β)))))
+    pair_scale c (times f g) φ
+    ∙ ap (λ n. c *ℤ n) (pair_times f g φ)
+    ∙ sym (pair_times (scale c f) g φ ∙ pair_scale c f (λ α. pair g (λ β. φ (join α β)))))
 
 pub times-scale : (c : ℤ) (f g : Poly) → Same (times f (scale c g)) (scale c (times f g))
 times-scale c f g =
     same_from_pair (times f (scale c g)) (scale c (times f g)) (λ φ.
-      pair_times f (scale c g) φ
-        ∙ pair_ext f (λ α. pair (scale c g) (λ β. φ (join α β))) (λ α. c *ℤ pair g (λ β. φ (join α β))) (λ α. pair_scale c g (λ β. φ (join α β)))
-        ∙ pair_factor c f (λ α. pair g (λ β. φ (join α β)))
-        ∙ sym (pair_scale c (times f g) φ ∙ ap (λ n. c *ℤ n) (pair_times f g φ)))
+    pair_times f (scale c g) φ
+    ∙ pair_ext f (λ α. pair (scale c g) (λ β. φ (join α β))) (λ α. c *ℤ pair g (λ β. φ (join α β))) (λ α. pair_scale c g (λ β. φ (join α β)))
+    ∙ pair_factor c f (λ α. pair g (λ β. φ (join α β)))
+    ∙ sym (pair_scale c (times f g) φ ∙ ap (λ n. c *ℤ n) (pair_times f g φ)))
 
 pub times-negate : (f g : Poly) → Same (times f (negate g)) (negate (times f g))
 times-negate f g =
     same_from_pair (times f (negate g)) (negate (times f g)) (λ φ.
-      pair_times f (negate g) φ
-        ∙ pair_ext f (λ α. pair (negate g) (λ β. φ (join α β))) (λ α. neg_ℤ (pair g (λ β. φ (join α β)))) (λ α. pair_negate g (λ β. φ (join α β)))
-        ∙ pair_opposite f (λ α. pair g (λ β. φ (join α β)))
-        ∙ sym (pair_negate (times f g) φ ∙ ap neg_ℤ (pair_times f g φ)))
+    pair_times f (negate g) φ
+    ∙ pair_ext f (λ α. pair (negate g) (λ β. φ (join α β))) (λ α. neg_ℤ (pair g (λ β. φ (join α β)))) (λ α. pair_negate g (λ β. φ (join α β)))
+    ∙ pair_opposite f (λ α. pair g (λ β. φ (join α β)))
+    ∙ sym (pair_negate (times f g) φ ∙ ap neg_ℤ (pair_times f g φ)))
 
 pub times-nothing : (f : Poly) → Same (times f nothing) nothing
 times-nothing f = same_from_pair (times f nothing) nothing (λ φ. pair_times f nothing φ ∙ pair_zero f)
@@ -99,9 +99,9 @@ kept n φ α = cond (fits_in n α) (φ (resize n α)) (pos 0)
 pub restrict-plus : (n : ℕ) (f g : Poly) → Same (restrict n (plus f g)) (plus (restrict n f) (restrict n g))
 restrict-plus n f g =
     same_from_pair (restrict n (plus f g)) (plus (restrict n f) (restrict n g)) (λ φ.
-      pair_restrict n (plus f g) φ
-        ∙ pair_plus f g (kept n φ)
-        ∙ sym (pair_plus (restrict n f) (restrict n g) φ ∙ ap₂ ◌+ℤ◌ (pair_restrict n f φ) (pair_restrict n g φ)))
+    pair_restrict n (plus f g) φ
+    ∙ pair_plus f g (kept n φ)
+    ∙ sym (pair_plus (restrict n f) (restrict n g) φ ∙ ap₂ ◌+ℤ◌ (pair_restrict n f φ) (pair_restrict n g φ)))
 
 restricted_join : (n : ℕ) (φ : List ℕ → ℤ) (g : Poly) (α : List ℕ) → pair g (λ β. kept n φ (join α β)) ≡ kept n (λ γ. pair g (kept n (λ β. φ (join γ β)))) α
 restricted_join n φ g α = by (fits_in n α) refl
@@ -109,44 +109,44 @@ restricted_join n φ g α = by (fits_in n α) refl
     by : (b : Bool) → fits_in n α ≡ b → pair g (λ β. kept n φ (join α β)) ≡ cond b (pair g (kept n (λ β. φ (join (resize n α) β)))) (pos 0)
     by true e =
         pair_ext g (λ β. kept n φ (join α β)) (kept n (λ β. φ (join (resize n α) β))) (λ β.
-          ap₂ (λ b γ. cond b (φ γ) (pos 0)) (fits_in-join n α β ∙ ap (λ b. b && fits_in n β) e) (resize-join n α β))
+        ap₂ (λ b γ. cond b (φ γ) (pos 0)) (fits_in-join n α β ∙ ap (λ b. b && fits_in n β) e) (resize-join n α β))
     by false e =
         pair_ext g (λ β. kept n φ (join α β)) (λ β. pos 0) (λ β. ap (λ b. cond b (φ (resize n (join α β))) (pos 0)) (fits_in-join n α β ∙ ap (λ b. b && fits_in n β) e))
-          ∙ pair_zero g
+        ∙ pair_zero g
 
 pub restrict-times : (n : ℕ) (f g : Poly) → Same (restrict n (times f g)) (times (restrict n f) (restrict n g))
 restrict-times n f g =
     same_from_pair (restrict n (times f g)) (times (restrict n f) (restrict n g)) (λ φ.
-      pair_restrict n (times f g) φ
-        ∙ pair_times f g (kept n φ)
-        ∙ pair_ext f (λ α. pair g (λ β. kept n φ (join α β))) (kept n (λ γ. pair g (kept n (λ β. φ (join γ β))))) (restricted_join n φ g)
-        ∙ sym (pair_times (restrict n f) (restrict n g) φ
-          ∙ pair_restrict n f (λ α. pair (restrict n g) (λ β. φ (join α β)))
-          ∙ pair_ext f (kept n (λ α. pair (restrict n g) (λ β. φ (join α β)))) (kept n (λ α. pair g (kept n (λ β. φ (join α β))))) (λ α.
-            ap (λ m. cond (fits_in n α) m (pos 0)) (pair_restrict n g (λ β. φ (join (resize n α) β))))))
+    pair_restrict n (times f g) φ
+    ∙ pair_times f g (kept n φ)
+    ∙ pair_ext f (λ α. pair g (λ β. kept n φ (join α β))) (kept n (λ γ. pair g (kept n (λ β. φ (join γ β))))) (restricted_join n φ g)
+    ∙ sym (pair_times (restrict n f) (restrict n g) φ
+    ∙ pair_restrict n f (λ α. pair (restrict n g) (λ β. φ (join α β)))
+    ∙ pair_ext f (kept n (λ α. pair (restrict n g) (λ β. φ (join α β)))) (kept n (λ α. pair g (kept n (λ β. φ (join α β))))) (λ α.
+    ap (λ m. cond (fits_in n α) m (pos 0)) (pair_restrict n g (λ β. φ (join (resize n α) β))))))
 
 pub restrict-one : (n k : ℕ) → Same (restrict n (one k)) (one n)
 restrict-one n k =
     same_from_pair (restrict n (one k)) (one n) (λ φ.
-      pair_restrict n (one k) φ
-        ∙ pair_one k (kept n φ)
-        ∙ ap₂ (λ b γ. cond b (φ γ) (pos 0)) (fits_in_zeros n k) (resize_zeros n k)
-        ∙ sym (pair_one n φ))
+    pair_restrict n (one k) φ
+    ∙ pair_one k (kept n φ)
+    ∙ ap₂ (λ b γ. cond b (φ γ) (pos 0)) (fits_in_zeros n k) (resize_zeros n k)
+    ∙ sym (pair_one n φ))
 
 pub restrict-scale : (n : ℕ) (c : ℤ) (f : Poly) → Same (restrict n (scale c f)) (scale c (restrict n f))
 restrict-scale n c f =
     same_from_pair (restrict n (scale c f)) (scale c (restrict n f)) (λ φ.
-      pair_restrict n (scale c f) φ ∙ pair_scale c f (kept n φ) ∙ sym (pair_scale c (restrict n f) φ ∙ ap (λ m. c *ℤ m) (pair_restrict n f φ)))
+    pair_restrict n (scale c f) φ ∙ pair_scale c f (kept n φ) ∙ sym (pair_scale c (restrict n f) φ ∙ ap (λ m. c *ℤ m) (pair_restrict n f φ)))
 
 pub restrict-restrict : (k n : ℕ) (f : Poly) → k ≤ n → Same (restrict k (restrict n f)) (restrict k f)
 restrict-restrict k n f h =
     same_from_pair (restrict k (restrict n f)) (restrict k f) (λ φ.
-      pair_restrict k (restrict n f) φ
-        ∙ pair_restrict n f (kept k φ)
-        ∙ pair_ext f (kept n (kept k φ)) (kept k φ) (λ α.
-          both (fits_in n α) (fits_in k (resize n α)) (φ (resize k (resize n α)))
-            ∙ ap₂ (λ b γ. cond b (φ γ) (pos 0)) (fits_in-resize k n α h) (resize-resize k n α h))
-        ∙ sym (pair_restrict k f φ))
+    pair_restrict k (restrict n f) φ
+    ∙ pair_restrict n f (kept k φ)
+    ∙ pair_ext f (kept n (kept k φ)) (kept k φ) (λ α.
+    both (fits_in n α) (fits_in k (resize n α)) (φ (resize k (resize n α)))
+    ∙ ap₂ (λ b γ. cond b (φ γ) (pos 0)) (fits_in-resize k n α h) (resize-resize k n α h))
+    ∙ sym (pair_restrict k f φ))
   where
     both : (a b : Bool) (x : ℤ) → cond a (cond b x (pos 0)) (pos 0) ≡ cond (a && b) x (pos 0)
     both true b x = refl
@@ -156,5 +156,36 @@ restrict-restrict k n f h =
 pub restrict_all : (n : ℕ) (f : Poly) → In n f → Same (restrict n f) f
 restrict_all n f i =
     same_from_pair (restrict n f) f (λ φ.
-      pair_restrict n f φ
-        ∙ pair_in n f (kept n φ) φ i (λ α e. ap₂ (λ b γ. cond b (φ γ) (pos 0)) (fits_in_length n α (omega arith)) (resize_same n α e)))
+    pair_restrict n f φ
+    ∙ pair_in n f (kept n φ) φ i (λ α e. ap₂ (λ b γ. cond b (φ γ) (pos 0)) (fits_in_length n α (omega arith)) (resize_same n α e)))
+
+-- in k variables a restriction has the coefficients of the polynomial at lists padded with zeros
+pub coefficient_restrict_in : (k n : ℕ) (f : Poly) (α : List ℕ) → k ≤ n → In n f → length α ≡ k → coefficient (restrict k f) α ≡ coefficient f (resize n α)
+coefficient_restrict_in k n f α h i l =
+    coefficient_pair (restrict k f) α
+    ∙ pair_restrict k f (at_only α)
+    ∙ pair_in n f (kept k (at_only α)) (at_only (resize n α)) i (λ β e. agree β e (fits_in k β) refl)
+    ∙ sym (coefficient_pair f (resize n α))
+  where
+    back : resize k (resize n α) ≡ α
+    back = resize-resize k n α h ∙ resize_same k α l
+
+    agree : (β : List ℕ) → length β ≡ n → (b : Bool) → fits_in k β ≡ b → cond b (at_only α (resize k β)) (pos 0) ≡ at_only (resize n α) β
+    agree β e true t =
+        ap (λ b. cond b (pos 1) (pos 0)) (tests_agree (same (resize k β) α) (same β (resize n α))
+        (λ s. same_from β (resize n α) (sym (resize_back k n β h e t) ∙ ap (resize n) (same_true (resize k β) α s)))
+        (λ s. same_from (resize k β) α (ap (resize k) (same_true β (resize n α) s) ∙ back)))
+    agree β e false t =
+        ap (λ b. cond b (pos 1) (pos 0)) (sym (same_apart β (resize n α) (λ d. both_ways (fits_in k β) t (ap (fits_in k) d ∙ fits_in_resized k n α l))))
+
+-- the coefficient of a product with one term
+pub coefficient_times_term : (n : ℕ) (s : Term) (g : Poly) (β : List ℕ) → In n g → length β ≡ n → coefficient (times (s ∷ []) g) (join s.0 β) ≡ s.1 *ℤ coefficient g β
+coefficient_times_term n s g β i l =
+    coefficient_pair (times (s ∷ []) g) (join s.0 β)
+    ∙ pair_times (s ∷ []) g (at_only (join s.0 β))
+    ∙ +ℤ_idr _
+    ∙ ap (λ c. s.1 *ℤ c) (pair_in n g (λ δ. at_only (join s.0 β) (join s.0 δ)) (at_only β) i (λ δ e.
+    ap (λ b. cond b (pos 1) (pos 0)) (tests_agree (same (join s.0 δ) (join s.0 β)) (same δ β)
+    (λ t. same_from δ β (join_cancel_left s.0 δ β (e ∙ sym l) (same_true (join s.0 δ) (join s.0 β) t)))
+    (λ t. same_from (join s.0 δ) (join s.0 β) (ap (join s.0) (same_true δ β t)))))
+    ∙ sym (coefficient_pair g β))

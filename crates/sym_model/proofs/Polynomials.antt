@@ -1,16 +1,16 @@
 -- Polynomials through their pairings with test functions. Two polynomials are the same exactly where all
 -- pairings agree (`pair_determined`, `same_from_pair`); the pairing of a sum, product or restriction is
 -- a pairing of its parts, so that a law of polynomials is a law of finite sums.
-use Rattle.std.proofs.Common.{◌≡◌, ℕ, zero, suc, ◌+◌, ◌≤◌, ◌⊎◌, Bool, true, false, cond, not, List, [], ◌∷◌, ◌++◌, map, length, replicate, sym, ◌∙◌, ap, ap₂, subst, refl, inl, inr, arith, ℤ, pos, ◌+ℤ◌, ◌*ℤ◌, neg_ℤ, append_assoc}
+use Rattle.std.proofs.Common.{◌≡◌, ℕ, zero, suc, ◌≤◌, ◌⊎◌, Bool, true, false, cond, not, List, [], ◌∷◌, ◌++◌, map, length, sym, ◌∙◌, ap, ap₂, subst, refl, inl, inr, arith, ℤ, pos, ◌+ℤ◌, ◌*ℤ◌, neg_ℤ}
 use Rattle.std.proofs.lemmas.Int.{ints}
 use Rattle.std.proofs.lemmas.Bool.{cases_eq}
 use Rattle.std.proofs.lemmas.List.{length-replicate}
 use Rattle.sym_model.specs.Sum.{total, each, select, Among}
 use Rattle.sym_model.specs.Polynomial.{Term, Poly, same, coefficient, Same, In, nothing, no_exponents, one, join, plus, scale, negate, times, pair, resize, fits_in, restrict}
-use Rattle.sym_model.proofs.Ring.{ring, distributes_left, distributes_right, product_assoc, product_left_comm, negation-product, product-negation, product-one, one-product}
-use Rattle.sym_model.proofs.Sums.{total_ext, total_among, total_append, total_zero, total_none, total_add, total_neg, total_scale, total_map, total_each, total_select, total_exchange, Among_from_append, Among_from_map, Among_from_each, Among_from_select}
-use Rattle.sym_model.proofs.Exponents.{same_refl, same_true, same_from, same_false, same_apart, same_or_not, length-join_same, length-resize}
-use lib.IntN.{+ℤ_idl, *ℤ-zero, zero-*ℤ, *ℤ_comm}
+use Rattle.sym_model.proofs.Ring.{distributes_left, product_assoc, product_left_comm, negation-product, product-negation, product-one, one-product}
+use Rattle.sym_model.proofs.Sums.{total_ext, total_among, total_append, total_none, total_add, total_neg, total_scale, total_map, total_each, total_select, total_exchange, Among_from_append, Among_from_map, Among_from_each, Among_from_select}
+use Rattle.sym_model.proofs.Exponents.{same_refl, same_true, same_apart, same_or_not, length-join_same, length-resize}
+use lib.IntN.{+ℤ_idl, *ℤ-zero, *ℤ_comm}
 
 -- ---- pairing with changed test functions
 
@@ -24,17 +24,17 @@ pair_in n f φ ψ i e = total_among (λ (t : Term). t.1 *ℤ φ t.0) (λ (t : Te
 pub pair_add : (f : Poly) (φ ψ : List ℕ → ℤ) → pair f (λ α. φ α +ℤ ψ α) ≡ pair f φ +ℤ pair f ψ
 pair_add f φ ψ =
     total_ext (λ (t : Term). t.1 *ℤ (φ t.0 +ℤ ψ t.0)) (λ (t : Term). t.1 *ℤ φ t.0 +ℤ t.1 *ℤ ψ t.0) (λ t. distributes_left t.1 (φ t.0) (ψ t.0)) f
-      ∙ total_add (λ (t : Term). t.1 *ℤ φ t.0) (λ (t : Term). t.1 *ℤ ψ t.0) f
+    ∙ total_add (λ (t : Term). t.1 *ℤ φ t.0) (λ (t : Term). t.1 *ℤ ψ t.0) f
 
 pub pair_factor : (c : ℤ) (f : Poly) (φ : List ℕ → ℤ) → pair f (λ α. c *ℤ φ α) ≡ c *ℤ pair f φ
 pair_factor c f φ =
     total_ext (λ (t : Term). t.1 *ℤ (c *ℤ φ t.0)) (λ (t : Term). c *ℤ (t.1 *ℤ φ t.0)) (λ t. product_left_comm t.1 c (φ t.0)) f
-      ∙ total_scale c (λ (t : Term). t.1 *ℤ φ t.0) f
+    ∙ total_scale c (λ (t : Term). t.1 *ℤ φ t.0) f
 
 pub pair_opposite : (f : Poly) (φ : List ℕ → ℤ) → pair f (λ α. neg_ℤ (φ α)) ≡ neg_ℤ (pair f φ)
 pair_opposite f φ =
     total_ext (λ (t : Term). t.1 *ℤ neg_ℤ (φ t.0)) (λ (t : Term). neg_ℤ (t.1 *ℤ φ t.0)) (λ t. product-negation t.1 (φ t.0)) f
-      ∙ total_neg (λ (t : Term). t.1 *ℤ φ t.0) f
+    ∙ total_neg (λ (t : Term). t.1 *ℤ φ t.0) f
 
 pub pair_zero : (f : Poly) → pair f (λ α. pos 0) ≡ pos 0
 pair_zero f = total_none (λ (t : Term). t.1 *ℤ pos 0) f (λ t m. *ℤ-zero t.1)
@@ -43,12 +43,12 @@ pair_zero f = total_none (λ (t : Term). t.1 *ℤ pos 0) f (λ t m. *ℤ-zero t.
 pub pair_total : {A : Type 0} (f : Poly) (φ : A → List ℕ → ℤ) (xs : List A) → pair f (λ α. total (λ (x : A). φ x α) xs) ≡ total (λ (x : A). pair f (φ x)) xs
 pair_total {A} f φ xs =
     total_ext (λ (t : Term). t.1 *ℤ total (λ (x : A). φ x t.0) xs) (λ (t : Term). total (λ (x : A). t.1 *ℤ φ x t.0) xs) (λ t. sym (total_scale t.1 (λ (x : A). φ x t.0) xs)) f
-      ∙ total_exchange (λ (t : Term) (x : A). t.1 *ℤ φ x t.0) f xs
+    ∙ total_exchange (λ (t : Term) (x : A). t.1 *ℤ φ x t.0) f xs
 
 pub pair_exchange : (f g : Poly) (φ : List ℕ → List ℕ → ℤ) → pair f (λ α. pair g (λ β. φ α β)) ≡ pair g (λ β. pair f (λ α. φ α β))
 pair_exchange f g φ =
     pair_total {A = Term} f (λ (t : Term) (α : List ℕ). t.1 *ℤ φ α t.0) g
-      ∙ total_ext (λ (t : Term). pair f (λ α. t.1 *ℤ φ α t.0)) (λ (t : Term). t.1 *ℤ pair f (λ α. φ α t.0)) (λ t. pair_factor t.1 f (λ α. φ α t.0)) g
+    ∙ total_ext (λ (t : Term). pair f (λ α. t.1 *ℤ φ α t.0)) (λ (t : Term). t.1 *ℤ pair f (λ α. φ α t.0)) (λ t. pair_factor t.1 f (λ α. φ α t.0)) g
 
 -- ---- pairing of sums, multiples, products and restrictions
 
@@ -58,14 +58,14 @@ pair_plus f g φ = total_append (λ (t : Term). t.1 *ℤ φ t.0) f g
 pub pair_scale : (c : ℤ) (f : Poly) (φ : List ℕ → ℤ) → pair (scale c f) φ ≡ c *ℤ pair f φ
 pair_scale c f φ =
     total_map (λ (t : Term). t.1 *ℤ φ t.0) (λ (t : Term). (t.0, c *ℤ t.1)) f
-      ∙ total_ext (λ (t : Term). (c *ℤ t.1) *ℤ φ t.0) (λ (t : Term). c *ℤ (t.1 *ℤ φ t.0)) (λ t. product_assoc c t.1 (φ t.0)) f
-      ∙ total_scale c (λ (t : Term). t.1 *ℤ φ t.0) f
+    ∙ total_ext (λ (t : Term). (c *ℤ t.1) *ℤ φ t.0) (λ (t : Term). c *ℤ (t.1 *ℤ φ t.0)) (λ t. product_assoc c t.1 (φ t.0)) f
+    ∙ total_scale c (λ (t : Term). t.1 *ℤ φ t.0) f
 
 pub pair_negate : (f : Poly) (φ : List ℕ → ℤ) → pair (negate f) φ ≡ neg_ℤ (pair f φ)
 pair_negate f φ =
     total_map (λ (t : Term). t.1 *ℤ φ t.0) (λ (t : Term). (t.0, neg_ℤ t.1)) f
-      ∙ total_ext (λ (t : Term). neg_ℤ t.1 *ℤ φ t.0) (λ (t : Term). neg_ℤ (t.1 *ℤ φ t.0)) (λ t. negation-product t.1 (φ t.0)) f
-      ∙ total_neg (λ (t : Term). t.1 *ℤ φ t.0) f
+    ∙ total_ext (λ (t : Term). neg_ℤ t.1 *ℤ φ t.0) (λ (t : Term). neg_ℤ (t.1 *ℤ φ t.0)) (λ t. negation-product t.1 (φ t.0)) f
+    ∙ total_neg (λ (t : Term). t.1 *ℤ φ t.0) f
 
 pub pair_each : {A : Type 0} (h : A → Poly) (xs : List A) (φ : List ℕ → ℤ) → pair (each h xs) φ ≡ total (λ (x : A). pair (h x) φ) xs
 pair_each h xs φ = total_each (λ (t : Term). t.1 *ℤ φ t.0) h xs
@@ -74,19 +74,19 @@ pair_each h xs φ = total_each (λ (t : Term). t.1 *ℤ φ t.0) h xs
 pub pair_monomials : (αs : List (List ℕ)) (φ : List ℕ → ℤ) → pair (map (λ (α : List ℕ). (α, pos 1)) αs) φ ≡ total φ αs
 pair_monomials αs φ =
     total_map (λ (t : Term). t.1 *ℤ φ t.0) (λ (α : List ℕ). (α, pos 1)) αs
-      ∙ total_ext (λ (α : List ℕ). pos 1 *ℤ φ α) φ (λ α. one-product (φ α)) αs
+    ∙ total_ext (λ (α : List ℕ). pos 1 *ℤ φ α) φ (λ α. one-product (φ α)) αs
 
 -- a product with one term
 pub pair_shift : (s : Term) (g : Poly) (φ : List ℕ → ℤ) → pair (map (λ (t : Term). (join s.0 t.0, s.1 *ℤ t.1)) g) φ ≡ s.1 *ℤ pair g (λ β. φ (join s.0 β))
 pair_shift s g φ =
     total_map (λ (t : Term). t.1 *ℤ φ t.0) (λ (t : Term). (join s.0 t.0, s.1 *ℤ t.1)) g
-      ∙ total_ext (λ (t : Term). (s.1 *ℤ t.1) *ℤ φ (join s.0 t.0)) (λ (t : Term). s.1 *ℤ (t.1 *ℤ φ (join s.0 t.0))) (λ t. product_assoc s.1 t.1 (φ (join s.0 t.0))) g
-      ∙ total_scale s.1 (λ (t : Term). t.1 *ℤ φ (join s.0 t.0)) g
+    ∙ total_ext (λ (t : Term). (s.1 *ℤ t.1) *ℤ φ (join s.0 t.0)) (λ (t : Term). s.1 *ℤ (t.1 *ℤ φ (join s.0 t.0))) (λ t. product_assoc s.1 t.1 (φ (join s.0 t.0))) g
+    ∙ total_scale s.1 (λ (t : Term). t.1 *ℤ φ (join s.0 t.0)) g
 
 pub pair_times : (f g : Poly) (φ : List ℕ → ℤ) → pair (times f g) φ ≡ pair f (λ α. pair g (λ β. φ (join α β)))
 pair_times f g φ =
     pair_each (λ (s : Term). map (λ (t : Term). (join s.0 t.0, s.1 *ℤ t.1)) g) f φ
-      ∙ total_ext (λ (s : Term). pair (map (λ (t : Term). (join s.0 t.0, s.1 *ℤ t.1)) g) φ) (λ (s : Term). s.1 *ℤ pair g (λ β. φ (join s.0 β))) (λ s. pair_shift s g φ) f
+    ∙ total_ext (λ (s : Term). pair (map (λ (t : Term). (join s.0 t.0, s.1 *ℤ t.1)) g) φ) (λ (s : Term). s.1 *ℤ pair g (λ β. φ (join s.0 β))) (λ s. pair_shift s g φ) f
 
 pub pair_one : (n : ℕ) (φ : List ℕ → ℤ) → pair (one n) φ ≡ φ (no_exponents n)
 pair_one n φ = omega (arith, ints, one-product (φ (no_exponents n)))
@@ -94,8 +94,8 @@ pair_one n φ = omega (arith, ints, one-product (φ (no_exponents n)))
 pub pair_restrict : (n : ℕ) (f : Poly) (φ : List ℕ → ℤ) → pair (restrict n f) φ ≡ pair f (λ α. cond (fits_in n α) (φ (resize n α)) (pos 0))
 pair_restrict n f φ =
     total_map (λ (t : Term). t.1 *ℤ φ t.0) (λ (t : Term). (resize n t.0, t.1)) (select (λ (t : Term). fits_in n t.0) f)
-      ∙ total_select (λ (t : Term). t.1 *ℤ φ (resize n t.0)) (λ (t : Term). fits_in n t.0) f
-      ∙ total_ext (λ (t : Term). cond (fits_in n t.0) (t.1 *ℤ φ (resize n t.0)) (pos 0)) (λ (t : Term). t.1 *ℤ cond (fits_in n t.0) (φ (resize n t.0)) (pos 0)) (λ t. inside (fits_in n t.0) t.1 (φ (resize n t.0))) f
+    ∙ total_select (λ (t : Term). t.1 *ℤ φ (resize n t.0)) (λ (t : Term). fits_in n t.0) f
+    ∙ total_ext (λ (t : Term). cond (fits_in n t.0) (t.1 *ℤ φ (resize n t.0)) (pos 0)) (λ (t : Term). t.1 *ℤ cond (fits_in n t.0) (φ (resize n t.0)) (pos 0)) (λ t. inside (fits_in n t.0) t.1 (φ (resize n t.0))) f
   where
     inside : (b : Bool) (c x : ℤ) → cond b (c *ℤ x) (pos 0) ≡ c *ℤ cond b x (pos 0)
     inside true c x = refl
@@ -132,7 +132,7 @@ length_others α (t ∷ f) = by (same t.0 α) (length_others α f)
 pub others_there : (α : List ℕ) (f : Poly) → coefficient (others α f) α ≡ pos 0
 others_there α f =
     total_select (λ (t : Term). cond (same t.0 α) t.1 (pos 0)) (λ (t : Term). not (same t.0 α)) f
-      ∙ total_none (λ (t : Term). cond (not (same t.0 α)) (cond (same t.0 α) t.1 (pos 0)) (pos 0)) f (λ t m. by (same t.0 α) t.1)
+    ∙ total_none (λ (t : Term). cond (not (same t.0 α)) (cond (same t.0 α) t.1 (pos 0)) (pos 0)) f (λ t m. by (same t.0 α) t.1)
   where
     by : (b : Bool) (c : ℤ) → cond (not b) (cond b c (pos 0)) (pos 0) ≡ pos 0
     by true c = refl
@@ -141,7 +141,7 @@ others_there α f =
 pub others_elsewhere : (α β : List ℕ) (f : Poly) → (α ≡ β → ⊥) → coefficient (others α f) β ≡ coefficient f β
 others_elsewhere α β f h =
     total_select (λ (t : Term). cond (same t.0 β) t.1 (pos 0)) (λ (t : Term). not (same t.0 α)) f
-      ∙ total_ext (λ (t : Term). cond (not (same t.0 α)) (cond (same t.0 β) t.1 (pos 0)) (pos 0)) (λ (t : Term). cond (same t.0 β) t.1 (pos 0)) (λ t. by t (same t.0 α) refl) f
+    ∙ total_ext (λ (t : Term). cond (not (same t.0 α)) (cond (same t.0 β) t.1 (pos 0)) (pos 0)) (λ (t : Term). cond (same t.0 β) t.1 (pos 0)) (λ t. by t (same t.0 α) refl) f
   where
     by : (t : Term) (b : Bool) → same t.0 α ≡ b → cond (not b) (cond (same t.0 β) t.1 (pos 0)) (pos 0) ≡ cond (same t.0 β) t.1 (pos 0)
     by t true e = ap (λ d. cond d t.1 (pos 0)) (sym (same_apart t.0 β (λ d. h (sym (same_true t.0 α e) ∙ d))))
@@ -151,13 +151,15 @@ others_elsewhere α β f h =
 pair_others : (α : List ℕ) (f : Poly) (φ : List ℕ → ℤ) → pair f φ ≡ φ α *ℤ coefficient f α +ℤ pair (others α f) φ
 pair_others α f φ =
     total_ext (λ (t : Term). t.1 *ℤ φ t.0) (λ (t : Term). φ α *ℤ here t +ℤ there t) (λ t. by t (same t.0 α) refl) f
-      ∙ total_add (λ (t : Term). φ α *ℤ here t) there f
-      ∙ ap₂ ◌+ℤ◌ (total_scale (φ α) here f) (sym (total_select (λ (t : Term). t.1 *ℤ φ t.0) (λ (t : Term). not (same t.0 α)) f))
+    ∙ total_add (λ (t : Term). φ α *ℤ here t) there f
+    ∙ ap₂ ◌+ℤ◌ (total_scale (φ α) here f) (sym (total_select (λ (t : Term). t.1 *ℤ φ t.0) (λ (t : Term). not (same t.0 α)) f))
   where
     here : Term → ℤ
     here t = cond (same t.0 α) t.1 (pos 0)
+
     there : Term → ℤ
     there t = cond (not (same t.0 α)) (t.1 *ℤ φ t.0) (pos 0)
+
     by : (t : Term) (b : Bool) → same t.0 α ≡ b → t.1 *ℤ φ t.0 ≡ φ α *ℤ cond b t.1 (pos 0) +ℤ cond (not b) (t.1 *ℤ φ t.0) (pos 0)
     by t true e = let d = ap (λ γ. t.1 *ℤ φ γ) (same_true t.0 α e) in let k = *ℤ_comm t.1 (φ α) in omega (arith, ints)
     by t false e = let z = *ℤ-zero (φ α) in omega (arith, ints)
@@ -180,22 +182,23 @@ agree_by_length n [] φ ψ l h = refl
 agree_by_length zero (t ∷ f) φ ψ l h = absurd (omega arith)
 agree_by_length (suc n) (t ∷ f) φ ψ l h =
     pair_first t f φ
-      ∙ ap₂ ◌+ℤ◌ here (agree_by_length n (others t.0 f) φ ψ (omega (arith, length_others t.0 f)) left)
-      ∙ sym (pair_first t f ψ)
+    ∙ ap₂ ◌+ℤ◌ here (agree_by_length n (others t.0 f) φ ψ (omega (arith, length_others t.0 f)) left)
+    ∙ sym (pair_first t f ψ)
   where
     here : φ t.0 *ℤ coefficient (t ∷ f) t.0 ≡ ψ t.0 *ℤ coefficient (t ∷ f) t.0
     here = elim (h t.0) [
-        inl e ↦ ap (λ c. φ t.0 *ℤ c) e ∙ *ℤ-zero (φ t.0) ∙ sym (*ℤ-zero (ψ t.0)) ∙ sym (ap (λ c. ψ t.0 *ℤ c) e)
+      | inl e ↦ ap (λ c. φ t.0 *ℤ c) e ∙ *ℤ-zero (φ t.0) ∙ sym (*ℤ-zero (ψ t.0)) ∙ sym (ap (λ c. ψ t.0 *ℤ c) e)
       | inr e ↦ ap (λ x. x *ℤ coefficient (t ∷ f) t.0) e
-      ]
+    ]
+
     left : (β : List ℕ) → (coefficient (others t.0 f) β ≡ pos 0) ⊎ (φ β ≡ ψ β)
     left β = elim (same_or_not t.0 β) [
-        inl e ↦ inl (subst (λ γ. coefficient (others t.0 f) γ ≡ pos 0) e (others_there t.0 f))
+      | inl e ↦ inl (subst (λ γ. coefficient (others t.0 f) γ ≡ pos 0) e (others_there t.0 f))
       | inr d ↦ elim (h β) [
-          inl e ↦ inl (others_elsewhere t.0 β f d ∙ sym (+ℤ_idl (coefficient f β)) ∙ ap (λ b. cond b t.1 (pos 0) +ℤ coefficient f β) (sym (same_apart t.0 β d)) ∙ e)
+        | inl e ↦ inl (others_elsewhere t.0 β f d ∙ sym (+ℤ_idl (coefficient f β)) ∙ ap (λ b. cond b t.1 (pos 0) +ℤ coefficient f β) (sym (same_apart t.0 β d)) ∙ e)
         | inr e ↦ inr e
-        ]
       ]
+    ]
 
 -- two test functions pair alike with f if they agree wherever f has a coefficient that is not 0
 pub pair_agree : (f : Poly) (φ ψ : List ℕ → ℤ) → ((α : List ℕ) → (coefficient f α ≡ pos 0) ⊎ (φ α ≡ ψ α)) → pair f φ ≡ pair f ψ
@@ -247,15 +250,15 @@ negate_respects f g e =
 pub times_respects : (f g h k : Poly) → Same f g → Same h k → Same (times f h) (times g k)
 times_respects f g h k d e =
     same_from_pair (times f h) (times g k) (λ φ.
-      pair_times f h φ
-        ∙ pair_ext f (λ α. pair h (λ β. φ (join α β))) (λ α. pair k (λ β. φ (join α β))) (λ α. pair_determined h k (λ β. φ (join α β)) e)
-        ∙ pair_determined f g (λ α. pair k (λ β. φ (join α β))) d
-        ∙ sym (pair_times g k φ))
+    pair_times f h φ
+    ∙ pair_ext f (λ α. pair h (λ β. φ (join α β))) (λ α. pair k (λ β. φ (join α β))) (λ α. pair_determined h k (λ β. φ (join α β)) e)
+    ∙ pair_determined f g (λ α. pair k (λ β. φ (join α β))) d
+    ∙ sym (pair_times g k φ))
 
 pub restrict_respects : (n : ℕ) (f g : Poly) → Same f g → Same (restrict n f) (restrict n g)
 restrict_respects n f g e =
     same_from_pair (restrict n f) (restrict n g) (λ φ.
-      pair_restrict n f φ ∙ pair_determined f g (λ α. cond (fits_in n α) (φ (resize n α)) (pos 0)) e ∙ sym (pair_restrict n g φ))
+    pair_restrict n f φ ∙ pair_determined f g (λ α. cond (fits_in n α) (φ (resize n α)) (pos 0)) e ∙ sym (pair_restrict n g φ))
 
 -- ---- polynomials in n variables
 
@@ -291,7 +294,7 @@ In_negate n f i = In_map n (λ (t : Term). (t.0, neg_ℤ t.1)) f i
 pub In_times : (n : ℕ) (f g : Poly) → In n f → In n g → In n (times f g)
 In_times n f g i j =
     In_each n (λ (s : Term). map (λ (t : Term). (join s.0 t.0, s.1 *ℤ t.1)) g) f (λ s m.
-      In_map n (λ (t : Term). (join s.0 t.0, s.1 *ℤ t.1)) g (λ t k. length-join_same n s.0 t.0 (i s m) (j t k)))
+    In_map n (λ (t : Term). (join s.0 t.0, s.1 *ℤ t.1)) g (λ t k. length-join_same n s.0 t.0 (i s m) (j t k)))
 
 pub In_restrict : (n : ℕ) (f : Poly) → In n (restrict n f)
 In_restrict n f = In_map n (λ (t : Term). (resize n t.0, t.1)) (select (λ (t : Term). fits_in n t.0) f) (λ t m. length-resize n t.0)
@@ -300,14 +303,14 @@ In_restrict n f = In_map n (λ (t : Term). (resize n t.0, t.1)) (select (λ (t :
 pub coefficient_outside : (n : ℕ) (f : Poly) (α : List ℕ) → In n f → (length α ≡ n → ⊥) → coefficient f α ≡ pos 0
 coefficient_outside n f α i h =
     total_none (λ (t : Term). cond (same t.0 α) t.1 (pos 0)) f (λ t m.
-      ap (λ b. cond b t.1 (pos 0)) (same_apart t.0 α (λ e. h (ap length (sym e) ∙ i t m))))
+    ap (λ b. cond b t.1 (pos 0)) (same_apart t.0 α (λ e. h (ap length (sym e) ∙ i t m))))
 
 -- two polynomials in n variables are one where their coefficients at lists of n places agree
 pub same_in : (n : ℕ) (f g : Poly) → In n f → In n g → ((α : List ℕ) → length α ≡ n → coefficient f α ≡ coefficient g α) → Same f g
 same_in n f g i j e α =
     elim (cases_eq (length α) n) [
-      inl d ↦ e α d
-    | inr d ↦ coefficient_outside n f α i d ∙ sym (coefficient_outside n g α j d)
+      | inl d ↦ e α d
+      | inr d ↦ coefficient_outside n f α i d ∙ sym (coefficient_outside n g α j d)
     ]
 
 pub coefficient_plus : (f g : Poly) (α : List ℕ) → coefficient (plus f g) α ≡ coefficient f α +ℤ coefficient g α

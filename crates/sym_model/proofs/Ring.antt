@@ -5,7 +5,7 @@
 use Rattle.std.proofs.Common.{◌≡◌, ℕ, ◌+◌, ◌*◌, sym, ◌∙◌, ap, arith, ℤ, pos, ◌+ℤ◌, ◌-ℤ◌, ◌*ℤ◌, neg_ℤ}
 use Rattle.std.proofs.lemmas.Int.{ints}
 use borrow.Author.Differences.{up, down, sum_is_lem, product_is, neg_is}
-use lib.IntN.{*ℤ_comm, zero-*ℤ, *ℤ-zero, neg_ℤ-neg_ℤ, neg_ℤ-+ℤ}
+use lib.IntN.{*ℤ_comm, zero-*ℤ, *ℤ-zero}
 
 -- ---- products, sums and negations
 

@@ -4,7 +4,7 @@
 --     total_exchange              two sums in either order
 --     total_within                a list without repeats within another of its length has its sums
 --     total_same_members, total_reindex, total_bijection, total_cancel      what follows from that
-use Rattle.std.proofs.Common.{◌≡◌, ℕ, zero, suc, ◌+◌, ◌≤◌, ◌⊎◌, Bool, true, false, cond, not, List, [], ◌∷◌, ◌++◌, map, length, sym, ◌∙◌, ap, ap₂, subst, refl, inl, inr, ⊎_elim, true≢false, arith, ℤ, pos, ◌+ℤ◌, ◌*ℤ◌, neg_ℤ}
+use Rattle.std.proofs.Common.{◌≡◌, suc, ◌≤◌, ◌⊎◌, Bool, true, false, cond, not, List, [], ◌∷◌, ◌++◌, map, length, sym, ◌∙◌, ap, ap₂, subst, refl, inl, inr, arith, ℤ, pos, ◌+ℤ◌, ◌*ℤ◌, neg_ℤ}
 use Rattle.std.proofs.lemmas.Int.{ints}
 use Rattle.sym_model.specs.Sum.{total, each, select, Among, Once, Within}
 use Rattle.sym_model.proofs.Ring.{distributes_left}
@@ -260,8 +260,10 @@ total_bijection {A} {B} f h k xs ys o p into back kh hk =
   where
     inj : (x y : A) → Among x xs → Among y xs → h x ≡ h y → x ≡ y
     inj x y m n e = sym (kh x m) ∙ ap k e ∙ kh y n
+
     within : Within (map h xs) ys
     within z m = let r = Among_from_map h z xs m in subst (λ u. Among u ys) (sym r.2) (into r.0 r.1)
+
     reach : Within ys (map h xs)
     reach z m = subst (λ u. Among u (map h xs)) (hk z m) (Among-map h (k z) xs (back z m))
 
@@ -276,7 +278,7 @@ total_cancel {A} f h xs o into twice turn =
 
 -- a sum in which only one member counts
 pub total_only : {A : Type 0} (f : A → ℤ) (a : A) (xs : List A) → Once xs → Among a xs → ((x : A) → Among x xs → (x ≡ a → ⊥) → f x ≡ pos 0) → total f xs ≡ f a
-total_only {A} f a xs o m zero_at = 
+total_only {A} f a xs o m zero_at =
     let e = total-without f a xs m in
     let d = total_none f (without a xs m) others in
     omega (arith, ints)

@@ -13,5 +13,8 @@ pub mod Weight
 pub mod Words
 pub mod Offence
 pub mod LeftToRight
+pub mod WholeTerms
+pub mod PowerSumProduct
 pub mod Leading
+pub mod PlainTerm
 pub mod PartitionList

@@ -7,6 +7,9 @@
 
 mod examples;
 mod grammar;
+mod leading;
+mod power_sums;
+mod plain_blocks;
 mod partition_lists;
 mod plain_order;
 mod printing;
@@ -15,7 +18,10 @@ mod ring_laws;
 mod sum_laws;
 
 pub use grammar::{expression_examples_law, grammar_law, left_to_right_law};
+pub use leading::leading_cancel_law;
+pub use power_sums::power_sum_product_law;
 pub use examples::{block_examples_law, order_examples_law, worked_examples_law};
+pub use plain_blocks::{PlainTerm, plain_block};
 pub use partition_lists::partitions_of_law;
 pub use plain_order::{plain_falling_lexicographic, plain_printed_order, plain_size};
 pub use printing::printed_block_law;

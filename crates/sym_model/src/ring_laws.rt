@@ -20,12 +20,7 @@ pub fn poly_ring_law()
     ensures times_respects { (f g h k : Poly) → Same f g → Same h k → Same (times f h) (times g k) }
     ensures scale_respects { (c : ℤ) (f g : Poly) → Same f g → Same (scale c f) (scale c g) }
     ensures restrict_respects { (n : ℕ) (f g : Poly) → Same f g → Same (restrict n f) (restrict n g) }
-    ensures restrict_plus {
-        (n : ℕ) (f g : Poly) → Same (restrict n (plus f g)) (plus (restrict n f) (restrict n g))
-    }
-    ensures restrict_times {
-        (n : ℕ) (f g : Poly) → Same (restrict n (times f g)) (times (restrict n f) (restrict n g))
-    }
+    ensures restrict_plus { (n : ℕ) (f g : Poly) → Same (restrict n (plus f g)) (plus (restrict n f) (restrict n g)) }
+    ensures restrict_times { (n : ℕ) (f g : Poly) → Same (restrict n (times f g)) (times (restrict n f) (restrict n g)) }
     ensures restrict_one { (n k : ℕ) → Same (restrict n (one k)) (one n) }
-{
-}
+{}
