@@ -1,5 +1,6 @@
 pub mod PhraseRuns
 pub mod PhrasePrefixes
+pub mod PhraseMarks
 pub mod GreatestCommonDivisors
 pub mod Ring
 pub mod Sums
