@@ -1,3 +1,4 @@
 pub mod TreeFacts
 pub mod WeightFacts
 pub mod GrowthFacts
+pub mod FirstOffences

@@ -3,6 +3,9 @@
 
 mod expr;
 mod formula;
+mod offence;
+mod scan;
+mod symbol;
 mod weigh;
 
 pub use calc_base::{Basis, Weight};
