@@ -2,3 +2,4 @@ pub mod TreeFacts
 pub mod WeightFacts
 pub mod GrowthFacts
 pub mod FirstOffences
+pub mod ScanFacts
