@@ -3,3 +3,4 @@ pub mod WeightFacts
 pub mod GrowthFacts
 pub mod FirstOffences
 pub mod ScanFacts
+pub mod ScanRuns

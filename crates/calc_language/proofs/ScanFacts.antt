@@ -55,7 +55,7 @@ small-digit : (c : ℕ) → c < 256 → c - 48 ≡ capped (c - 48)
 small-digit c h = omega arith
 
 -- a digit where a number may begin
-abbrev IsByte : Symbol → Type 0
+abbrev pub IsByte : Symbol → Type 0
 IsByte (digit c) = c < 256
 IsByte _ = Unit {0}
 
@@ -189,13 +189,13 @@ agrees _ (in_entry basis ws ds) t f o h = refl
 agrees s (closed x) t f o h = agrees-after_factor s x t f o
 
 -- the mark that a symbol completes
-abbrev plain : ℕ × Mark → ℕ × PlainMark
+abbrev pub plain : ℕ × Mark → ℕ × PlainMark
 plain m = (m.0, mark_in m.1)
 
-abbrev cap : ℕ × PlainMark → ℕ × PlainMark
+abbrev pub cap : ℕ × PlainMark → ℕ × PlainMark
 cap m = (m.0, capped_mark m.1)
 
-abbrev SameMark : Option (ℕ × Mark) → Option (ℕ × PlainMark) → Type 0
+abbrev pub SameMark : Option (ℕ × Mark) → Option (ℕ × PlainMark) → Type 0
 SameMark kept found = option_map plain kept ≡ option_map cap found
 
 pub piece-mark : (p : Piece Phrase (List ℕ)) (t : BeforeTerm Phrase) (f : BeforeFactor Phrase) (o : Opened Phrase)
@@ -224,7 +224,7 @@ opening-mark (in_list basis ws) t f o h = cc
 opening-mark (in_entry basis ws ds) t f o h = cc
 opening-mark (closed x) t f o h = cc
 
-same-mark : (s : Symbol) (p : Piece Phrase (List ℕ)) (t : BeforeTerm Phrase) (f : BeforeFactor Phrase) (o : Opened Phrase)
+pub same-mark : (s : Symbol) (p : Piece Phrase (List ℕ)) (t : BeforeTerm Phrase) (f : BeforeFactor Phrase) (o : Opened Phrase)
     → is_live (step phrases (at p t f o) s) ≡ true
     → SameMark (mark_before (mode_of p t f o) (depth_of o) (length (written (at p t f o))) s) (new_mark (at p t f o) s)
 same-mark (digit c) p t f o h = refl

@@ -112,6 +112,17 @@ StepsTo before at s (Some after) =
     (mode_after before.mode at s ≡ Some after.mode) × (depth_after before.depth s ≡ Some after.depth)
     × Sees before (mark_before before.mode before.depth at s) after
 
+-- whether a mode has a whole factor
+abbrev pub has_factor : Mode → Bool
+has_factor (Number start n) = true
+has_factor (Denominator start n) = true
+has_factor Whole = true
+has_factor _ = false
+
+-- whether the bytes so far are an expression
+abbrev pub is_whole : Scan → Bool
+is_whole s = has_factor s.mode && (s.depth == 0)
+
 -- whether some mark is a number of an atom that is past every degree
 abbrev pub any_high : List (ℕ × PlainMark) → Bool
 any_high [] = false

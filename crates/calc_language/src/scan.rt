@@ -2,11 +2,11 @@
 // begins one, and what it offends by first.
 ghost use Rattle.std.specs.Prelude.{◌≡◌, ℕ, ◌+◌, ◌-◌, ◌*◌, ◌^◌, ◌<◌, ◌≤◌, option_map};
 ghost use Rattle.calc_language.specs.Symbols.{symbol_in};
-ghost use Rattle.calc_language.specs.ScanSteps.{capped, IsSoundDigit, HasRoom, mode_after_factor, mode_before_factor, mode_after, depth_after, number_mark, mark_before, is_high, scan_start, Sees, StepsTo, IsScanned};
+ghost use Rattle.calc_language.specs.ScanSteps.{capped, IsSoundDigit, HasRoom, mode_after_factor, mode_before_factor, mode_after, depth_after, number_mark, mark_before, is_high, scan_start, Sees, StepsTo, is_whole, IsScanned};
 ghost use Rattle.calc_language.specs.Offences.{offence_in, mark_in, first_kind};
 
 use crate::offence::{Before, Mark, Offence, WIDE, earlier, kind_at};
-use crate::symbol::Symbol;
+use crate::symbol::{Symbol, symbol_of};
 
 // The greatest degree of a formula.
 const MAX_DEGREE: u128 = 20;
@@ -262,5 +262,36 @@ impl Scan {
             first: seen.first,
             is_high: seen.is_high,
         })
+    }
+}
+
+impl Scan {
+    // Whether the bytes so far are an expression.
+    fn is_whole(self) -> bool
+        ensures { result ≡ is_whole self }
+    {
+        match self.mode {
+            Mode::Number { .. } | Mode::Denominator { .. } | Mode::Whole => self.depth == 0,
+            _ => false,
+        }
+    }
+}
+
+/// The first offence of a word that is an expression, its degree apart, and whether an atom has a number past every
+/// degree; of another word the length of its longest prefix that begins an expression.
+pub(crate) fn scan_word(word: &[u8]) -> Result<Scan, u64>
+    ensures { IsScanned word.now result }
+{
+    let mut scan = Scan::start();
+    for (i, byte) in word.iter().enumerate() {
+        match scan.after(i as u64, symbol_of(*byte)) {
+            None => return Err(i as u64),
+            Some(next) => scan = next,
+        }
+    }
+    if scan.is_whole() {
+        Ok(scan.with_mark(number_mark(scan.mode)))
+    } else {
+        Err(word.len() as u64)
     }
 }

@@ -277,7 +277,7 @@ continues b s (at (in_entry basis ws ds) t f o) e h = tt
 continues b s (at (closed x) t f o) e h = after-factor b s x t f o e h.0 h.1 h.2 h.3
 
 -- a dead state stays dead
-read-dead : (w : List ℕ) → read_on w dead ≡ dead
+pub read-dead : (w : List ℕ) → read_on w dead ≡ dead
 read-dead [] = refl
 read-dead (b ∷ w) = read-dead w
 
