@@ -1,3 +1,7 @@
+pub mod PhraseRuns
+pub mod PhrasePrefixes
+pub mod PhraseMarks
+pub mod GreatestCommonDivisors
 pub mod Ring
 pub mod Sums
 pub mod Exponents

@@ -18,6 +18,11 @@ pub mod BetaList
 pub mod AlcoveReduction
 pub mod Leading
 pub mod HookRows
+pub mod Expression
+pub mod Weight
+pub mod Words
+pub mod Offence
+pub mod LeftToRight
 pub mod WholeTerms
 pub mod PowerSumProduct
 pub mod PlainTerm

@@ -6,6 +6,7 @@
 #![tactic(auto)]
 
 mod examples;
+mod grammar;
 mod leading;
 mod partition_lists;
 mod plain_bases;
@@ -26,6 +27,7 @@ mod tableau_examples;
 pub use examples::{
     block_examples_law, order_examples_law, outcome_examples_law, worked_examples_law,
 };
+pub use grammar::{expression_examples_law, grammar_law, left_to_right_law};
 pub use leading::leading_cancel_law;
 pub use partition_lists::partitions_of_law;
 pub use plain_bases::{PlainBasis, plain_monomial, plain_part_polynomial, plain_product};

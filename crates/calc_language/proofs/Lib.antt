@@ -1,0 +1,6 @@
+pub mod TreeFacts
+pub mod WeightFacts
+pub mod GrowthFacts
+pub mod FirstOffences
+pub mod ScanFacts
+pub mod ScanRuns

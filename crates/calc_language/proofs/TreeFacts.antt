@@ -1,0 +1,12 @@
+-- What every expression has: a nesting of at least 1.
+use Rattle.std.proofs.Common.{ℕ, ◌+◌, ◌≤◌, ◌<◌, max, arith}
+use Rattle.sym_model.specs.Expression.{Tree, number, fraction, atom, negation, sum, difference, product, degree, nesting}
+
+pub nesting-positive : (e : Tree) → 1 ≤ nesting e
+nesting-positive (number a) = omega arith
+nesting-positive (fraction a b) = omega arith
+nesting-positive (atom basis parts) = omega arith
+nesting-positive (negation e) = omega arith
+nesting-positive (sum e f) = omega arith
+nesting-positive (difference e f) = omega arith
+nesting-positive (product e f) = omega arith

@@ -1,0 +1,5 @@
+use Rattle.std.proofs.Common.{sym}
+use Rattle.calc_language.proofs.scan.Mode.after.Goals as goal
+
+pub returns-in-Entry : goal.returns-in-Entry
+returns-in-Entry c = rw c.in-Entry.is (c.in_entry.ensures c.args.at)

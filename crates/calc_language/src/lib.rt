@@ -1,0 +1,13 @@
+//! The words of a command: expressions with their weights, and how words are read as a command.
+#![tactic(auto)]
+
+mod expr;
+mod formula;
+mod offence;
+mod scan;
+mod symbol;
+mod weigh;
+
+pub use calc_base::{Basis, Weight};
+pub use expr::Expr;
+pub use formula::Formula;

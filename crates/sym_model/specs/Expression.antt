@@ -1,0 +1,67 @@
+-- Expressions of symmetric functions: their trees, and what a tree stands for with its fractions cleared
+-- (this project's own).
+use Rattle.std.specs.Prelude.{ℕ, ◌+◌, ◌*◌, ◌/◌, pos, max, List}
+use Rattle.sym_model.specs.Polynomial.{Poly, one, plus, scale, negate, times}
+use Rattle.sym_model.specs.Partition.{size}
+use Rattle.sym_model.specs.Expansion.{Basis, basis_polynomial}
+use Rattle.sym_model.specs.Canonical.{gcd}
+
+-- an expression: a number, a fraction that need not be in lowest terms, a partition in a basis, and what is made of these
+pub data Tree : Type 0 where
+  number : ℕ → Tree
+  fraction : ℕ → ℕ → Tree
+  atom : Basis → List ℕ → Tree
+  negation : Tree → Tree
+  sum : Tree → Tree → Tree
+  difference : Tree → Tree → Tree
+  product : Tree → Tree → Tree
+
+-- the degree: 0 of a number, the size of an atom's partition, the greater one of a sum, the sum of those of a product
+abbrev pub degree : Tree → ℕ
+degree (number a) = 0
+degree (fraction a b) = 0
+degree (atom basis parts) = size parts
+degree (negation e) = degree e
+degree (sum e f) = max (degree e) (degree f)
+degree (difference e f) = max (degree e) (degree f)
+degree (product e f) = degree e + degree f
+
+-- the nesting: 1 of a number, a fraction or an atom, and one more than the greatest of the parts of the others
+abbrev pub nesting : Tree → ℕ
+nesting (number a) = 1
+nesting (fraction a b) = 1
+nesting (atom basis parts) = 1
+nesting (negation e) = nesting e + 1
+nesting (sum e f) = max (nesting e) (nesting f) + 1
+nesting (difference e f) = max (nesting e) (nesting f) + 1
+nesting (product e f) = max (nesting e) (nesting f) + 1
+
+-- the least common multiple
+abbrev pub lcm : ℕ → ℕ → ℕ
+lcm a b = a / gcd a b * b
+
+-- D, a number that all coefficients times it are whole: the denominators, joined as the parts are
+abbrev pub denominator : Tree → ℕ
+denominator (number a) = 1
+denominator (fraction a b) = b
+denominator (atom basis parts) = 1
+denominator (negation e) = denominator e
+denominator (sum e f) = lcm (denominator e) (denominator f)
+denominator (difference e f) = lcm (denominator e) (denominator f)
+denominator (product e f) = denominator e * denominator f
+
+-- V, the polynomial in n variables that is D times what the expression denotes
+abbrev pub cleared_value : Tree → ℕ → Poly
+cleared_value (number a) n = scale (pos a) (one n)
+cleared_value (fraction a b) n = scale (pos a) (one n)
+cleared_value (atom basis parts) n = basis_polynomial basis parts n
+cleared_value (negation e) n = negate (cleared_value e n)
+cleared_value (sum e f) n =
+    let q = lcm (denominator e) (denominator f) in
+    plus (scale (pos (q / denominator e)) (cleared_value e n)) (scale (pos (q / denominator f)) (cleared_value f n))
+cleared_value (difference e f) n =
+    let q = lcm (denominator e) (denominator f) in
+    plus
+        (scale (pos (q / denominator e)) (cleared_value e n))
+        (negate (scale (pos (q / denominator f)) (cleared_value f n)))
+cleared_value (product e f) n = times (cleared_value e n) (cleared_value f n)

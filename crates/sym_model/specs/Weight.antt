@@ -1,0 +1,35 @@
+-- The weight of an expression, which bounds every number that its conversion meets (this project's own).
+use Rattle.std.specs.Prelude.{ℕ, zero, suc, ◌+◌, ◌*◌, ◌/◌, ◌^◌, max}
+use Rattle.sym_model.specs.Expansion.{Basis, monomials, schurs}
+use Rattle.sym_model.specs.Expression.{Tree, number, fraction, atom, negation, sum, difference, product, degree, denominator, lcm}
+
+-- N, which bounds the sum of the absolute values of the coefficients times D, an atom counting as 1
+abbrev pub numerator : Tree → ℕ
+numerator (number a) = max 1 a
+numerator (fraction a b) = max 1 a
+numerator (atom basis parts) = 1
+numerator (negation e) = numerator e
+numerator (sum e f) =
+    let q = lcm (denominator e) (denominator f) in
+    numerator e * (q / denominator e) + numerator f * (q / denominator f)
+numerator (difference e f) =
+    let q = lcm (denominator e) (denominator f) in
+    numerator e * (q / denominator e) + numerator f * (q / denominator f)
+numerator (product e f) = numerator e * numerator f
+
+-- d!
+abbrev pub factorial : ℕ → ℕ
+factorial zero = 1
+factorial (suc d) = suc d * factorial d
+
+-- B, how much a conversion into the target can raise the coefficients of a list of degree d:
+-- 1 at degree 0, d^d into m and s, d!·(2d)^d into p, h and e
+abbrev pub growth : Basis → ℕ → ℕ
+growth target zero = 1
+growth monomials (suc d) = suc d ^ suc d
+growth schurs (suc d) = suc d ^ suc d
+growth target (suc d) = factorial (suc d) * (2 * suc d) ^ suc d
+
+-- the weight of an expression that is to be converted into the target: N·D·B(degree)
+abbrev pub weight : Basis → Tree → ℕ
+weight target e = numerator e * denominator e * growth target (degree e)
