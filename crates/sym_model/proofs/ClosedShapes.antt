@@ -1,7 +1,7 @@
 -- Strips, rim hooks and removals of shapes that are written out, for worked examples.
-use Rattle.std.proofs.Common.{◌≡◌, ℕ, zero, suc, ◌+◌, ◌-◌, ◌<◌, ◌≤◌, ◌⊎◌, inl, inr, List, [], ◌∷◌, length, get_or, sym, ◌∙◌, ap, subst, refl, arith}
+use Rattle.std.proofs.Common.{◌≡◌, ℕ, zero, suc, ◌+◌, ◌-◌, ◌<◌, ◌≤◌, ◌⊎◌, inl, inr, List, [], ◌∷◌, length, sym, ◌∙◌, subst, refl, arith}
 use Rattle.std.proofs.lemmas.Bool.{cases_eq, cases_lt}
-use Rattle.sym_model.specs.Partition.{Falls, ArePositive, IsPartition, size, part, Holds, IsCell}
+use Rattle.sym_model.specs.Partition.{Falls, ArePositive, size, part, Holds, IsCell}
 use Rattle.sym_model.specs.Strip.{IsHorizontalStrip, IsVerticalStrip, IsRimHook}
 use Rattle.sym_model.specs.HookRows.{IsHookRows}
 use Rattle.sym_model.specs.RimHookReduction.{IsRemoval, HasNoRemoval}
@@ -29,25 +29,26 @@ pub horizontal_closed : (outer inner : List ℕ) → Falls outer → Holds outer
     → EachRow (λ i. part outer (i + 1) ≤ part inner i) 0 (length outer) → IsHorizontalStrip outer inner
 horizontal_closed outer inner f h l r =
     horizontal_from_rows outer inner f h (λ i n. elim (cases_lt (length outer) i) [
-        inl m ↦ (let e = part_past outer (i + 1) (omega arith) in omega (arith, e))
-        | inr m ↦ each_row (λ i. part outer (i + 1) ≤ part inner i) 0 (length outer) i r (omega arith) (omega arith)
-      ])
+      | inl m ↦ (let e = part_past outer (i + 1) (omega arith) in omega (arith, e))
+      | inr m ↦ each_row (λ i. part outer (i + 1) ≤ part inner i) 0 (length outer) i r (omega arith) (omega arith)
+    ])
 
 pub vertical_closed : (outer inner : List ℕ) → Holds outer inner → EachRow (λ i. part outer i ≤ part inner i + 1) 0 (length outer) → IsVerticalStrip outer inner
 vertical_closed outer inner h r =
     vertical_from_rows outer inner h (λ i n. elim (cases_lt (length outer) i) [
-        inl m ↦ (let e = part_past outer i m in omega (arith, e))
-        | inr m ↦ each_row (λ i. part outer i ≤ part inner i + 1) 0 (length outer) i r (omega arith) (omega arith)
-      ])
+      | inl m ↦ (let e = part_past outer i m in omega (arith, e))
+      | inr m ↦ each_row (λ i. part outer i ≤ part inner i + 1) 0 (length outer) i r (omega arith) (omega arith)
+    ])
 
 pub holds_closed : (outer inner : List ℕ) → length inner ≤ length outer → EachRow (λ i. part inner i ≤ part outer i) 0 (length outer) → Holds outer inner
 holds_closed outer inner l r = from
   where
     counted : (i : ℕ) → 1 ≤ i → part inner i ≤ part outer i
     counted i n = elim (cases_lt (length outer) i) [
-        inl m ↦ (let e = part_past inner i (omega arith) in omega (arith, e))
-        | inr m ↦ each_row (λ i. part inner i ≤ part outer i) 0 (length outer) i r (omega arith) (omega arith)
-      ]
+      | inl m ↦ (let e = part_past inner i (omega arith) in omega (arith, e))
+      | inr m ↦ each_row (λ i. part inner i ≤ part outer i) 0 (length outer) i r (omega arith) (omega arith)
+    ]
+
     from : Holds outer inner
     from zero = counted 1 (omega arith)
     from (suc i) = counted (suc i) (omega arith)
@@ -69,9 +70,9 @@ hook_rows_closed outer inner first last h = record {
   ordered = h.ordered;
   above = λ i a b. each_row (λ i. part outer i ≡ part inner i) 0 (first - 1) i h.above (omega arith) (omega arith);
   below = λ i a. elim (cases_lt (length outer) i) [
-        inl m ↦ (let c = h.longer in part_past outer i m ∙ sym (part_past inner i (omega arith)))
-        | inr m ↦ each_row (λ i. part outer i ≡ part inner i) last (length outer - last) i h.below a (omega arith)
-      ];
+    | inl m ↦ (let c = h.longer in part_past outer i m ∙ sym (part_past inner i (omega arith)))
+    | inr m ↦ each_row (λ i. part outer i ≡ part inner i) last (length outer - last) i h.below a (omega arith)
+  ];
   chained = λ i a b. let c = h.counts in each_row (λ i. part outer (i + 1) ≡ part inner i + 1) (first - 1) (last - first) i h.chained (omega arith) (omega arith);
   end = h.end;
 }
@@ -89,10 +90,10 @@ cell outer inner row column a b c = record { row_counts = a; outside = b; within
 pub no_hook : (shape : List ℕ) → 2 ≤ part shape 1 → 2 ≤ part shape 2 → IsRimHook shape [] → ⊥
 no_hook shape a b h =
     h.thin 1 1
-      (cell shape [] 1 1 (omega arith) (omega arith) (omega arith))
-      (cell shape [] 1 2 (omega arith) (omega arith) a)
-      (cell shape [] 2 1 (omega arith) (omega arith) (omega arith))
-      (cell shape [] 2 2 (omega arith) (omega arith) b)
+    (cell shape [] 1 1 (omega arith) (omega arith) (omega arith))
+    (cell shape [] 1 2 (omega arith) (omega arith) a)
+    (cell shape [] 2 1 (omega arith) (omega arith) (omega arith))
+    (cell shape [] 2 2 (omega arith) (omega arith) b)
 
 size_none : (parts : List ℕ) → ArePositive parts → size parts ≡ 0 → parts ≡ []
 size_none [] p e = refl

@@ -1,7 +1,7 @@
 -- How many cells a rim hook has, from its rows.
 --     size_rows       the size of a partition as the sum of its rows
 --     hook_size       outer has as many cells more than inner as the hook has by its first and its last row
-use Rattle.std.proofs.Common.{◌≡◌, ℕ, zero, suc, ◌+◌, ◌-◌, ◌<◌, ◌≤◌, ◌⊎◌, List, [], ◌∷◌, length, get_or, max, sym, ◌∙◌, ap, subst, refl, inl, inr, arith}
+use Rattle.std.proofs.Common.{◌≡◌, ℕ, zero, suc, ◌+◌, ◌-◌, ◌≤◌, List, [], ◌∷◌, length, get_or, ◌∙◌, ap, refl, arith}
 use Rattle.sym_model.specs.Partition.{size, part}
 use Rattle.sym_model.specs.HookRows.{IsHookRows}
 

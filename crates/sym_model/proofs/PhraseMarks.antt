@@ -1,14 +1,14 @@
 -- The marks of a phrase, found as the phrase is read from the left.
-use Rattle.std.proofs.Common.{◌≡◌, ℕ, zero, suc, ◌+◌, ◌-◌, ◌*◌, ◌<◌, ◌≤◌, List, [], ◌∷◌, ◌++◌, length, length-append, map, refl, sym, ap, ◌∙◌, subst, append_assoc, add_assoc, arith, Option, Some, None}
+use Rattle.std.proofs.Common.{◌≡◌, ℕ, ◌+◌, List, [], ◌∷◌, ◌++◌, length, length-append, refl, sym, ap, ◌∙◌, subst, append_assoc, arith, Option, Some, None}
 use Rattle.std.proofs.lemmas.List.{append-nil}
 use Rattle.std.specs.Prelude.{codes, option_to_list}
 use Rattle.sym_model.specs.Expansion.{Basis}
-use Rattle.sym_model.specs.PrintedBlock.{decimal_value, value_from}
-use Rattle.sym_model.specs.Words.{Phrase, numeral, ratio, label, brackets, times, minus_first, plus, minus, spelling}
+use Rattle.sym_model.specs.PrintedBlock.{decimal_value}
+use Rattle.sym_model.specs.Words.{Phrase, numeral, ratio}
 use Rattle.sym_model.specs.Offence.{Mark, value, denominator, entry, opening, marks, entry_marks}
-use Rattle.sym_model.specs.LeftToRight.{Symbol, digit, plus_sign, minus_sign, star, slash, opens, closes, opens_list, closes_list, comma, letter_of, other, BeforeTerm, no_term, negating, adding, subtracting, BeforeFactor, no_factor, multiplying, Opened, outermost, inside, Piece, awaited, in_number, after_slash, in_denominator, after_letter, in_list, in_entry, closed, State, at, dead, step, phrases, join, join_factor, join_term, after_factor, before_factor, in_list_step, found}
+use Rattle.sym_model.specs.LeftToRight.{Symbol, digit, plus_sign, minus_sign, star, slash, opens, closes, opens_list, closes_list, comma, letter_of, other, BeforeTerm, no_term, negating, adding, subtracting, BeforeFactor, no_factor, multiplying, Opened, outermost, inside, Piece, awaited, in_number, after_slash, in_denominator, after_letter, in_list, in_entry, closed, at, dead, step, phrases, join, join_factor, join_term, after_factor, found}
 use Rattle.sym_model.proofs.PhraseRuns.{Reading}
-use Rattle.sym_model.proofs.PhrasePrefixes.{written_term, written_factor, written_opened, written_piece, written, commas, spelling-join_factor}
+use Rattle.sym_model.proofs.PhrasePrefixes.{written_term, written_factor, written_opened, commas}
 
 abbrev pub Marks : Type 0
 Marks = List (ℕ × Mark)
@@ -41,7 +41,7 @@ abbrev pub opened_marks : Opened Phrase → Marks
 opened_marks outermost = []
 opened_marks (inside o t f) =
     opened_marks o ++ (term_marks (depth_of o) (term_begin o) t
-        ++ (factor_marks (depth_of o) (factor_begin t o) f ++ (piece_begin t f o, opening (depth_of o + 1)) ∷ []))
+    ++ (factor_marks (depth_of o) (factor_begin t o) f ++ (piece_begin t f o, opening (depth_of o + 1)) ∷ []))
 
 -- the marks that are complete
 abbrev pub piece_marks : ℕ → ℕ → Piece Phrase (List ℕ) → Marks
@@ -56,7 +56,7 @@ abbrev pub state_marks : Reading → Marks
 state_marks dead = []
 state_marks (at p t f o) =
     opened_marks o ++ (term_marks (depth_of o) (term_begin o) t
-        ++ (factor_marks (depth_of o) (factor_begin t o) f ++ piece_marks (depth_of o) (piece_begin t f o) p))
+    ++ (factor_marks (depth_of o) (factor_begin t o) f ++ piece_marks (depth_of o) (piece_begin t f o) p))
 
 -- the value of the last number word, if there is one
 abbrev pub last_value : Option ℕ → List (List ℕ) → Option ℕ
@@ -87,9 +87,9 @@ entry_marks-snoc b k before (v ∷ ws) w =
     let place : b + length v + 1 + length (commas ws) ≡ b + length (v ++ (codes "," ++ commas ws)) = simp length-append (omega arith) in
     let count : k + 1 + length ws ≡ k + length (v ∷ ws) = omega arith in
     ap (λ ms. (b, entry k before (decimal_value v)) ∷ ms)
-        (entry_marks-snoc (b + length v + 1) (k + 1) (Some (decimal_value v)) ws w
-        ∙ ap (λ n. entry_marks (b + length v + 1) (k + 1) (Some (decimal_value v)) ws ++ (n, entry (k + 1 + length ws) (last_value before (v ∷ ws)) (decimal_value w)) ∷ []) place
-        ∙ ap (λ n. entry_marks (b + length v + 1) (k + 1) (Some (decimal_value v)) ws ++ (b + length (v ++ (codes "," ++ commas ws)), entry n (last_value before (v ∷ ws)) (decimal_value w)) ∷ []) count)
+    (entry_marks-snoc (b + length v + 1) (k + 1) (Some (decimal_value v)) ws w
+    ∙ ap (λ n. entry_marks (b + length v + 1) (k + 1) (Some (decimal_value v)) ws ++ (n, entry (k + 1 + length ws) (last_value before (v ∷ ws)) (decimal_value w)) ∷ []) place
+    ∙ ap (λ n. entry_marks (b + length v + 1) (k + 1) (Some (decimal_value v)) ws ++ (b + length (v ++ (codes "," ++ commas ws)), entry n (last_value before (v ∷ ws)) (decimal_value w)) ∷ []) count)
 
 entry_marks-next : (b : ℕ) (ws : List (List ℕ)) (w : List ℕ)
     → entry_marks b 0 None (ws ++ w ∷ []) ≡ entry_marks b 0 None ws ++ (b + length (commas ws), entry (length ws) (last_value None ws) (decimal_value w)) ∷ []
@@ -132,7 +132,7 @@ after-factor : (s : Symbol) (x : Phrase) (t : BeforeTerm Phrase) (f : BeforeFact
     → MarksAre (state_marks (at (closed x) t f o)) (after_factor phrases x t f o s)
 after-factor star x t f o =
     ap (λ ms. opened_marks o ++ (term_marks (depth_of o) (term_begin o) t ++ ms))
-        (append-nil _ ∙ marks-join_factor (depth_of o) (factor_begin t o) f x)
+    (append-nil _ ∙ marks-join_factor (depth_of o) (factor_begin t o) f x)
 after-factor plus_sign x t f o =
     ap (λ ms. opened_marks o ++ ms) (append-nil _ ∙ marks-join (depth_of o) (term_begin o) t f x)
 after-factor minus_sign x t f o =
@@ -140,8 +140,8 @@ after-factor minus_sign x t f o =
 after-factor closes x t f (inside o t' f') =
     let d = depth_of o in
     ap (λ ms. opened_marks o ++ (term_marks d (term_begin o) t' ++ (factor_marks d (factor_begin t' o) f' ++ (piece_begin t' f' o, opening (d + 1)) ∷ ms)))
-        (ap (λ n. marks (d + 1) n (join phrases t f x)) (sym (begin-inside o t' f'))
-        ∙ marks-join (d + 1) (term_begin (inside o t' f')) t f x)
+    (ap (λ n. marks (d + 1) n (join phrases t f x)) (sym (begin-inside o t' f'))
+    ∙ marks-join (d + 1) (term_begin (inside o t' f')) t f x)
     ∙ regroup (opened_marks o) (term_marks d (term_begin o) t') (factor_marks d (factor_begin t' o) f') _ (piece_begin t' f' o, opening (d + 1))
 after-factor _ x t f o = tt
 
@@ -159,11 +159,11 @@ opened-next a t f m = simp (append_assoc, append-nil)
 
 entry-next : (ws : List (List ℕ)) (ds : List ℕ) (t : BeforeTerm Phrase) (f : BeforeFactor Phrase) (o : Opened Phrase) (basis : Basis)
     → opened_marks o ++ (term_marks (depth_of o) (term_begin o) t
-        ++ (factor_marks (depth_of o) (factor_begin t o) f ++ entry_marks (piece_begin t f o + 2) 0 None (ws ++ ds ∷ [])))
+    ++ (factor_marks (depth_of o) (factor_begin t o) f ++ entry_marks (piece_begin t f o + 2) 0 None (ws ++ ds ∷ [])))
     ≡ state_marks (at (in_entry basis ws ds) t f o) ++ (piece_begin t f o + 2 + length (commas ws), entry (length ws) (last_value None ws) (decimal_value ds)) ∷ []
 entry-next ws ds t f o basis =
     ap (λ ms. opened_marks o ++ (term_marks (depth_of o) (term_begin o) t ++ (factor_marks (depth_of o) (factor_begin t o) f ++ ms)))
-        (entry_marks-next (piece_begin t f o + 2) ws ds)
+    (entry_marks-next (piece_begin t f o + 2) ws ds)
     ∙ last_entry (opened_marks o) (term_marks (depth_of o) (term_begin o) t) (factor_marks (depth_of o) (factor_begin t o) f) (entry_marks (piece_begin t f o + 2) 0 None ws) _
 
 abbrev Adds : Reading → Symbol → Type 0
@@ -176,15 +176,15 @@ after-numeral : (s : Symbol) (ds : List ℕ) (t : BeforeTerm Phrase) (f : Before
     → MarksAre (state_marks (at (in_number ds) t f o) ++ (piece_begin t f o, value (decimal_value ds)) ∷ []) (after_factor phrases (numeral ds) t f o s)
 after-numeral s ds t f o =
     cast _ _ (after_factor phrases (numeral ds) t f o s)
-        (last (opened_marks o) (term_marks (depth_of o) (term_begin o) t) (factor_marks (depth_of o) (factor_begin t o) f) _)
-        (after-factor s (numeral ds) t f o)
+    (last (opened_marks o) (term_marks (depth_of o) (term_begin o) t) (factor_marks (depth_of o) (factor_begin t o) f) _)
+    (after-factor s (numeral ds) t f o)
 
 after-ratio : (s : Symbol) (n ds : List ℕ) (t : BeforeTerm Phrase) (f : BeforeFactor Phrase) (o : Opened Phrase)
     → MarksAre (state_marks (at (in_denominator n ds) t f o) ++ (piece_begin t f o + length n + 1, denominator (decimal_value ds)) ∷ []) (after_factor phrases (ratio n ds) t f o s)
 after-ratio s n ds t f o =
     cast _ _ (after_factor phrases (ratio n ds) t f o s)
-        (last_two (opened_marks o) (term_marks (depth_of o) (term_begin o) t) (factor_marks (depth_of o) (factor_begin t o) f) _ _)
-        (after-factor s (ratio n ds) t f o)
+    (last_two (opened_marks o) (term_marks (depth_of o) (term_begin o) t) (factor_marks (depth_of o) (factor_begin t o) f) _ _)
+    (after-factor s (ratio n ds) t f o)
 
 after-closed : (s : Symbol) (x : Phrase) (t : BeforeTerm Phrase) (f : BeforeFactor Phrase) (o : Opened Phrase)
     → MarksAre (state_marks (at (closed x) t f o) ++ []) (after_factor phrases x t f o s)

@@ -1,15 +1,14 @@
 -- A text that is read without a fault begins an expression, and is one where nothing is left to come.
-use Rattle.std.proofs.Common.{◌≡◌, ℕ, ◌+◌, ◌-◌, ◌*◌, ◌<◌, ◌≤◌, ◌==◌, eqb, leb, nat_le, Bool, true, false, cond, ◌&&◌, List, [], ◌∷◌, ◌++◌, length, length-append, map, refl, sym, ap, ◌∙◌, subst, append_assoc, arith, rules, Option, Some, None, option_map, IsTrue}
+use Rattle.std.proofs.Common.{◌≡◌, ℕ, ◌==◌, nat_le, Bool, true, false, cond, ◌&&◌, List, [], ◌∷◌, ◌++◌, length-append, refl, sym, ap, ◌∙◌, subst, append_assoc, arith, Some}
 use Rattle.std.proofs.lemmas.Bool.{leb-true, eqb-true}
 use Rattle.std.proofs.lemmas.List.{append-nil}
 use Rattle.std.specs.Prelude.{codes}
-use Rattle.sym_model.specs.Sum.{each}
-use Rattle.sym_model.specs.Expansion.{Basis, monomials, elementaries, completes, power_sums, schurs}
+use Rattle.sym_model.specs.Expansion.{Basis, monomials, elementaries, completes, power_sums}
 use Rattle.sym_model.specs.PowerSumCommand.{IsDigit, AreDigits, IsNumberWord, AreNumberWords, comma_separated}
-use Rattle.sym_model.specs.Words.{Phrase, numeral, ratio, label, brackets, times, minus_first, plus, minus, Level, expression, term, factor, Is, HasAtoms, letter, spelling, SpellsPhrase}
+use Rattle.sym_model.specs.Words.{Phrase, numeral, ratio, label, brackets, times, minus_first, plus, minus, expression, term, factor, Is, HasAtoms, letter, spelling, SpellsPhrase}
 use Rattle.sym_model.specs.Offence.{BeginsExpression}
-use Rattle.sym_model.specs.LeftToRight.{Symbol, digit, plus_sign, minus_sign, star, slash, opens, closes, opens_list, closes_list, comma, letter_of, other, symbol, sign_symbol, BeforeTerm, no_term, negating, adding, subtracting, BeforeFactor, no_factor, multiplying, Opened, outermost, inside, Piece, awaited, in_number, after_slash, in_denominator, after_letter, in_list, in_entry, closed, State, at, dead, step, run, start, phrases, join, join_factor, join_term, after_factor, before_factor, in_list_step, is_live, factor_found, found}
-use Rattle.sym_model.proofs.PhraseRuns.{Reading, read_on, read-append, reads, ended, ended_term, piece_of, found-spelled}
+use Rattle.sym_model.specs.LeftToRight.{Symbol, digit, plus_sign, minus_sign, star, slash, opens, closes, opens_list, closes_list, comma, letter_of, other, symbol, BeforeTerm, no_term, negating, adding, subtracting, BeforeFactor, no_factor, multiplying, Opened, outermost, inside, Piece, awaited, in_number, after_slash, in_denominator, after_letter, in_list, in_entry, closed, at, dead, step, start, phrases, join, join_factor, join_term, after_factor, before_factor, in_list_step, is_live, found}
+use Rattle.sym_model.proofs.PhraseRuns.{Reading, read_on, read-append, found-spelled}
 
 -- the byte has the symbol
 abbrev pub Codes : ℕ → Symbol → Type 0
@@ -181,8 +180,8 @@ joined : (w : List ℕ) (t : BeforeTerm Phrase) (f : BeforeFactor Phrase) (x e :
 joined w t f x e a ht hf h k =
     let same : join phrases t f x ≡ e = cc k in
     record {
-        allowed = subst (Is expression) same (Is-join t f x ht hf a);
-        spelled = h ∙ sym (spelling-join t f x) ∙ ap spelling same;
+      allowed = subst (Is expression) same (Is-join t f x ht hf a);
+      spelled = h ∙ sym (spelling-join t f x) ∙ ap spelling same;
     }
 
 -- digits
@@ -195,8 +194,8 @@ AreDigits-snoc (d ∷ ds) c h k = (h.0, AreDigits-snoc ds c h.1 k)
 
 IsNumberWord-snoc : (ds : List ℕ) (c b : ℕ) → c ≡ b → IsDigit b → IsNumberWord ds → IsNumberWord (ds ++ c ∷ [])
 IsNumberWord-snoc ds c b e h k = record {
-    nonempty = simp length-append (omega (arith, k.nonempty));
-    digits = AreDigits-snoc ds c k.digits (subst IsDigit (sym e) h);
+  nonempty = simp length-append (omega (arith, k.nonempty));
+  digits = AreDigits-snoc ds c k.digits (subst IsDigit (sym e) h);
 }
 
 -- a byte after a factor
@@ -292,8 +291,8 @@ read-written (b ∷ w) x h =
     next w b x dead k ih = subst (Continues (written x ++ b ∷ w)) (sym (read-dead w)) tt
     next w b x (at p t f o) k ih =
         subst (λ v. Continues v (read_on w (at p t f o)))
-            (ap (λ v. v ++ w) k.0 ∙ append_assoc (written x) (b ∷ []) w)
-            (ih (at p t f o) k.1)
+        (ap (λ v. v ++ w) k.0 ∙ append_assoc (written x) (b ∷ []) w)
+        (ih (at p t f o) k.1)
 
 -- what would end the expression: the rest of a factor, and a parenthesis for each that is open
 abbrev rest_of : Piece Phrase (List ℕ) → List ℕ
@@ -368,18 +367,19 @@ Is-close e (inside o t f) h k = Is-close (join phrases t f (brackets e)) o (Is-j
 -- a state that is not dead can be completed
 complete : (w : List ℕ) (x : Reading) → Continues w x → is_live x ≡ true → BeginsExpression w
 complete w dead h live = cc
-complete w (at p t f o) h live =
-    (rest_of p ++ closers o,
-        close (join phrases t f (factor_from p)) o,
-        record {
-            allowed = Is-close _ o (Is-join t f (factor_from p) h.1.1 h.1.2 (Is-factor_from p h.1.0)) h.1.3;
-            spelled = sym (
-                spelling-close (join phrases t f (factor_from p)) o
-                ∙ ap (λ v. written_opened o ++ (v ++ closers o))
-                    (spelling-join t f (factor_from p) ∙ ap (λ v. written_term t ++ (written_factor f ++ v)) (spelling-factor_from p))
-                ∙ regroup (written_opened o) (written_term t) (written_factor f) (written_piece p) (rest_of p) (closers o)
-                ∙ ap (λ v. v ++ (rest_of p ++ closers o)) h.0);
-        })
+complete w (at p t f o) h live = (
+  rest_of p ++ closers o,
+  close (join phrases t f (factor_from p)) o,
+  record {
+    allowed = Is-close _ o (Is-join t f (factor_from p) h.1.1 h.1.2 (Is-factor_from p h.1.0)) h.1.3;
+    spelled = sym (
+        spelling-close (join phrases t f (factor_from p)) o
+        ∙ ap (λ v. written_opened o ++ (v ++ closers o))
+        (spelling-join t f (factor_from p) ∙ ap (λ v. written_term t ++ (written_factor f ++ v)) (spelling-factor_from p))
+        ∙ regroup (written_opened o) (written_term t) (written_factor f) (written_piece p) (rest_of p) (closers o)
+        ∙ ap (λ v. v ++ (rest_of p ++ closers o)) h.0);
+  },
+)
 
 -- a text that is read without a fault begins an expression
 pub begins-from_live : (w : List ℕ) → is_live (read_on w start) ≡ true → BeginsExpression w
@@ -396,8 +396,8 @@ found-dead w x e h k = let d = ap (λ y. found phrases (read_on w y)) h ∙ ap (
 pub live-from_begins : (w : List ℕ) → BeginsExpression w → is_live (read_on w start) ≡ true
 live-from_begins w h =
     live-or_dead (read_on w start) (λ e.
-        found-dead h.0 (read_on w start) h.1 e
-            (ap (found phrases) (sym (read-append w h.0 start)) ∙ found-spelled (w ++ h.0) h.1 h.2))
+    found-dead h.0 (read_on w start) h.1 e
+    (ap (found phrases) (sym (read-append w h.0 start)) ∙ found-spelled (w ++ h.0) h.1 h.2))
 
 -- what is found at the end is spelled by the text
 whole : (w : List ℕ) (x : Reading) (e : Phrase) → Continues w x → found phrases x ≡ Some e → SpellsPhrase w e

@@ -1,12 +1,12 @@
 -- A phrase that is read from the left is the phrase that is found, so a word spells one.
-use Rattle.std.proofs.Common.{◌≡◌, ℕ, ◌+◌, ◌-◌, ◌*◌, ◌<◌, ◌≤◌, ◌==◌, nat_le, Bool, true, false, cond, ◌&&◌, List, [], ◌∷◌, ◌++◌, length, map, refl, sym, ap, ◌∙◌, subst, append_assoc, arith, rules, Option, Some, None, option_map}
+use Rattle.std.proofs.Common.{◌≡◌, ℕ, nat_le, Bool, true, cond, ◌&&◌, List, [], ◌∷◌, ◌++◌, refl, sym, ap, ◌∙◌, append_assoc, arith, Some, option_map}
 use Rattle.std.proofs.lemmas.Bool.{le-leb}
 use Rattle.std.proofs.lemmas.List.{append-nil}
 use Rattle.std.specs.Prelude.{codes}
 use Rattle.sym_model.specs.Expansion.{Basis, monomials, elementaries, completes, power_sums, schurs}
 use Rattle.sym_model.specs.PowerSumCommand.{IsDigit, AreDigits, IsNumberWord, AreNumberWords, comma_separated}
 use Rattle.sym_model.specs.Words.{Phrase, numeral, ratio, label, brackets, times, minus_first, plus, minus, Level, expression, term, factor, Is, HasAtoms, letter, spelling, SpellsPhrase}
-use Rattle.sym_model.specs.LeftToRight.{Symbol, digit, plus_sign, minus_sign, star, slash, opens, closes, opens_list, closes_list, comma, letter_of, other, symbol, sign_symbol, BeforeTerm, no_term, negating, adding, subtracting, BeforeFactor, no_factor, multiplying, Opened, outermost, inside, Piece, awaited, in_number, after_slash, in_denominator, after_letter, in_list, in_entry, closed, State, at, dead, step, run, start, phrases, join, join_factor, join_term, after_factor, before_factor, factor_found, found}
+use Rattle.sym_model.specs.LeftToRight.{Symbol, digit, plus_sign, minus_sign, star, slash, opens, closes, opens_list, closes_list, comma, letter_of, other, symbol, sign_symbol, BeforeTerm, no_term, negating, adding, subtracting, BeforeFactor, no_factor, multiplying, Opened, outermost, inside, Piece, awaited, in_number, after_slash, in_denominator, in_list, in_entry, closed, State, at, step, run, start, phrases, join, join_term, after_factor, factor_found, found}
 
 -- a byte that is a digit is read as one
 pub symbol-digit : (b : ℕ) → IsDigit b → symbol b ≡ digit b

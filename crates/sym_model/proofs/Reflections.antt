@@ -2,7 +2,7 @@
 --     squares_fall       that sum falls
 --     enough             more steps than that sum all give one answer
 --     reflect_again      so the reflection rule holds with no bound
-use Rattle.std.proofs.Common.{◌≡◌, ℕ, zero, suc, ◌+◌, ◌-◌, ◌*◌, ◌<◌, ◌≤◌, ◌==◌, nat_lt, nat_le, Bool, true, false, ◌||◌, cond, List, [], ◌∷◌, length, get_or, sym, ◌∙◌, ap, refl, inl, inr, ◌⊎◌, arith, ℤ, pos, Option, Some, None}
+use Rattle.std.proofs.Common.{◌≡◌, ℕ, zero, suc, ◌+◌, ◌-◌, ◌*◌, ◌<◌, ◌≤◌, ◌==◌, nat_lt, nat_le, Bool, true, false, cond, List, [], ◌∷◌, length, get_or, sym, ◌∙◌, ap, refl, inl, inr, ◌⊎◌, arith, pos, Some, None}
 use Rattle.std.proofs.lemmas.Bool.{cases_Bool, cases_lt}
 use Rattle.std.proofs.lemmas.Bool.Decides.{nat_tests}
 use Rattle.sym_model.specs.Partition.{part}
@@ -90,22 +90,23 @@ enough zero t n b h p q = absurd (omega arith)
 enough (suc s) zero n b h p q = absurd (omega arith)
 enough (suc s) (suc t) n b h p q =
     by (cases_lt (spread b) n) (cases_lt n (spread b)) (cases_Bool (has_equal_entries (reflected n b)))
-      (λ less. enough s t n (sorted_falling (reflected n b)) h (less s p) (less t q))
+    (λ less. enough s t n (sorted_falling (reflected n b)) h (less s p) (less t q))
   where
     below : n < spread b → (k : ℕ) → squares b < suc k → squares (sorted_falling (reflected n b)) < k
     below g k c = let e = squares_sorted (reflected n b) in let f = squares_fall n b h g in omega (arith, e, f)
+
     by : (spread b < n) ⊎ (n ≤ spread b) → (n < spread b) ⊎ (spread b ≤ n)
         → (has_equal_entries (reflected n b) ≡ true) ⊎ (has_equal_entries (reflected n b) ≡ false)
         → (((k : ℕ) → squares b < suc k → squares (sorted_falling (reflected n b)) < k)
-          → reflected_within s n (sorted_falling (reflected n b)) ≡ reflected_within t n (sorted_falling (reflected n b)))
+        → reflected_within s n (sorted_falling (reflected n b)) ≡ reflected_within t n (sorted_falling (reflected n b)))
         → reflected_within (suc s) n b ≡ reflected_within (suc t) n b
     by (inl a) c d later = step_stays s n b a ∙ sym (step_stays t n b a)
     by (inr a) (inr c) d later = let e : spread b ≡ n = omega (arith, a, c) in step_wall s n b e ∙ sym (step_wall t n b e)
     by (inr a) (inl c) (inl d) later = step_equal s n b c d ∙ sym (step_equal t n b c d)
     by (inr a) (inl c) (inr d) later =
         step_again s n b c d
-          ∙ ap (with_sign (sorting_sign (reflected n b))) (later (below c))
-          ∙ sym (step_again t n b c d)
+        ∙ ap (with_sign (sorting_sign (reflected n b))) (later (below c))
+        ∙ sym (step_again t n b c d)
 
 -- ---- the rule without a bound
 
@@ -125,4 +126,4 @@ reflect_again n b h g e =
     let s = squares_sorted (reflected n b) in
     let f = squares_fall n b h g in
     step_again (squares b) n b g e
-      ∙ ap (with_sign (sorting_sign (reflected n b))) (enough (squares b) (suc (squares c)) n c h (omega (arith, s, f)) (omega arith))
+    ∙ ap (with_sign (sorting_sign (reflected n b))) (enough (squares b) (suc (squares c)) n c h (omega (arith, s, f)) (omega arith))

@@ -2,7 +2,7 @@
 --     hook_from_rows      rows that are chained make a rim hook
 --     hook_rows           each rim hook has such rows
 --     height_of_rows      its height is the number of these rows
-use Rattle.std.proofs.Common.{◌≡◌, ℕ, zero, suc, ◌+◌, ◌-◌, ◌<◌, ◌≤◌, min, max, ◌⊎◌, List, [], ◌∷◌, ◌++◌, length, get_or, Bool, true, false, cond, nat_lt, sym, ◌∙◌, ap, ap₂, subst, refl, inl, inr, arith}
+use Rattle.std.proofs.Common.{◌≡◌, ℕ, zero, suc, ◌+◌, ◌-◌, ◌<◌, ◌≤◌, min, max, ◌⊎◌, List, [], ◌∷◌, ◌++◌, length, get_or, Bool, true, false, nat_lt, sym, subst, refl, inl, inr, arith}
 use Rattle.std.proofs.lemmas.Bool.{cases_lt}
 use Rattle.std.proofs.lemmas.Bool.Decides.{nat_tests}
 use Rattle.sym_model.specs.Sum.{select}
@@ -75,6 +75,7 @@ cell_in_rows outer inner first last i j h c = (low (cases_lt i first), high (cas
     low : (i < first) ⊎ (first ≤ i) → first ≤ i
     low (inl l) = let e = h.above i c.row_counts l in let p = c.outside in let q = c.within in absurd (omega (arith, e, p, q))
     low (inr l) = l
+
     high : (last < i) ⊎ (i ≤ last) → i ≤ last
     high (inl l) = let e = h.below i l in let p = c.outside in let q = c.within in absurd (omega (arith, e, p, q))
     high (inr l) = l
@@ -93,8 +94,8 @@ down_link outer inner first last (suc d) i j k l f h e a b c g =
     let below : IsCell outer inner (i + 1) m = record { row_counts = omega arith; outside = r; within = omega arith } in
     let step : Linked outer inner i m (i + 1) m = ((i + 1, m) ∷ [], (below, inr (refl, inl refl), (refl, refl))) in
     linked_then outer inner i j i m k l
-      (row_link outer inner i j m c corner)
-      (linked_then outer inner i m (i + 1) m k l step (down_link outer inner first last d (i + 1) m k l f h (omega arith) (omega arith) b below g))
+    (row_link outer inner i j m c corner)
+    (linked_then outer inner i m (i + 1) m k l step (down_link outer inner first last d (i + 1) m k l f h (omega arith) (omega arith) b below g))
 
 pub hook_from_rows : (outer inner : List ℕ) (first last : ℕ) → Falls outer → IsHookRows outer inner first last → IsRimHook outer inner
 hook_from_rows outer inner first last f h = record {
@@ -108,11 +109,14 @@ hook_from_rows outer inner first last f h = record {
     holds_after i (inl l) b c = let e = h.above i c l in omega (arith, e)
     holds_after i (inr l) (inl m) c = let e = h.below i m in omega (arith, e)
     holds_after i (inr l) (inr m) c = let e = row_has_cells outer inner first last i f h l m in omega (arith, e)
+
     holds : Holds outer inner
     holds zero = holds_after 1 (cases_lt 1 first) (cases_lt last 1) (omega arith)
     holds (suc i) = holds_after (suc i) (cases_lt (suc i) first) (cases_lt last (suc i)) (omega arith)
+
     end : IsCell outer inner last (part outer last)
     end = let a = h.counts in let b = h.ordered in record { row_counts = omega arith; outside = h.end; within = omega arith }
+
     connected : IsConnected outer inner
     connected i j k l c g = by (cases_lt k i) (cell_in_rows outer inner first last i j h c) (cell_in_rows outer inner first last k l h g)
       where
@@ -121,6 +125,7 @@ hook_from_rows outer inner first last f h = record {
             let r = down_link outer inner first last (i - k) k l i j f h (omega arith) q.0 p.1 g c in
             path_back outer inner k l r.0 i j g r.1
         by (inr m) p q = down_link outer inner first last (k - i) i j k l f h (omega arith) p.0 q.1 c g
+
     thin : HasNoSquare outer inner
     thin i j a b c d =
         let p = cell_in_rows outer inner first last i j h a in
@@ -187,6 +192,7 @@ first_from outer inner (suc d) i r e h n c =
   where
     more : part outer i ≤ part inner i → (k : ℕ) → 1 ≤ k → k < i + 1 → part outer k ≤ part inner k
     more m k a b = elim (cases_lt k i) [ inl l ↦ n k a l | inr l ↦ (let s : i ≡ k = omega arith in subst (λ x. part outer x ≤ part inner x) s m) ]
+
     by : (part inner i < part outer i) ⊎ (part outer i ≤ part inner i) → (part outer i ≤ part inner i → (first : ℕ) × IsFirstRow outer inner first)
         → (first : ℕ) × IsFirstRow outer inner first
     by (inl m) later = (i, record { counts = h; cells = m; least = n })
@@ -202,6 +208,7 @@ last_from outer inner (suc d) i r e h n c =
   where
     more : part outer i ≤ part inner i → (k : ℕ) → r + d < k → part outer k ≤ part inner k
     more m k a = elim (cases_lt i k) [ inl l ↦ n k l | inr l ↦ (let s : i ≡ k = omega arith in subst (λ x. part outer x ≤ part inner x) s m) ]
+
     by : (part inner i < part outer i) ⊎ (part outer i ≤ part inner i) → (part outer i ≤ part inner i → (last : ℕ) × IsLastRow outer inner last)
         → (last : ℕ) × IsLastRow outer inner last
     by (inl m) later = (i, record { counts = omega arith; cells = m; greatest = n })
@@ -235,8 +242,10 @@ hook_rows outer inner f g h =
       where
         top : IsCell outer inner first (part outer first)
         top = record { row_counts = p.counts; outside = p.cells; within = omega arith }
+
         bottom : IsCell outer inner last (part outer last)
         bottom = record { row_counts = q.counts; outside = q.cells; within = omega arith }
+
         chained : (i : ℕ) → first ≤ i → i < last → part outer (i + 1) ≡ part inner i + 1
         chained i a b =
             let w = h.connected first (part outer first) last (part outer last) top bottom in
@@ -271,8 +280,10 @@ height_of_rows outer inner first last f h =
   where
     inside : (i : ℕ) → 1 ≤ i → first ≤ i → i ≤ last → nat_lt (part inner i) (part outer i) ≡ true
     inside i n a b = let c = row_has_cells outer inner first last i f h a b in grind (arith, nat_tests)
+
     outside : (i : ℕ) → 1 ≤ i → (i < first) ⊎ (last < i) → nat_lt (part inner i) (part outer i) ≡ false
     outside i n (inl a) = let c = h.above i n a in grind (arith, nat_tests)
     outside i n (inr a) = let c = h.below i a in grind (arith, nat_tests)
+
     last_row_within : last ≤ rows outer
     last_row_within = elim (cases_lt (rows outer) last) [ inl l ↦ absurd (let e = past_end outer (last - 1) (omega arith) in let g = h.end in omega (arith, e, g)) | inr l ↦ l ]

@@ -1,5 +1,5 @@
 -- Signs as powers of -1.
-use Rattle.std.proofs.Common.{◌≡◌, ℕ, zero, suc, ◌+◌, sym, ◌∙◌, ap, arith, ℤ, pos, ◌*ℤ◌, neg_ℤ}
+use Rattle.std.proofs.Common.{◌≡◌, ℕ, zero, suc, ◌+◌, sym, ◌∙◌, ap, arith, ◌*ℤ◌, neg_ℤ}
 use Rattle.sym_model.specs.PlaceOrders.{minus_one_to}
 use Rattle.sym_model.proofs.Ring.{one-product, negation-product}
 

@@ -2,8 +2,8 @@
 --     falls_part              the parts of a falling list fall from each row to the next
 --     horizontal_from_rows    a horizontal strip has outer part i + 1 at most inner part i
 --     vertical_from_rows      a vertical strip has outer part i at most inner part i + 1
-use Rattle.std.proofs.Common.{◌≡◌, ℕ, zero, suc, ◌+◌, ◌-◌, ◌<◌, ◌≤◌, ◌⊎◌, List, [], ◌∷◌, ◌++◌, length, get_or, sym, ◌∙◌, ap, ap₂, subst, refl, inl, inr, arith}
-use Rattle.std.proofs.lemmas.Bool.{cases_eq, cases_order, cases_lt}
+use Rattle.std.proofs.Common.{◌≡◌, ℕ, zero, suc, ◌+◌, ◌-◌, ◌<◌, ◌≤◌, List, [], ◌∷◌, get_or, sym, ap, subst, refl, inl, inr, arith}
+use Rattle.std.proofs.lemmas.Bool.{cases_order, cases_lt}
 use Rattle.sym_model.specs.Partition.{Falls, part, Holds, IsCell}
 use Rattle.sym_model.specs.Strip.{IsHorizontalStrip, IsVerticalStrip}
 
@@ -51,6 +51,7 @@ horizontal_from_rows outer inner f h r = record { holds = h; once = once }
         let e = c.outside in
         let g = d.within in
         absurd (omega (arith, a, b, e, g))
+
     once : (i k column : ℕ) → IsCell outer inner i column → IsCell outer inner k column → i ≡ k
     once i k column c d =
         elim (cases_order i k) [ inl e ↦ e | inr (inl l) ↦ absurd (apart i k column l c d) | inr (inr l) ↦ absurd (apart k i column l d c) ]

@@ -1,6 +1,6 @@
 -- The reduction of partitions with at most k rows into the alcove of level n - k, by reflections of the beta
 -- list (Kac and Walton: fusion products).
-use Rattle.std.specs.Prelude.{ℕ, zero, suc, ◌+◌, ◌-◌, ◌*◌, ◌==◌, nat_lt, Bool, ◌||◌, cond, ℤ, pos, ◌*ℤ◌, List, [], ◌∷◌, length, Option, Some, None}
+use Rattle.std.specs.Prelude.{ℕ, zero, suc, ◌+◌, ◌-◌, ◌*◌, ◌==◌, nat_lt, ◌||◌, cond, ℤ, pos, ◌*ℤ◌, List, [], ◌∷◌, length, Option, Some, None}
 use Rattle.sym_model.specs.Partition.{part}
 use Rattle.sym_model.specs.BetaList.{beta, from_beta, has_equal_entries, sorted_falling, sorting_sign}
 

@@ -1,5 +1,5 @@
 -- The monomial, elementary, complete and power sum polynomials of a partition in n variables (Macdonald, I.2).
-use Rattle.std.specs.Prelude.{ℕ, zero, suc, ◌-◌, ◌==◌, nat_le, Bool, true, false, ◌&&◌, ◌||◌, cond, ℤ, pos, List, [], ◌∷◌, map}
+use Rattle.std.specs.Prelude.{ℕ, zero, suc, ◌-◌, ◌==◌, nat_le, Bool, true, false, ◌&&◌, ◌||◌, cond, pos, List, [], ◌∷◌, map}
 use Rattle.sym_model.specs.Sum.{each, select}
 use Rattle.sym_model.specs.Polynomial.{Poly, same, one, times}
 use Rattle.sym_model.specs.Partition.{size, sorted_parts}

@@ -1,6 +1,6 @@
 -- Canonical lists of terms (this project's own): each label once, in the printed order, with a coefficient
 -- that is not 0 and in lowest terms.
-use Rattle.std.specs.Prelude.{ℕ, zero, suc, ◌+◌, ◌^◌, ◌%◌, ◌==◌, nat_le, nat_lt, Bool, true, false, ◌&&◌, ℤ, pos, negsuc, nat_abs, List, [], ◌∷◌, IsTrue}
+use Rattle.std.specs.Prelude.{ℕ, zero, suc, ◌+◌, ◌^◌, ◌%◌, ◌==◌, nat_le, nat_lt, Bool, true, ◌&&◌, ℤ, pos, negsuc, nat_abs, List, [], ◌∷◌, IsTrue}
 use Rattle.std.specs.Ordering.{is_lt}
 use Rattle.std.specs.declared.cmp.Ordering.{Ordering}
 use Rattle.sym_model.specs.Partition.{size, rows}

@@ -1,5 +1,5 @@
 -- The polynomial that a list of terms stands for, with its fractions cleared.
-use Rattle.std.specs.Prelude.{◌≡◌, ℕ, ◌*◌, ◌/◌, ℤ, pos, ◌*ℤ◌, List, [], ◌∷◌}
+use Rattle.std.specs.Prelude.{ℕ, ◌*◌, ◌/◌, ℤ, pos, ◌*ℤ◌, List, [], ◌∷◌}
 use Rattle.sym_model.specs.Polynomial.{Poly, Same, nothing, plus, scale}
 use Rattle.sym_model.specs.Bases.{monomial, elementary, complete, power_sum}
 use Rattle.sym_model.specs.Schur.{schur}

@@ -62,6 +62,6 @@ cleared_value (sum e f) n =
 cleared_value (difference e f) n =
     let q = lcm (denominator e) (denominator f) in
     plus
-        (scale (pos (q / denominator e)) (cleared_value e n))
-        (negate (scale (pos (q / denominator f)) (cleared_value f n)))
+    (scale (pos (q / denominator e)) (cleared_value e n))
+    (negate (scale (pos (q / denominator f)) (cleared_value f n)))
 cleared_value (product e f) n = times (cleared_value e n) (cleared_value f n)

@@ -1,10 +1,10 @@
 -- What the words of a command can offend by, at which place, and which offence comes first (this project's own).
-use Rattle.std.specs.Prelude.{◌≡◌, ℕ, ◌+◌, ◌^◌, ◌≤◌, ◌<◌, ◌==◌, nat_le, nat_lt, Bool, true, false, ◌&&◌, ◌||◌, cond, List, [], ◌∷◌, ◌++◌, map, length, take, codes, Option, Some, None, ◌⊎◌, slice_index_or}
-use Rattle.sym_model.specs.Sum.{each, select}
+use Rattle.std.specs.Prelude.{◌≡◌, ℕ, ◌+◌, ◌^◌, ◌≤◌, ◌<◌, ◌==◌, nat_le, nat_lt, Bool, false, ◌&&◌, ◌||◌, cond, List, [], ◌∷◌, ◌++◌, length, take, codes, Option, Some, None, ◌⊎◌, slice_index_or}
+use Rattle.sym_model.specs.Sum.{each}
 use Rattle.sym_model.specs.Expansion.{Basis, monomials, schurs}
 use Rattle.sym_model.specs.Expression.{degree}
 use Rattle.sym_model.specs.PrintedBlock.{decimal_value}
-use Rattle.sym_model.specs.Words.{Phrase, numeral, ratio, label, brackets, times, minus_first, plus, minus, SpellsPhrase, spelling, tree, letter, Command, expand, IsTarget, AreExpandWords, SpellsCommand}
+use Rattle.sym_model.specs.Words.{Phrase, numeral, ratio, label, brackets, times, minus_first, plus, minus, SpellsPhrase, spelling, tree, letter, Command, IsTarget, AreExpandWords, SpellsCommand}
 
 -- the kinds of offence in words that spell a command, in the order in which they come at one place
 pub data Kind : Type 0 where

@@ -1,5 +1,5 @@
 -- Partitions and skew shapes (Macdonald, I.1; Fulton, Notation). Rows, columns and parts are counted from 1.
-use Rattle.std.specs.Prelude.{◌≡◌, ℕ, zero, suc, ◌+◌, ◌-◌, ◌<◌, ◌≤◌, nat_le, List, [], ◌∷◌, map, length, cond, slice_index}
+use Rattle.std.specs.Prelude.{ℕ, zero, suc, ◌+◌, ◌-◌, ◌<◌, ◌≤◌, nat_le, List, [], ◌∷◌, map, length, cond, slice_index}
 use Rattle.sym_model.specs.Sum.{each}
 
 -- no number is greater than the one before it

@@ -3,7 +3,6 @@
 use Rattle.std.specs.Prelude.{◌≡◌, ℕ, ◌<◌, ◌≤◌, ◌⊎◌, List, [], ◌∷◌, ◌++◌, map, length, codes}
 use Rattle.std.specs.List.{join_with_byte}
 use Rattle.sym_model.specs.Partition.{Falls, size, without_last_zeros}
-use Rattle.sym_model.specs.Polynomial.{Poly}
 use Rattle.sym_model.specs.Bases.{power_sum}
 use Rattle.sym_model.specs.Expansion.{Terms, monomials, IsExpansionOf}
 use Rattle.sym_model.specs.Canonical.{IsCanonical}

@@ -1,6 +1,6 @@
 -- The reduction of partitions by rim hooks of n cells, for partitions with at most k rows (Bertram,
 -- Ciocan-Fontanine and Fulton: quantum multiplication of Schur polynomials).
-use Rattle.std.specs.Prelude.{◌≡◌, ℕ, zero, suc, ◌+◌, ◌-◌, ◌<◌, ◌≤◌, ℤ, pos, ◌*ℤ◌, List, [], ◌∷◌, Option, Some, None}
+use Rattle.std.specs.Prelude.{◌≡◌, ℕ, zero, suc, ◌+◌, ◌-◌, ◌<◌, ◌≤◌, ℤ, pos, ◌*ℤ◌, List, Option, Some, None}
 use Rattle.sym_model.specs.Partition.{IsPartition, size, columns}
 use Rattle.sym_model.specs.PlaceOrders.{minus_one_to}
 use Rattle.sym_model.specs.Strip.{IsRimHook, height}

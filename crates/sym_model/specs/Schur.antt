@@ -1,8 +1,8 @@
 -- Semistandard tableaux of a skew shape and the Schur polynomials (Fulton, 1 and 2.2; Macdonald, I.5).
-use Rattle.std.specs.Prelude.{◌≡◌, ℕ, zero, suc, ◌+◌, ◌-◌, ◌==◌, nat_le, nat_lt, Bool, true, false, ◌&&◌, cond, ℤ, pos, List, [], ◌∷◌, ◌++◌, map, drop}
+use Rattle.std.specs.Prelude.{ℕ, zero, suc, ◌+◌, ◌-◌, ◌==◌, nat_le, nat_lt, Bool, true, ◌&&◌, cond, pos, List, [], ◌∷◌, map, drop}
 use Rattle.sym_model.specs.Sum.{each, select}
 use Rattle.sym_model.specs.Polynomial.{Poly}
-use Rattle.sym_model.specs.Partition.{part, rows, after}
+use Rattle.sym_model.specs.Partition.{part, after}
 
 -- all words of k letters from 1 to n, in lexicographic order
 abbrev pub words : ℕ → ℕ → List (List ℕ)

@@ -1,5 +1,5 @@
 -- Finite sums over lists, and the words on lists that every definition here is made of.
-use Rattle.std.specs.Prelude.{◌≡◌, ℕ, ◌⊎◌, ℤ, pos, ◌+ℤ◌, List, [], ◌∷◌, ◌++◌, Bool, cond}
+use Rattle.std.specs.Prelude.{◌≡◌, ◌⊎◌, ℤ, pos, ◌+ℤ◌, List, [], ◌∷◌, ◌++◌, Bool, cond}
 
 -- the sum of a whole number for each element of a list
 abbrev pub total : {A : Type 0} → (A → ℤ) → List A → ℤ

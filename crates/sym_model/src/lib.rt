@@ -20,9 +20,9 @@ mod restriction;
 mod ring_laws;
 mod strip_laws;
 mod sum_laws;
+mod tableau_examples;
 #[cfg(test)]
 mod tests;
-mod tableau_examples;
 
 pub use examples::{
     block_examples_law, order_examples_law, outcome_examples_law, worked_examples_law,

@@ -12,30 +12,19 @@ ghost use Rattle.sym_model.specs.RimHookReduction.{IsRemoval, HasNoRemoval, Goes
 /// the rows first, .., last, chained together. Its height is then the number of these rows, and the
 /// number of its cells the height plus what the first outer part exceeds the last inner part, less 1.
 pub fn strip_law()
-    ensures horizontal {
-        (outer inner : List ℕ) → Falls outer → Falls inner → Holds outer inner
-            → (IsHorizontalStrip outer inner
-            ↔ ((i : ℕ) → 1 ≤ i → part outer (i + 1) ≤ part inner i))
-    }
-    ensures vertical {
-        (outer inner : List ℕ) → Holds outer inner
-            → (IsVerticalStrip outer inner
-            ↔ ((i : ℕ) → 1 ≤ i → part outer i ≤ part inner i + 1))
-    }
-    ensures rim_hook {
-        (outer inner : List ℕ) → Falls outer → Falls inner
-            → (IsRimHook outer inner ↔ ((first : ℕ) × (last : ℕ) × IsHookRows outer inner first last))
-    }
-    ensures height {
-        (outer inner : List ℕ) (first last : ℕ) → Falls outer → IsHookRows outer inner first last
-            → height outer inner ≡ last + 1 - first
-    }
-    ensures cells {
-        (outer inner : List ℕ) (first last : ℕ) → IsHookRows outer inner first last
-            → size outer + part inner last ≡ size inner + part outer first + (last - first)
-    }
-{
-}
+    ensures horizontal { (outer inner : List ℕ) → Falls outer → Falls inner → Holds outer inner
+        → (IsHorizontalStrip outer inner
+        ↔ ((i : ℕ) → 1 ≤ i → part outer (i + 1) ≤ part inner i)) }
+    ensures vertical { (outer inner : List ℕ) → Holds outer inner
+        → (IsVerticalStrip outer inner
+        ↔ ((i : ℕ) → 1 ≤ i → part outer i ≤ part inner i + 1)) }
+    ensures rim_hook { (outer inner : List ℕ) → Falls outer → Falls inner
+        → (IsRimHook outer inner ↔ ((first : ℕ) × (last : ℕ) × IsHookRows outer inner first last)) }
+    ensures height { (outer inner : List ℕ) (first last : ℕ) → Falls outer → IsHookRows outer inner first last
+        → height outer inner ≡ last + 1 - first }
+    ensures cells { (outer inner : List ℕ) (first last : ℕ) → IsHookRows outer inner first last
+        → size outer + part inner last ≡ size inner + part outer first + (last - first) }
+{}
 
 /// Strips and rim hooks around (2,1), (1) and (2,2).
 pub fn strip_examples_law()
@@ -53,8 +42,7 @@ pub fn strip_examples_law()
     ensures square { IsRimHook (2 ∷ 2 ∷ []) [] → ⊥ }
     ensures apart { IsRimHook (2 ∷ 1 ∷ []) (1 ∷ []) → ⊥ }
     ensures no_cell { IsRimHook (1 ∷ []) (1 ∷ []) → ⊥ }
-{
-}
+{}
 
 /// Removals of rim hooks: the products of (1) and (2,1) and of (2,2) and (2,2) in two rows and two
 /// columns, and partitions of 6 in three rows and three columns.
@@ -67,5 +55,4 @@ pub fn removal_examples_law()
     ensures hook_of_six { ReducesTo 3 6 (4 ∷ 1 ∷ 1 ∷ []) (Some ([], pos 1, 1)) }
     ensures too_wide { ReducesTo 3 6 (4 ∷ 2 ∷ []) None }
     ensures empty { HasNoRemoval 3 [] }
-{
-}
+{}

@@ -2,7 +2,7 @@
 use Rattle.std.proofs.Common.{◌≡◌, ℕ, List, [], ◌∷◌, refl, sym, ap, ◌∙◌}
 use Rattle.sym_model.specs.Expansion.{Basis, monomials, elementaries, completes, power_sums, schurs}
 use Rattle.sym_model.specs.Expression.{Tree}
-use Rattle.sym_model.specs.Words.{Phrase, tree, letter, IsTarget, SpellsTree, Command, expand, SpellsCommand}
+use Rattle.sym_model.specs.Words.{tree, IsTarget, SpellsTree, Command, expand, SpellsCommand}
 use Rattle.sym_model.proofs.PhraseRuns.{one_phrase}
 use Rattle.sym_model.proofs.grammar.grammar_law.Goals as goal
 

@@ -1,5 +1,4 @@
 -- What is read is a phrase in part, which can be completed; and reading the spelling of a phrase finds it.
-use Rattle.std.proofs.Common.{◌≡◌, ℕ, List, Bool, true, IsTrue, rules}
 use Rattle.sym_model.proofs.PhraseRuns.{found-spelled}
 use Rattle.sym_model.proofs.PhrasePrefixes.{begins-from_live, live-from_begins, spells-from_found}
 use Rattle.sym_model.proofs.grammar.left_to_right_law.Goals as goal

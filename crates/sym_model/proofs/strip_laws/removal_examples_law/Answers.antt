@@ -1,4 +1,4 @@
-use Rattle.std.proofs.Common.{◌≡◌, ℕ, ◌<◌, ◌≤◌, List, [], ◌∷◌, refl, arith, pos, negsuc}
+use Rattle.std.proofs.Common.{[], ◌∷◌, refl, arith, pos}
 use Rattle.sym_model.specs.RimHookReduction.{IsRemoval}
 use Rattle.sym_model.proofs.ClosedShapes.{removal_closed, no_removal_of_all, no_removal_from_less}
 use Rattle.sym_model.proofs.strip_laws.removal_examples_law.Goals as goal
@@ -23,22 +23,22 @@ pub returns-clause-stays : goal.returns-clause-stays
 returns-clause-stays c = (no_removal_of_all 4 (2 ∷ 2 ∷ []) refl (omega arith) (omega arith), refl, refl)
 
 pub returns-clause-two_hooks : goal.returns-clause-two_hooks
-returns-clause-two_hooks c =
-    ( 3 ∷ 1 ∷ []
-    , pos 1
-    , removal_closed 4 (4 ∷ 4 ∷ []) (3 ∷ 1 ∷ []) 1 2 (record {
-        falls = (omega arith, tt);
-        longer = omega arith;
-        counts = omega arith;
-        ordered = omega arith;
-        above = tt;
-        chained = (refl, tt);
-        end = omega arith;
-        below = tt;
-      }) (omega arith, tt) (omega arith, (omega arith, tt)) refl
-    , returns-clause-one_hook c
-    , refl
-    )
+returns-clause-two_hooks c = (
+  3 ∷ 1 ∷ [],
+  pos 1,
+  removal_closed 4 (4 ∷ 4 ∷ []) (3 ∷ 1 ∷ []) 1 2 (record {
+    falls = (omega arith, tt);
+    longer = omega arith;
+    counts = omega arith;
+    ordered = omega arith;
+    above = tt;
+    chained = (refl, tt);
+    end = omega arith;
+    below = tt;
+  }) (omega arith, tt) (omega arith, (omega arith, tt)) refl,
+  returns-clause-one_hook c,
+  refl,
+)
 
 pub returns-clause-other_order : goal.returns-clause-other_order
 returns-clause-other_order c =
@@ -54,42 +54,43 @@ returns-clause-other_order c =
     }) tt (omega arith, tt) refl
 
 pub returns-clause-negative : goal.returns-clause-negative
-returns-clause-negative c =
-    ( []
-    , pos 1
-    , removal_closed 4 (4 ∷ []) [] 1 1 (record {
-        falls = tt;
-        longer = omega arith;
-        counts = omega arith;
-        ordered = omega arith;
-        above = tt;
-        chained = tt;
-        end = omega arith;
-        below = tt;
-      }) tt tt refl
-    , (no_removal_from_less 4 [] (omega arith), refl, refl)
-    , refl
-    )
+returns-clause-negative c = (
+  [],
+  pos 1,
+  removal_closed 4 (4 ∷ []) [] 1 1 (record {
+    falls = tt;
+    longer = omega arith;
+    counts = omega arith;
+    ordered = omega arith;
+    above = tt;
+    chained = tt;
+    end = omega arith;
+    below = tt;
+  }) tt tt refl,
+  (no_removal_from_less 4 [] (omega arith), refl, refl),
+  refl,
+)
 
 pub returns-clause-hook_of_six : goal.returns-clause-hook_of_six
-returns-clause-hook_of_six c =
-    ( ( []
-      , pos 1
-      , removal_closed 6 (4 ∷ 1 ∷ 1 ∷ []) [] 1 3 (record {
-          falls = (omega arith, (omega arith, tt));
-          longer = omega arith;
-          counts = omega arith;
-          ordered = omega arith;
-          above = tt;
-          chained = (refl, (refl, tt));
-          end = omega arith;
-          below = tt;
-        }) tt tt refl
-      , (no_removal_from_less 6 [] (omega arith), refl, refl)
-      , refl
-      )
-    , omega arith
-    )
+returns-clause-hook_of_six c = (
+  (
+    [],
+    pos 1,
+    removal_closed 6 (4 ∷ 1 ∷ 1 ∷ []) [] 1 3 (record {
+      falls = (omega arith, (omega arith, tt));
+      longer = omega arith;
+      counts = omega arith;
+      ordered = omega arith;
+      above = tt;
+      chained = (refl, (refl, tt));
+      end = omega arith;
+      below = tt;
+    }) tt tt refl,
+    (no_removal_from_less 6 [] (omega arith), refl, refl),
+    refl,
+  ),
+  omega arith,
+)
 
 pub returns-clause-too_wide : goal.returns-clause-too_wide
 returns-clause-too_wide c =

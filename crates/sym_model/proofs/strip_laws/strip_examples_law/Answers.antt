@@ -1,5 +1,4 @@
-use Rattle.std.proofs.Common.{◌≡◌, ℕ, ◌<◌, ◌≤◌, List, [], ◌∷◌, refl, arith}
-use Rattle.sym_model.specs.Partition.{part}
+use Rattle.std.proofs.Common.{[], ◌∷◌, refl, arith}
 use Rattle.sym_model.proofs.Strips.{horizontal_rows, vertical_rows}
 use Rattle.sym_model.proofs.ClosedShapes.{horizontal_closed, vertical_closed, holds_closed, hook_closed, no_hook, not_connected}
 use Rattle.sym_model.proofs.strip_laws.strip_examples_law.Goals as goal
@@ -7,16 +6,16 @@ use Rattle.sym_model.proofs.strip_laws.strip_examples_law.Goals as goal
 pub returns-clause-row_of_two : goal.returns-clause-row_of_two
 returns-clause-row_of_two c =
     horizontal_closed (4 ∷ 1 ∷ []) (2 ∷ 1 ∷ []) (omega arith, tt)
-      (holds_closed (4 ∷ 1 ∷ []) (2 ∷ 1 ∷ []) (omega arith) (omega arith, (omega arith, tt)))
-      (omega arith)
-      (omega arith, (omega arith, tt))
+    (holds_closed (4 ∷ 1 ∷ []) (2 ∷ 1 ∷ []) (omega arith) (omega arith, (omega arith, tt)))
+    (omega arith)
+    (omega arith, (omega arith, tt))
 
 pub returns-clause-three_rows : goal.returns-clause-three_rows
 returns-clause-three_rows c =
     horizontal_closed (3 ∷ 1 ∷ 1 ∷ []) (2 ∷ 1 ∷ []) (omega arith, (omega arith, tt))
-      (holds_closed (3 ∷ 1 ∷ 1 ∷ []) (2 ∷ 1 ∷ []) (omega arith) (omega arith, (omega arith, (omega arith, tt))))
-      (omega arith)
-      (omega arith, (omega arith, (omega arith, tt)))
+    (holds_closed (3 ∷ 1 ∷ 1 ∷ []) (2 ∷ 1 ∷ []) (omega arith) (omega arith, (omega arith, (omega arith, tt))))
+    (omega arith)
+    (omega arith, (omega arith, (omega arith, tt)))
 
 pub returns-clause-not_horizontal : goal.returns-clause-not_horizontal
 returns-clause-not_horizontal c s =
@@ -26,8 +25,8 @@ returns-clause-not_horizontal c s =
 pub returns-clause-column_of_two : goal.returns-clause-column_of_two
 returns-clause-column_of_two c =
     vertical_closed (2 ∷ 1 ∷ 1 ∷ 1 ∷ []) (2 ∷ 1 ∷ [])
-      (holds_closed (2 ∷ 1 ∷ 1 ∷ 1 ∷ []) (2 ∷ 1 ∷ []) (omega arith) (omega arith, (omega arith, (omega arith, (omega arith, tt)))))
-      (omega arith, (omega arith, (omega arith, (omega arith, tt))))
+    (holds_closed (2 ∷ 1 ∷ 1 ∷ 1 ∷ []) (2 ∷ 1 ∷ []) (omega arith) (omega arith, (omega arith, (omega arith, (omega arith, tt)))))
+    (omega arith, (omega arith, (omega arith, (omega arith, tt))))
 
 pub returns-clause-not_vertical : goal.returns-clause-not_vertical
 returns-clause-not_vertical c s = let h = vertical_rows (4 ∷ 1 ∷ []) (2 ∷ 1 ∷ []) s 1 (omega arith) in omega (arith, h)
