@@ -1,13 +1,12 @@
 -- The list of the partitions of a number: it has exactly these, each once, in falling lexicographic order.
-use Rattle.std.proofs.Common.{◌≡◌, ℕ, zero, suc, ◌+◌, ◌-◌, ◌<◌, ◌≤◌, ◌⊎◌, min, List, [], ◌∷◌, ◌++◌, map, length, sym, ◌∙◌, ap, ap₂, subst, refl, inl, inr, ⊎_elim, arith}
+use Rattle.std.proofs.Common.{◌≡◌, ℕ, zero, suc, ◌-◌, ◌<◌, ◌≤◌, min, List, [], ◌∷◌, ◌++◌, map, length, sym, ◌∙◌, ap, ap₂, subst, refl, inl, inr, ⊎_elim, arith}
 use Rattle.std.proofs.Math.Nat.{eq-or-lt_of_le, min-le_left, min-le_right, le-min}
 use Rattle.std.proofs.lemmas.Cmp.{nat_cmp_total, tied_itself}
 use Rattle.std.specs.Cmp.{nat_cmp_is}
-use Rattle.std.specs.Ordering.{nat_cmp, ordering_then}
-use Rattle.std.specs.declared.cmp.Ordering.{Ordering}
-use Rattle.std.specs.declared.cmp.Ordering.TheVariants.{Less, Equal, Greater}
+use Rattle.std.specs.Ordering.{ordering_then}
+use Rattle.std.specs.declared.cmp.Ordering.TheVariants.{Less}
 use Rattle.sym_model.specs.Sum.{each, Among, Once}
-use Rattle.sym_model.specs.Partition.{IsPartition, Falls, ArePositive, size, part, columns}
+use Rattle.sym_model.specs.Partition.{IsPartition, Falls, ArePositive, size, columns}
 use Rattle.sym_model.specs.PrintedOrder.{falling_lexicographic}
 use Rattle.sym_model.specs.PartitionList.{down_from, partitions_within, partitions_of, FallsLexicographically}
 use Rattle.sym_model.proofs.Sums.{Among-map, Among_from_map, Among-each, Among_from_each, Among_from_append}
@@ -92,9 +91,10 @@ Among-partitions_within (suc rows) (suc d) most (a ∷ parts) w h =
     Among-each (λ b. map (λ rest. b ∷ rest) (partitions_within (suc d - b) b rows)) a (a ∷ parts) (down_from top) here
     (Among-map (λ rest. a ∷ rest) parts (partitions_within (suc d - a) a rows) tail)
 
-rows_few : (parts : List ℕ) → ArePositive parts → length parts ≤ size parts
-rows_few [] p = omega arith
-rows_few (a ∷ parts) p = omega (arith, p.0, rows_few parts p.1)
+-- there are no more parts than cells
+pub length-ArePositive : (parts : List ℕ) → ArePositive parts → length parts ≤ size parts
+length-ArePositive [] p = omega arith
+length-ArePositive (a ∷ parts) p = omega (arith, p.0, length-ArePositive parts p.1)
 
 columns_few : (parts : List ℕ) → columns parts ≤ size parts
 columns_few [] = omega arith
@@ -115,7 +115,7 @@ Among-partitions_of d parts p s =
       sum = s;
       first = omega (arith, columns_few parts);
     } in
-    Among-partitions_within d d d parts w (omega (arith, rows_few parts p.positive))
+    Among-partitions_within d d d parts w (omega (arith, length-ArePositive parts p.positive))
 
 -- ---- in order
 
