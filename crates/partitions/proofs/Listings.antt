@@ -1,11 +1,12 @@
 -- The first partition of a list, and the one that comes next.
-use Rattle.std.proofs.Common.{◌≡◌, ℕ, zero, suc, ◌+◌, ◌-◌, ◌<◌, ◌≤◌, min, List, [], ◌∷◌, ◌++◌, map, length, take, drop, get_or, sym, ◌∙◌, ap, ap₂, subst, refl, arith}
-use Rattle.std.proofs.Math.Nat.{min-le_left, min-le_right, le-min, min-eq_left}
+use Rattle.std.proofs.Common.{◌≡◌, ℕ, zero, suc, ◌+◌, ◌-◌, ◌<◌, ◌≤◌, min, List, [], ◌∷◌, ◌++◌, map, length, drop, get_or, sym, ◌∙◌, ap, ap₂, refl, arith}
+use Rattle.std.proofs.Math.Nat.{min-le_right, le-min, min-eq_left}
 use Rattle.std.proofs.Math.Seq.{drop-cons}
 use Rattle.sym_model.specs.Sum.{each}
 use Rattle.sym_model.specs.Partition.{ArePositive, size}
-use Rattle.sym_model.specs.PartitionList.{down_from, partitions_within, partitions_of}
+use Rattle.sym_model.specs.PartitionList.{down_from, partitions_within}
 use Rattle.sym_model.proofs.PartitionLists.{partitions_within-rows}
+use Rattle.partitions.proofs.Parts.{size-append}
 use Rattle.partitions.specs.Listing.{greatest_within, partitions_after, AreOnes}
 
 -- ---- the greatest parts
@@ -124,10 +125,6 @@ partitions_after-part a rows ones h o r =
     ∙ same_size _ _ (a - 1) (a - 1) same refl
     ∙ partitions_within-rows (a + length ones) rows (a + length ones) (a - 1) (omega arith) r
     ∙ partitions_within-first rows (a + length ones) (a - 1) r (λ _. omega arith)
-
-pub size-append : (xs ys : List ℕ) → size (xs ++ ys) ≡ size xs + size ys
-size-append [] ys = omega arith
-size-append (x ∷ xs) ys = omega (arith, size-append xs ys)
 
 pub ArePositive-append : (xs ys : List ℕ) → ArePositive xs → ArePositive ys → ArePositive (xs ++ ys)
 ArePositive-append [] ys p q = q

@@ -1,17 +1,16 @@
 -- Falling lists, sizes, and zeros at the end of a list.
-use Rattle.std.proofs.Common.{◌≡◌, ℕ, zero, suc, ◌+◌, ◌-◌, ◌*◌, ◌<◌, ◌≤◌, List, [], ◌∷◌, ◌++◌, length, take, get_or, refl, sym, ap, ◌∙◌, subst, arith, length-take, add_assoc, lit<}
+use Rattle.std.proofs.Common.{◌≡◌, ℕ, zero, suc, ◌+◌, ◌-◌, ◌<◌, ◌≤◌, List, [], ◌∷◌, ◌++◌, length, take, get_or, refl, sym, ap, ◌∙◌, subst, arith, length-take}
 use Rattle.std.proofs.lemmas.List.{take_more, get_or-take}
-use Rattle.std.proofs.lemmas.Grind.{common_steps}
 use Rattle.sym_model.specs.Partition.{IsPartition, Falls, ArePositive, size, in_front, without_last_zeros}
 use Rattle.partitions.specs.Limits.{RisesFirstAt}
 
--- the size with one more number at the end
-pub size-push : (xs : List ℕ) (a : ℕ) → size (xs ++ a ∷ []) ≡ size xs + a
-size-push [] a = omega arith
-size-push (x ∷ xs) a = omega (arith, size-push xs a)
+-- the size of two lists, one after the other
+pub size-append : (xs ys : List ℕ) → size (xs ++ ys) ≡ size xs + size ys
+size-append [] ys = omega arith
+size-append (x ∷ xs) ys = omega (arith, size-append xs ys)
 
 pub size-take_more : (xs : List ℕ) (i : ℕ) → i < length xs → size (take (i + 1) xs) ≡ size (take i xs) + get_or xs i 0
-size-take_more xs i h = ap size (take_more xs i 0 h) ∙ size-push (take i xs) (get_or xs i 0)
+size-take_more xs i h = ap size (take_more xs i 0 h) ∙ size-append (take i xs) (get_or xs i 0 ∷ []) ∙ omega arith
 
 in_front-more : (a b : ℕ) (xs : List ℕ) → in_front a (b ∷ xs) ≡ a ∷ b ∷ xs
 in_front-more zero b xs = refl

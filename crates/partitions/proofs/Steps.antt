@@ -1,12 +1,14 @@
 -- The steps of the lister of partitions on its buffer.
-use Rattle.std.proofs.Common.{◌≡◌, ◌≢◌, ℕ, suc, ◌+◌, ◌-◌, ◌<◌, ◌≤◌, min, List, [], ◌∷◌, ◌++◌, length, take, drop, get_or, sym, ◌∙◌, ap, ap₂, subst, refl, arith}
+use Rattle.std.proofs.Common.{◌≡◌, ◌≢◌, ℕ, suc, ◌+◌, ◌-◌, ◌<◌, ◌≤◌, min, List, [], ◌∷◌, ◌++◌, length, take, drop, get_or, sym, ◌∙◌, ap, ap₂, subst, arith}
 use Rattle.std.proofs.Math.ListN.{set}
 use Rattle.std.proofs.Math.Seq.{drop-cons, take-append_seam}
 use Rattle.std.proofs.lemmas.List.{take-append-drop, take-take, length-set, take_more_set, length-drop, length-take, append_assoc, get_or-take}
 use Rattle.sym_model.specs.Partition.{ArePositive, size}
 use Rattle.sym_model.specs.PartitionList.{partitions_of}
+use Rattle.sym_model.proofs.PartitionLists.{length-ArePositive}
 use Rattle.partitions.specs.Listing.{greatest_within, partitions_after, AreOnes, HoldsParts}
-use Rattle.partitions.proofs.Listings.{greatest_within-step, size-AreOnes, partitions_after-part, partitions_after-append, size-append, ArePositive-append, size-greatest_within, ArePositive-greatest_within, partitions_within-first}
+use Rattle.partitions.proofs.Parts.{size-append}
+use Rattle.partitions.proofs.Listings.{greatest_within-step, size-AreOnes, partitions_after-part, partitions_after-append, ArePositive-append, size-greatest_within, ArePositive-greatest_within, partitions_within-first}
 
 -- the buffer after a write of all its places
 pub all_written : (n : ℕ) (xs ys : List ℕ) → length xs ≡ n → take n (xs ++ drop (length xs) ys) ≡ xs
@@ -34,10 +36,6 @@ ArePositive-front (x ∷ xs) ys p = (p.0, ArePositive-front xs ys p.1)
 ArePositive-back : (xs ys : List ℕ) → ArePositive (xs ++ ys) → ArePositive ys
 ArePositive-back [] ys p = p
 ArePositive-back (x ∷ xs) ys p = ArePositive-back xs ys p.1
-
-length-ArePositive : (xs : List ℕ) → ArePositive xs → length xs ≤ size xs
-length-ArePositive [] p = omega arith
-length-ArePositive (x ∷ xs) p = omega (arith, p.0, length-ArePositive xs p.1)
 
 -- the parts in the buffer are those in front, one part above 1, and ones
 pub record Cuts (buffer : List ℕ) (rows above : ℕ) : Type 0 where

@@ -91,9 +91,10 @@ Among-partitions_within (suc rows) (suc d) most (a ∷ parts) w h =
     Among-each (λ b. map (λ rest. b ∷ rest) (partitions_within (suc d - b) b rows)) a (a ∷ parts) (down_from top) here
     (Among-map (λ rest. a ∷ rest) parts (partitions_within (suc d - a) a rows) tail)
 
-rows_few : (parts : List ℕ) → ArePositive parts → length parts ≤ size parts
-rows_few [] p = omega arith
-rows_few (a ∷ parts) p = omega (arith, p.0, rows_few parts p.1)
+-- there are no more parts than cells
+pub length-ArePositive : (parts : List ℕ) → ArePositive parts → length parts ≤ size parts
+length-ArePositive [] p = omega arith
+length-ArePositive (a ∷ parts) p = omega (arith, p.0, length-ArePositive parts p.1)
 
 columns_few : (parts : List ℕ) → columns parts ≤ size parts
 columns_few [] = omega arith
@@ -114,7 +115,7 @@ Among-partitions_of d parts p s =
       sum = s;
       first = omega (arith, columns_few parts);
     } in
-    Among-partitions_within d d d parts w (omega (arith, rows_few parts p.positive))
+    Among-partitions_within d d d parts w (omega (arith, length-ArePositive parts p.positive))
 
 -- ---- in order
 

@@ -1,5 +1,5 @@
-use Rattle.std.proofs.Common.{◌≡◌, ℕ, ◌+◌, ◌-◌, ◌<◌, ◌≤◌, List, length, take, drop, get_or, refl, sym, ◌∙◌, ap, subst, arith}
-use Rattle.partitions.specs.Listing.{AreOnes, HoldsParts}
+use Rattle.std.proofs.Common.{take, drop, refl, subst, arith}
+use Rattle.partitions.specs.Listing.{AreOnes}
 use Rattle.partitions.proofs.Listings.{partitions_after-ones}
 use Rattle.partitions.proofs.Steps.{cuts, next_is, next_holds}
 use Rattle.partitions.proofs.listing.next_in_place.Goals as goal

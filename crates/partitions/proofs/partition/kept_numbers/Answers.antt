@@ -1,4 +1,4 @@
-use Rattle.std.proofs.Common.{◌≡◌, ℕ, zero, suc, ◌+◌, ◌-◌, ◌<◌, ◌≤◌, length, take, get_or, refl, sym, ap, ◌∙◌, subst, arith}
+use Rattle.std.proofs.Common.{◌≡◌, ◌+◌, ◌-◌, ◌<◌, length, take, get_or, sym, ap, ◌∙◌, subst, arith}
 use Rattle.sym_model.specs.Partition.{without_last_zeros}
 use Rattle.partitions.proofs.Parts.{cut-zero, cut-positive}
 use Rattle.partitions.proofs.partition.kept_numbers.Goals as goal

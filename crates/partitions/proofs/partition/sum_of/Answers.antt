@@ -1,4 +1,4 @@
-use Rattle.std.proofs.Common.{◌+◌, ◌<◌, length, arith}
+use Rattle.std.proofs.Common.{arith}
 use Rattle.partitions.proofs.Parts.{size-take_more}
 use Rattle.partitions.proofs.partition.sum_of.Goals as goal
 

@@ -1,4 +1,4 @@
-use Rattle.std.proofs.Common.{◌≡◌, ℕ, ◌∷◌, ◌++◌, length, take, drop, sym, ◌∙◌, ap, subst, arith}
+use Rattle.std.proofs.Common.{◌≡◌, ◌∷◌, length, take, sym, subst, arith}
 use Rattle.sym_model.specs.PartitionList.{partitions_of}
 use Rattle.partitions.specs.Listing.{HoldsParts, partitions_after}
 use Rattle.partitions.proofs.Steps.{all_written, first_holds, first_is}

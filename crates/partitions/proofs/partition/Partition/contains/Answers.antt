@@ -1,4 +1,4 @@
-use Rattle.std.proofs.Common.{◌≡◌, ℕ, ◌+◌, ◌-◌, ◌<◌, ◌≤◌, length, get_or, unwrap_or, ap, ◌∙◌, subst, arith}
+use Rattle.std.proofs.Common.{◌≡◌, ◌+◌, ◌-◌, ◌≤◌, get_or, unwrap_or, ap, ◌∙◌, subst, arith}
 use Rattle.partitions.proofs.partition.Partition.contains.Goals as goal
 
 pub returns-then-unwrap_or-part : goal.returns-then-unwrap_or-part
