@@ -2,3 +2,4 @@ pub mod Coefficients
 pub mod Tables
 pub mod Steps
 pub mod Sorted
+pub mod Totals

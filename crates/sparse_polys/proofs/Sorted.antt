@@ -12,7 +12,7 @@ use Rattle.std.proofs.lemmas.Map.Keys.{IsDistinct-tail, apart_from_distinct}
 use Rattle.coeff_rings.specs.Ratio.{Ratio}
 use Rattle.sym_model.specs.Expansion.{Fraction, Terms}
 use Rattle.sym_model.specs.Canonical.{is_ordered, is_reduced}
-use Rattle.sparse_polys.specs.Combination.{terms_of, are_terms}
+use Rattle.sparse_polys.specs.Combination.{fraction, terms_of, are_terms}
 
 module _ {L R : Type 0} {eq : L → L → Bool} {order : L → L → Ordering} {is_label : L → Bool} (laws : IsEquivalence eq) (total : IsTotalOrder order)
     (exact : (a b : L) → is_label a ≡ true → is_label b ≡ true → order a b ≡ Equal → a ≡ b) (value : R → Ratio) where
@@ -25,13 +25,16 @@ module _ {L R : Type 0} {eq : L → L → Bool} {order : L → L → Ordering} {
       by Equal e h = let same : x ≡ y = sym (exact y x q p e) in let here : eq x x ≡ false = ap (eq x) same ∙ apart in let itself = laws.refl x in cc
       by Greater e h = ap is_lt (total.antisymm x y ∙ ap ordering_reverse e)
 
+  abbrev is_term : L → R → Bool
+  is_term label c = is_reduced (fraction (value c)) && is_label label
+
   pub is_ordered-sorted : (es : List (L × R)) → IsDistinct eq (keys_of es) → are_terms is_label (terms_of value es) ≡ true
       → ((i j : ℕ) (d : L × R) → j ≡ i + 1 → j < length es → is_lt (order (get_or es j d).0 (get_or es i d).0) ≡ false) → is_ordered order (terms_of value es) ≡ true
   is_ordered-sorted [] distinct proper sorted = refl
   is_ordered-sorted (x ∷ []) distinct proper sorted = refl
   is_ordered-sorted (x ∷ y ∷ es) distinct proper sorted =
-      let p = and_parts _ _ proper in
-      let q = and_parts _ _ p.1 in
+      let p : (is_term x.0 x.1 ≡ true) × (are_terms is_label (terms_of value (y ∷ es)) ≡ true) = and_parts (is_term x.0 x.1) _ proper in
+      let q : (is_term y.0 y.1 ≡ true) × (are_terms is_label (terms_of value es) ≡ true) = and_parts (is_term y.0 y.1) _ p.1 in
       and_from (is_lt (order x.0 y.0)) _
-      (stands_before x.0 y.0 (and_parts _ _ p.0).1 (and_parts _ _ q.0).1 (apart_from_distinct eq (keys_of (x ∷ y ∷ es)) 0 1 x.0 distinct (omega arith) (omega arith)) (sorted 0 1 x refl (omega arith)))
+      (stands_before x.0 y.0 (and_parts (is_reduced (fraction (value x.1))) (is_label x.0) p.0).1 (and_parts (is_reduced (fraction (value y.1))) (is_label y.0) q.0).1 (apart_from_distinct eq (keys_of (x ∷ y ∷ es)) 0 1 x.0 distinct (omega arith) (omega arith)) (sorted 0 1 x refl (omega arith)))
       (is_ordered-sorted (y ∷ es) (IsDistinct-tail eq x.0 (keys_of (y ∷ es)) distinct) p.1 (λ i j d e h. sorted (suc i) (suc j) d (omega arith) (omega arith)))

@@ -62,9 +62,9 @@ impl<L: Label, R: Scalar> Lin<L, R> {
 
     /// Whether there are no terms.
     pub fn is_empty(&self) -> bool
-        ensures { IsTrue result ↔ (self.now ≡ []) }
+        ensures { IsTrue result ↔ (length self.now ≡ 0) }
     {
-        self.table.is_empty()
+        self.len() == 0
     }
 
     /// Adds `c` to the label's coefficient, and takes the label out where the sum is 0.

@@ -46,9 +46,9 @@ impl<L: Label, R: Scalar> Terms<L, R> {
 
     /// Whether there are no terms.
     pub fn is_empty(&self) -> bool
-        ensures { IsTrue result ↔ (self.now ≡ []) }
+        ensures { IsTrue result ↔ (length self.now ≡ 0) }
     {
-        self.pairs.is_empty()
+        self.len() == 0
     }
 
     /// The label and the coefficient of a term, counted from 0. `None` exactly past the last one.
