@@ -1,12 +1,13 @@
 -- How texts that go to a sink one after another join: `Goes-then` for two, `Goes-as` for an equal text, `Goes-nothing`
--- where nothing was put, `Goes-stopped` after a fault, `Goes-item` in a loop over a list, and `Goes-prints` at a printer's end.
-use Rattle.std.proofs.Common.{◌≡◌, ℕ, ◌+◌, ◌<◌, ◌≤◌, min, max, List, [], ◌∷◌, ◌++◌, length, take, get_or, Option, Some, None, Bool, true, false, refl, sym, ◌∙◌, ap, subst, arith, append_assoc, append-nil, length-append}
+-- where nothing was put, `Goes-finished` at a finish, `Goes-stopped` after a fault, `Goes-item` in a loop over a list,
+-- and `Goes-prints` at a printer's end.
+use Rattle.std.proofs.Common.{◌≡◌, ℕ, ◌+◌, ◌<◌, min, max, List, [], ◌∷◌, ◌++◌, length, take, get_or, Option, Some, None, Bool, true, false, refl, sym, ◌∙◌, ap, subst, arith, append_assoc, append-nil, length-append}
 use Rattle.std.specs.Prelude.{Result, Ok, Err, is_ok}
 use Rattle.std.specs.List.{flat_map}
 use Rattle.std.proofs.lemmas.List.{take_more}
 use Rattle.std.proofs.lemmas.Grind.{flat_map-append}
-use Rattle.calc_base.specs.Fault.{counted_up, Rose, HasCause}
-use Rattle.calc_base.specs.Sink.{greatest_length, grown, longer, Appends, IsPrefix, AppendsPrefix}
+use Rattle.calc_base.specs.Fault.{Rose}
+use Rattle.calc_base.specs.Sink.{greatest_length, grown, longer, Appends, AppendsPrefix}
 use Rattle.calc_base.specs.Goes.{Goes, Prints}
 
 -- appending two texts is appending them joined
@@ -140,6 +141,13 @@ Goes-prints {now = now} (Ok x) goes answer =
 Goes-prints {now = now} (Err e) goes answer =
     let ended : now ≡ false = sym answer in
     record { whole = tt; cut = goes.cut refl ended; cause = record { later = goes.later; failed = goes.rose refl ended } }
+
+-- a text and then the finish of the sink
+pub Goes-finished : {S : Type 0} {written : S → Option (List ℕ)} {count : S → Option ℕ} {faults : S → ℕ}
+    {before mid now : Bool} {old between new : S} {text : List ℕ}
+    → Goes written count faults before old mid between text → Goes written count faults mid between now new []
+    → Goes written count faults before old now new text
+Goes-finished {text = text} first finish = Goes-as (append-nil text) (Goes-then first finish)
 
 -- after a fault nothing more is put, whatever the text
 pub Goes-stopped : {S : Type 0} (written : S → Option (List ℕ)) (count : S → Option ℕ) (faults : S → ℕ) (s : S) (text : List ℕ)

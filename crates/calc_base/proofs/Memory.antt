@@ -1,10 +1,10 @@
 -- What a source and a sink in memory do, over plain lists.
-use Rattle.std.proofs.Common.{◌≡◌, ℕ, ◌+◌, ◌-◌, ◌<◌, ◌≤◌, min, max, List, [], ◌∷◌, ◌++◌, length, take, drop, Option, Some, refl, sym, ◌∙◌, ap, arith, length-append}
+use Rattle.std.proofs.Common.{◌≡◌, ℕ, ◌+◌, ◌<◌, ◌≤◌, min, max, List, [], ◌∷◌, ◌++◌, length, take, drop, Some, refl, sym, ◌∙◌, ap, arith, length-append}
 use Rattle.std.proofs.lemmas.List.{take-append-drop}
 use Rattle.std.proofs.Math.Seq.{take-append_seam}
 use Rattle.std.proofs.lemmas.Grind.{common_steps}
 use Rattle.calc_base.specs.Source.{Takes}
-use Rattle.calc_base.specs.Sink.{greatest_length, longer, Appends, IsPrefix, AppendsPrefix}
+use Rattle.calc_base.specs.Sink.{greatest_length, AppendsPrefix}
 use Rattle.calc_base.specs.Store.{Store, told_length}
 
 -- the first bytes of what is left, moved to the front of a buffer

@@ -1,5 +1,5 @@
 -- A sink in memory, as its contracts see it.
-use Rattle.std.specs.Prelude.{ℕ, ◌-◌, List, [], ◌++◌, length, take, min, Option, Some, cond, Bool, true, false, not, ◌||◌, nat_lt}
+use Rattle.std.specs.Prelude.{ℕ, ◌-◌, List, [], ◌++◌, length, take, min, Option, Some, cond, Bool, false, not, ◌||◌, nat_lt}
 use Rattle.calc_base.specs.Fault.{counted_up}
 use Rattle.calc_base.specs.Sink.{greatest_length}
 use Rattle.calc_base.specs.Supply.{is_listed}

@@ -80,8 +80,10 @@ impl Sink for MemSink {
 
     fn put(&mut self, bytes: &[u8]) -> Result<(), SinkFault>
         // What each sink owes.
-        ensures ok { OnOk result (Appends (λ s. Some s.bytes) told_length self.old self.new bytes.now) }
-        ensures err { OnErr result (AppendsPrefix (λ s. Some s.bytes) told_length self.old self.new bytes.now) }
+        ensures ok { OnOk result
+            (Appends (λ s. Some s.bytes) told_length self.old self.new bytes.now) }
+        ensures err { OnErr result
+            (AppendsPrefix (λ s. Some s.bytes) told_length self.old self.new bytes.now) }
         ensures cause { HasCause self.old.failed self.new.failed result }
         ensures settled { self.new.finished ≡ false }
 

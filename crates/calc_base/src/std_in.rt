@@ -56,7 +56,8 @@ impl<R: Read> Source for StdIn<R> {
         ensures cause { HasCause self.old.failed self.new.failed result }
 
         // What this one does.
-        ensures bytes { ReadConsumes (R.remaining self.old.reader) (R.remaining self.new.reader) result buf.new }
+        ensures bytes { ReadConsumes (R.remaining self.old.reader) (R.remaining self.new.reader)
+            result buf.new }
         ensures spent { IfOk result (λ count. self.new.allowance + count ≡ self.old.allowance) }
         ensures unspent { OnErr result (self.new.allowance ≡ self.old.allowance) }
         ensures exhausted { self.old.allowance ≡ 0 → IsErr result }

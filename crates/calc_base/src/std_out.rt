@@ -52,12 +52,14 @@ impl<W: Write> Sink for StdOut<W> {
     fn put(&mut self, bytes: &[u8]) -> Result<(), SinkFault>
         // What each sink owes.
         ensures ok { OnOk result (Appends (λ _. None) (λ _. None) self.old self.new bytes.now) }
-        ensures err { OnErr result (AppendsPrefix (λ _. None) (λ _. None) self.old self.new bytes.now) }
+        ensures err { OnErr result
+            (AppendsPrefix (λ _. None) (λ _. None) self.old self.new bytes.now) }
         ensures cause { HasCause self.old.failed self.new.failed result }
         ensures settled { self.new.finished ≡ false }
 
         // What this one does.
-        ensures bytes { OnOk result (WriterAppends (W.contents self.old.writer) (W.contents self.new.writer) bytes.now) }
+        ensures bytes { OnOk result
+            (WriterAppends (W.contents self.old.writer) (W.contents self.new.writer) bytes.now) }
         ensures counted { self.new.failed ≡ failed_after self.old.failed (is_err result) }
     {
         self.finished = false;
@@ -92,7 +94,8 @@ impl<W: Write> Sink for StdOut<W> {
 
 /// Writes all of the bytes, and answers whether each write took some of what was left.
 fn write_whole<W: Write>(writer: &mut W, bytes: &[u8]) -> bool
-    ensures { OnTrue result (WriterAppends (W.contents writer.old) (W.contents writer.new) bytes.now) }
+    ensures { OnTrue result
+        (WriterAppends (W.contents writer.old) (W.contents writer.new) bytes.now) }
 {
     let mut at = 0;
     while at < bytes.len() {

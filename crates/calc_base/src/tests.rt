@@ -1,5 +1,5 @@
 // What no clause says: that calls succeed, faults in mid-stream, and the codes.
-ghost use Rattle.std.specs.Prelude.{◌≡◌, ◌-◌, ◌≤◌, ℕ, List, [], ◌∷◌, length, map, min, drop, cond, true, slice_range, Option, Some, None};
+ghost use Rattle.std.specs.Prelude.{◌≡◌, ◌-◌, ◌≤◌, ℕ, List, [], ◌∷◌, length, map, min, drop, cond, true, IsTrue, slice_range, Option, Some, None};
 ghost use Rattle.std.specs.List.{flat_map};
 ghost use Rattle.calc_base.specs.Goes.{Goes, Prints};
 
@@ -27,6 +27,16 @@ fn print_lines<K: Sink>(sink: &mut K, letters: &[u8]) -> Result<(), SinkFault>
     put_result(put_lines(true, sink, letters))
 }
 
+// A text, and the sink finished.
+fn deliver_lines<K: Sink>(sink: &mut K, letters: &[u8]) -> bool
+    ensures goes { Goes K.written K.length K.faults true sink.old result sink.new
+        (flat_map (λ letter. letter ∷ 10 ∷ []) letters.now) }
+    ensures settled { IsTrue result → K.settled sink.new ≡ true }
+{
+    let well = put_lines(true, sink, letters);
+    finish_if(well, sink)
+}
+
 // The same over a lister: a line for each item, as long as all goes well.
 fn put_items<L: Lister, K: Sink>(well: bool, lister: &mut L, sink: &mut K) -> bool
     ensures { Goes K.written K.length K.faults well sink.old result sink.new
@@ -51,8 +61,10 @@ struct Singles {
 impl Model for Singles {
     ghost Value = { List (List ℕ) × Option (List ℕ) };
 
-    ghost view = { λ s. (map (λ x. x ∷ []) (drop s.next s.numbers.items),
-        cond s.has_item (Some (slice_range s.numbers.items (s.next - 1) s.next)) None) };
+    ghost view = { λ s. (
+      map (λ x. x ∷ []) (drop s.next s.numbers.items),
+      cond s.has_item (Some (slice_range s.numbers.items (s.next - 1) s.next)) None,
+    ) };
 
     ghost invariant = { λ s. (s.next ≤ length s.numbers.items) × (s.has_item ≡ true → 1 ≤ s.next) };
 }
@@ -128,8 +140,8 @@ fn a_sink_takes_what_fits(rt: HostRuntime) -> Result<(), Fail> {
 #[test]
 fn a_printer_stops_at_the_first_fault(rt: HostRuntime) -> Result<(), Fail> {
     let mut sink = MemSink::new(rt.alloc(), 8, &[])?;
-    print_lines(&mut sink, b"ab")?;
-    assert!(rt; finish_if(true, &mut sink));
+    print_lines(&mut sink, b"a")?;
+    assert!(rt; deliver_lines(&mut sink, b"b"));
     assert_eq!(rt; sink.bytes(), b"a\nb\n".as_slice());
     let mut faulty = MemSink::new(rt.alloc(), 8, &[2])?;
     assert_eq!(rt; print_lines(&mut faulty, b"ab"), Err(SinkFault));

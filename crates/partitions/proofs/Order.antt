@@ -1,7 +1,7 @@
 -- The printed order on partitions.
 use Rattle.std.proofs.Common.{◌≡◌, ℕ, zero, suc, ◌+◌, ◌<◌, ◌≤◌, List, [], ◌∷◌, refl, sym, ap, ◌∙◌, arith}
 use Rattle.std.specs.Ordering.{nat_cmp, ordering_then}
-use Rattle.std.specs.Cmp.{nat_cmp_is, ranked}
+use Rattle.std.specs.Cmp.{nat_cmp_is}
 use Rattle.std.specs.Cmp.Lexicographic.{slice_cmp}
 use Rattle.std.specs.declared.cmp.Ordering.{Ordering}
 use Rattle.std.specs.declared.cmp.Ordering.TheVariants.{Less, Equal, Greater}
@@ -32,30 +32,3 @@ pub printed_order-slice_cmp :
     → ordering_then (nat_cmp (size ys) (size xs)) (slice_cmp nat_cmp ys xs) ≡ printed_order xs ys
 printed_order-slice_cmp xs ys p q =
     ap (ordering_then (nat_cmp (size ys) (size xs))) (sym (falling_lexicographic-slice_cmp xs ys p q))
-
-nat_cmp-Equal : (a b : ℕ) → nat_cmp a b ≡ Equal → a ≡ b
-nat_cmp-Equal a b h = ranked a b Equal (sym h)
-
-ordering_then-Equal : (o p : Ordering) → ordering_then o p ≡ Equal → (o ≡ Equal) × (p ≡ Equal)
-ordering_then-Equal Less p h = cc
-ordering_then-Equal Equal p h = (refl, h)
-ordering_then-Equal Greater p h = cc
-
--- lists of positive numbers that stand together are equal
-pub falling_lexicographic-Equal :
-    (xs ys : List ℕ) → ArePositive xs → ArePositive ys → falling_lexicographic xs ys ≡ Equal → xs ≡ ys
-falling_lexicographic-Equal [] [] p q h = refl
-falling_lexicographic-Equal [] (y ∷ ys) p q h =
-    let e = nat_cmp-Equal y 0 (ordering_then-Equal _ _ h).0 in absurd (omega (arith, q.0))
-falling_lexicographic-Equal (x ∷ xs) [] p q h =
-    let e = nat_cmp-Equal 0 x (ordering_then-Equal _ _ h).0 in absurd (omega (arith, p.0))
-falling_lexicographic-Equal (x ∷ xs) (y ∷ ys) p q h =
-    let both = ordering_then-Equal _ _ h in
-    let head = nat_cmp-Equal y x both.0 in
-    let tail = falling_lexicographic-Equal xs ys p.1 q.1 both.1 in
-    cc
-
--- partitions that stand together in print are equal
-pub printed_order-Equal :
-    (xs ys : List ℕ) → ArePositive xs → ArePositive ys → printed_order xs ys ≡ Equal → xs ≡ ys
-printed_order-Equal xs ys p q h = falling_lexicographic-Equal xs ys p q (ordering_then-Equal _ _ h).1

@@ -2,7 +2,11 @@
 #![tactic(auto)]
 
 mod fault;
+mod listing;
 mod partition;
+#[cfg(test)]
+mod tests;
 
 pub use fault::PartFault;
+pub use listing::PartitionsOf;
 pub use partition::Partition;

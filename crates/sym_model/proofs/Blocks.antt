@@ -1,12 +1,12 @@
 -- A block is read back as the list that it was printed of.
-use Rattle.std.proofs.Common.{◌≡◌, ℕ, zero, suc, ◌+◌, ◌-◌, ◌^◌, ◌<◌, ◌≤◌, Bool, true, false, ◌&&◌, List, [], ◌∷◌, ◌++◌, length, map, cond, eqb, leb, ltb, ℤ, pos, negsuc, IsTrue, Option, Some, None, refl, sym, ap, ◌∙◌, subst, decimal, append_assoc, length-append, arith, rules}
+use Rattle.std.proofs.Common.{◌≡◌, ℕ, ◌^◌, ◌<◌, ◌≤◌, Bool, true, false, ◌&&◌, List, [], ◌∷◌, ◌++◌, length, map, cond, eqb, leb, ℤ, pos, negsuc, Some, None, refl, sym, ap, ◌∙◌, subst, decimal, append_assoc, length-append, arith}
 use Rattle.std.specs.Fmt.{signed_decimal}
-use Rattle.std.proofs.lemmas.Bool.{eq-eqb, ne_eqb, eqb-true, leb-true, ltb-true, cond-true, cond-false, and_parts, and_from, cases_cond}
+use Rattle.std.proofs.lemmas.Bool.{eq-eqb, ne_eqb, eqb-true, leb-true, ltb-true, cond-true, cond-false, and_parts, and_from}
 use Rattle.sym_model.specs.Polynomial.{same}
 use Rattle.sym_model.specs.Partition.{size, rows}
 use Rattle.sym_model.specs.Expansion.{Fraction, Terms}
 use Rattle.sym_model.specs.Canonical.{is_reduced, is_partition, is_label, each_term, fits_128_bits, is_canonical, is_printable}
-use Rattle.sym_model.specs.PrintedBlock.{fraction_text, numbers_text, label_text, line_text, lines_text, block, before_first, split_at, decimal_value, signed_value, fraction_of_pieces, without_last, numbers_of, label_of, terms_of_pieces, terms_of_lines, terms_of, read}
+use Rattle.sym_model.specs.PrintedBlock.{fraction_text, numbers_text, label_text, line_text, lines_text, block, before_first, split_at, decimal_value, fraction_of_pieces, without_last, numbers_of, label_of, terms_of_pieces, terms_of_lines, terms_of, read}
 use Rattle.sym_model.proofs.Decimals.{Lacks, lacks-append, decimal-lacks, decimal-nonempty, decimal_value-decimal, IsShort, signed_decimal-lacks, signed_value-signed_decimal}
 
 -- a text without the separator is one piece

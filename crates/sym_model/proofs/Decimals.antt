@@ -1,5 +1,5 @@
 -- Decimal text: the digits that std writes of a number, and the value that they are read as.
-use Rattle.std.proofs.Common.{◌≡◌, ℕ, zero, suc, ◌+◌, ◌*◌, ◌-◌, ◌^◌, ◌<◌, ◌≤◌, ◌/◌, ◌%◌, List, [], ◌∷◌, ◌++◌, length, take, get_or, replicate, length-append, mul-le-mul_right, mod-lt, pow-suc, cond, eqb, ℤ, pos, negsuc, neg_ℤ, refl, sym, ap, ◌∙◌, subst, ◌⊎◌, inl, inr, decimal, arith, rules}
+use Rattle.std.proofs.Common.{◌≡◌, ℕ, zero, suc, ◌+◌, ◌*◌, ◌-◌, ◌^◌, ◌<◌, ◌≤◌, ◌/◌, ◌%◌, List, [], ◌∷◌, ◌++◌, length, take, get_or, replicate, length-append, mul-le-mul_right, pow-suc, eqb, ℤ, pos, negsuc, neg_ℤ, refl, sym, ap, ◌∙◌, subst, decimal, arith}
 use Rattle.std.specs.Fmt.{signed_decimal}
 use Rattle.std.proofs.lemmas.Fmt.{decimal_by_steps_wide}
 use Rattle.std.proofs.lemmas.List.{take_more}

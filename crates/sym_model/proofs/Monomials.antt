@@ -1,13 +1,13 @@
 -- The polynomials of specs/Bases by their coefficients and pairings: sums of monomials, m_λ and p_a.
-use Rattle.std.proofs.Common.{◌≡◌, ◌⊎◌, ℕ, zero, suc, ◌+◌, ◌-◌, ◌<◌, ◌≤◌, Bool, true, false, ◌&&◌, cond, eqb, leb, List, [], ◌∷◌, ◌++◌, map, length, replicate, sym, ◌∙◌, ap, ap₂, subst, refl, inl, inr, arith, ℤ, pos, ◌+ℤ◌}
+use Rattle.std.proofs.Common.{◌≡◌, ◌⊎◌, ℕ, zero, suc, ◌+◌, ◌-◌, ◌<◌, ◌≤◌, Bool, true, false, ◌&&◌, cond, eqb, leb, List, [], ◌∷◌, map, length, replicate, sym, ◌∙◌, ap, ap₂, subst, refl, inl, inr, arith, ℤ, pos, ◌+ℤ◌}
 use Rattle.std.proofs.lemmas.Int.{ints}
-use Rattle.std.proofs.lemmas.Bool.{cases_lt, cases_eq, le-leb, lt-leb, leb-true, eq-eqb, ne_eqb, eqb-true, cond-true, cond-false, true≢false, and_parts, and_from, or_cases, false_from_ne_true}
+use Rattle.std.proofs.lemmas.Bool.{cases_lt, cases_eq, le-leb, lt-leb, leb-true, eq-eqb, ne_eqb, eqb-true, cond-true, cond-false, true≢false, and_parts, and_from}
 use Rattle.sym_model.specs.Sum.{total, each, select, Among}
-use Rattle.sym_model.specs.Polynomial.{Term, Poly, same, coefficient, Same, In, pair}
+use Rattle.sym_model.specs.Polynomial.{Term, same, coefficient, In, pair}
 use Rattle.sym_model.specs.Partition.{size, sorted_parts}
 use Rattle.sym_model.specs.Bases.{down_from, exponent_lists, monomials, has, monomial, power_sum_of}
-use Rattle.sym_model.proofs.Sums.{total_append, total_ext, total_among, total_zero, total_none, total_map, total_each, total_select, Among_from_append, Among_from_map, Among_from_each, Among_from_select}
-use Rattle.sym_model.proofs.Exponents.{tests_agree, same_true, same_from, same_false}
+use Rattle.sym_model.proofs.Sums.{total_append, total_ext, total_zero, total_none, total_map, total_each, total_select, Among_from_map, Among_from_each, Among_from_select}
+use Rattle.sym_model.proofs.Exponents.{tests_agree, same_true}
 use Rattle.sym_model.proofs.Polynomials.{pair_monomials}
 use Rattle.sym_model.proofs.SortedParts.{size-sorted_parts, has_here, has_past}
 use lib.IntN.{+ℤ_idl, +ℤ_idr}
@@ -24,6 +24,7 @@ total_down_from-only g c (suc d) = by (cases_eq (suc d) c) (cases_lt d c) (total
   where
     rest : ℤ
     rest = total (λ (a : ℕ). cond (eqb a c) (g a) (pos 0)) (down_from d)
+
     by : (suc d ≡ c) ⊎ (suc d ≡ c → ⊥) → (d < c) ⊎ (c ≤ d) → total (λ (a : ℕ). cond (eqb a c) (g a) (pos 0)) (down_from d) ≡ cond (leb c d) (g c) (pos 0)
         → cond (eqb (suc d) c) (g (suc d)) (pos 0) +ℤ total (λ (a : ℕ). cond (eqb a c) (g a) (pos 0)) (down_from d) ≡ cond (leb c (suc d)) (g c) (pos 0)
     by (inl e) u r =
@@ -55,32 +56,36 @@ total_exponent_lists-only φ (c ∷ γ) zero d = by (eqb d 0)
 total_exponent_lists-only φ [] (suc n) d =
     total_each (λ (α : List ℕ). cond (same α []) (φ α) (pos 0)) (λ (a : ℕ). map (λ (α : List ℕ). a ∷ α) (exponent_lists n (d - a))) (down_from d)
     ∙ total_none
-        (λ (a : ℕ). total (λ (α : List ℕ). cond (same α []) (φ α) (pos 0)) (map (λ (α : List ℕ). a ∷ α) (exponent_lists n (d - a))))
-        (down_from d)
-        (λ a m. total_map (λ (α : List ℕ). cond (same α []) (φ α) (pos 0)) (λ (α : List ℕ). a ∷ α) (exponent_lists n (d - a)) ∙ total_zero (exponent_lists n (d - a)))
+    (λ (a : ℕ). total (λ (α : List ℕ). cond (same α []) (φ α) (pos 0)) (map (λ (α : List ℕ). a ∷ α) (exponent_lists n (d - a))))
+    (down_from d)
+    (λ a m. total_map (λ (α : List ℕ). cond (same α []) (φ α) (pos 0)) (λ (α : List ℕ). a ∷ α) (exponent_lists n (d - a)) ∙ total_zero (exponent_lists n (d - a)))
     ∙ rw (ne_eqb 0 (suc n) (λ e. omega arith)) refl
 total_exponent_lists-only φ (c ∷ γ) (suc n) d =
     total_each F (λ (a : ℕ). map (λ (α : List ℕ). a ∷ α) (exponent_lists n (d - a))) (down_from d)
     ∙ total_ext
-        (λ (a : ℕ). total F (map (λ (α : List ℕ). a ∷ α) (exponent_lists n (d - a))))
-        (λ (a : ℕ). cond (eqb a c) (inner a) (pos 0))
-        (λ a. total_map F (λ (α : List ℕ). a ∷ α) (exponent_lists n (d - a)) ∙ row a (eqb a c) (total_exponent_lists-only (λ α. φ (a ∷ α)) γ n (d - a)))
-        (down_from d)
+    (λ (a : ℕ). total F (map (λ (α : List ℕ). a ∷ α) (exponent_lists n (d - a))))
+    (λ (a : ℕ). cond (eqb a c) (inner a) (pos 0))
+    (λ a. total_map F (λ (α : List ℕ). a ∷ α) (exponent_lists n (d - a)) ∙ row a (eqb a c) (total_exponent_lists-only (λ α. φ (a ∷ α)) γ n (d - a)))
+    (down_from d)
     ∙ total_down_from-only inner c d
     ∙ both (leb c d) (is_exponent_list n (d - c) γ)
     ∙ ap (λ b. cond b (φ (c ∷ γ)) (pos 0)) (tests_agree (leb c d && is_exponent_list n (d - c) γ) (is_exponent_list (suc n) d (c ∷ γ)) there back)
   where
     F : List ℕ → ℤ
     F α = cond (same α (c ∷ γ)) (φ α) (pos 0)
+
     inner : ℕ → ℤ
     inner a = cond (is_exponent_list n (d - a) γ) (φ (a ∷ γ)) (pos 0)
+
     row : (a : ℕ) (b : Bool) → total (λ (α : List ℕ). cond (same α γ) (φ (a ∷ α)) (pos 0)) (exponent_lists n (d - a)) ≡ inner a
         → total (λ (α : List ℕ). cond (b && same α γ) (φ (a ∷ α)) (pos 0)) (exponent_lists n (d - a)) ≡ cond b (inner a) (pos 0)
     row a true e = e
     row a false e = total_zero (exponent_lists n (d - a))
+
     both : (x y : Bool) → cond x (cond y (φ (c ∷ γ)) (pos 0)) (pos 0) ≡ cond (x && y) (φ (c ∷ γ)) (pos 0)
     both true y = refl
     both false y = refl
+
     there : (leb c d && is_exponent_list n (d - c) γ) ≡ true → is_exponent_list (suc n) d (c ∷ γ) ≡ true
     there t =
         let p = and_parts (leb c d) (is_exponent_list n (d - c) γ) t in
@@ -89,13 +94,14 @@ total_exponent_lists-only φ (c ∷ γ) (suc n) d =
         let u = eqb-true (length γ) n q.0 in
         let v = eqb-true (size γ) (d - c) q.1 in
         and_from (eqb (suc (length γ)) (suc n)) (eqb (c + size γ) d) (eq-eqb (suc (length γ)) (suc n) (omega arith)) (eq-eqb (c + size γ) d (omega arith))
+
     back : is_exponent_list (suc n) d (c ∷ γ) ≡ true → (leb c d && is_exponent_list n (d - c) γ) ≡ true
     back t =
         let q = and_parts (eqb (suc (length γ)) (suc n)) (eqb (c + size γ) d) t in
         let u = eqb-true (suc (length γ)) (suc n) q.0 in
         let v = eqb-true (c + size γ) d q.1 in
         and_from (leb c d) (is_exponent_list n (d - c) γ) (le-leb c d (omega arith))
-            (and_from (eqb (length γ) n) (eqb (size γ) (d - c)) (eq-eqb (length γ) n (omega arith)) (eq-eqb (size γ) (d - c) (omega arith)))
+        (and_from (eqb (length γ) n) (eqb (size γ) (d - c)) (eq-eqb (length γ) n (omega arith)) (eq-eqb (size γ) (d - c) (omega arith)))
 
 -- ---- coefficients
 
@@ -105,10 +111,10 @@ coefficient-monomials test n d γ =
     total_map (λ (t : Term). cond (same t.0 γ) t.1 (pos 0)) (λ (α : List ℕ). (α, pos 1)) (select test (exponent_lists n d))
     ∙ total_select (λ (α : List ℕ). cond (same α γ) (pos 1) (pos 0)) test (exponent_lists n d)
     ∙ total_ext
-        (λ (α : List ℕ). cond (test α) (cond (same α γ) (pos 1) (pos 0)) (pos 0))
-        (λ (α : List ℕ). cond (same α γ) (cond (test α) (pos 1) (pos 0)) (pos 0))
-        (λ α. turn (test α) (same α γ))
-        (exponent_lists n d)
+    (λ (α : List ℕ). cond (test α) (cond (same α γ) (pos 1) (pos 0)) (pos 0))
+    (λ (α : List ℕ). cond (same α γ) (cond (test α) (pos 1) (pos 0)) (pos 0))
+    (λ α. turn (test α) (same α γ))
+    (exponent_lists n d)
     ∙ total_exponent_lists-only (λ α. cond (test α) (pos 1) (pos 0)) γ n d
   where
     turn : (x y : Bool) → cond x (cond y (pos 1) (pos 0)) (pos 0) ≡ cond y (cond x (pos 1) (pos 0)) (pos 0)
@@ -198,20 +204,24 @@ total_power_sum a (suc n) φ =
   where
     F : List ℕ → ℤ
     F α = cond (has (suc a) α) (φ α) (pos 0)
+
     row : ℕ → ℤ
     row c = total F (map (λ (α : List ℕ). c ∷ α) (exponent_lists n (suc a - c)))
+
     top : row (suc a) ≡ φ (suc a ∷ replicate n 0)
     top =
         total_map F (λ (α : List ℕ). suc a ∷ α) (exponent_lists n (suc a - suc a))
         ∙ total_ext (λ (α : List ℕ). F (suc a ∷ α)) (λ (α : List ℕ). φ (suc a ∷ α)) (λ α. cond-true (has (suc a) (suc a ∷ α)) (φ (suc a ∷ α)) (pos 0) (has_here (suc a) (suc a) α refl)) (exponent_lists n (suc a - suc a))
         ∙ ap (λ d. total (λ (α : List ℕ). φ (suc a ∷ α)) (exponent_lists n d)) (let e : suc a - suc a ≡ 0 = omega arith in e)
         ∙ total_exponent_lists-zero (λ α. φ (suc a ∷ α)) n
+
     middle : (c : ℕ) → 0 < c → c ≤ a → row c ≡ pos 0
     middle c l h =
         total_map F (λ (α : List ℕ). c ∷ α) (exponent_lists n (suc a - c))
         ∙ total_none (λ (α : List ℕ). F (c ∷ α)) (exponent_lists n (suc a - c))
-            (λ α m. cond-false (has (suc a) (c ∷ α)) (φ (c ∷ α)) (pos 0)
-                (has_past (suc a) c α (λ e. omega arith) ∙ has_above_size (suc a) α (omega (arith, (members_of-exponent_lists α n (suc a - c) m).1))))
+        (λ α m. cond-false (has (suc a) (c ∷ α)) (φ (c ∷ α)) (pos 0)
+        (has_past (suc a) c α (λ e. omega arith) ∙ has_above_size (suc a) α (omega (arith, (members_of-exponent_lists α n (suc a - c) m).1))))
+
     bottom : total (λ (α : List ℕ). cond (has (suc a) α) (φ (0 ∷ α)) (pos 0)) (exponent_lists n (suc a)) ≡ total (λ (α : List ℕ). φ (0 ∷ α)) (one_place (suc a) n)
         → row 0 ≡ total φ (map (λ (α : List ℕ). 0 ∷ α) (one_place (suc a) n))
     bottom h =

@@ -1,23 +1,21 @@
 -- The printed order and the tests of a canonical list, as facts: the order is total and ties only equal
 -- partitions, the tests decide what they are named for, and the gcd is the greatest common divisor.
-use Rattle.std.proofs.Common.{◌≡◌, ℕ, zero, suc, ◌+◌, ◌*◌, ◌-◌, ◌^◌, ◌<◌, ◌≤◌, ◌/◌, ◌%◌, Bool, true, false, ◌&&◌, List, [], ◌∷◌, ◌++◌, length, get_or, map, cond, eqb, leb, ltb, ℤ, pos, negsuc, nat_abs, refl, sym, ap, ◌∙◌, subst, inl, inr, mod-lt, arith, rules}
+use Rattle.std.proofs.Common.{◌≡◌, ℕ, zero, suc, ◌+◌, ◌^◌, ◌<◌, ◌≤◌, ◌%◌, true, ◌&&◌, List, [], ◌∷◌, length, eqb, leb, ltb, ℤ, pos, negsuc, nat_abs, refl, sym, ap, ◌∙◌, subst, mod-lt, arith}
 use Rattle.std.specs.Int.{IsGcd}
 use Rattle.std.specs.Int.RustNames.{FitsSigned}
 use mir.Syntax.{w128}
 use Rattle.std.specs.Cmp.{IsTotalOrder}
 use Rattle.std.specs.Cmp.Lexicographic.{slice_cmp}
-use Rattle.std.specs.List.{AllPairs}
-use Rattle.std.specs.Ordering.{nat_cmp, ordering_then, ordering_reverse, flip_args, on, then_cmp, is_lt, MatchOrdering}
+use Rattle.std.specs.Ordering.{nat_cmp, ordering_then, ordering_reverse, flip_args, MatchOrdering}
 use Rattle.std.specs.declared.cmp.Ordering.{Ordering}
 use Rattle.std.specs.declared.cmp.Ordering.TheVariants.{Less, Equal, Greater}
 use Rattle.std.proofs.lemmas.Cmp.{ranked, nat_cmp_total, back_total, lists_total, on_total, then_total, tied_itself}
 use Rattle.std.proofs.lemmas.Bool.{eq-eqb, eqb-true, leb-true, ltb-true, lt-ltb, le-leb, and_parts, and_from}
 use Rattle.std.proofs.lemmas.Nat.Gcd.{IsGcd-from_zero, IsGcd-from_mod, same_from_IsGcd}
-use Rattle.sym_model.specs.Sum.{Among, Once}
 use Rattle.sym_model.specs.Polynomial.{resize}
-use Rattle.sym_model.specs.Partition.{Falls, ArePositive, IsPartition, size, rows}
+use Rattle.sym_model.specs.Partition.{ArePositive, IsPartition, size, rows}
 use Rattle.sym_model.specs.PrintedOrder.{falling_lexicographic, printed_order}
-use Rattle.sym_model.specs.Expansion.{Fraction, Terms}
+use Rattle.sym_model.specs.Expansion.{Fraction}
 use Rattle.sym_model.specs.Canonical.{gcd_within, gcd, is_reduced, is_partition, is_label, fits_128_bits}
 
 -- numbers compared the other way round

@@ -1,8 +1,7 @@
 -- What the loops of the plain program for blocks keep.
-use Rattle.std.proofs.Common.{◌≡◌, ℕ, suc, ◌-◌, ◌≤◌, length, take, get_or, arith, List, [], ◌∷◌, ◌++◌, map, drop, refl, sym, ap, ◌∙◌, decimal, append_assoc, append-nil}
+use Rattle.std.proofs.Common.{◌≡◌, ℕ, suc, ◌-◌, ◌≤◌, length, take, get_or, arith, List, [], ◌∷◌, ◌++◌, drop, sym, ap, ◌∙◌, decimal, append_assoc, append-nil}
 use Rattle.std.proofs.Math.Seq.{take-length}
-use Rattle.sym_model.specs.Expansion.{Fraction, Terms}
-use Rattle.sym_model.specs.PrintedBlock.{numbers_text, line_text, lines_text, block}
+use Rattle.sym_model.specs.PrintedBlock.{numbers_text}
 
 -- each number with a comma in front
 abbrev pub comma_numbers : List ℕ → List ℕ

@@ -4,19 +4,19 @@
 -- The coefficient of x^α in p_a·m_λ counts the places of α from which a can be taken so that λ is left
 -- (`coefficient-power_sum_times`). Such a place has a number a + b of α, b a part of λ or 0, and α sorts to λ with
 -- b raised; each place of α with that number will do.
-use Rattle.std.proofs.Common.{◌≡◌, ◌⊎◌, ℕ, zero, suc, ◌+◌, ◌-◌, ◌<◌, ◌≤◌, Bool, true, false, ◌&&◌, ◌||◌, cond, eqb, leb, List, [], ◌∷◌, ◌++◌, map, length, replicate, sym, ◌∙◌, ap, ap₂, subst, refl, inl, inr, arith, ℤ, pos, ◌+ℤ◌, ◌*ℤ◌}
+use Rattle.std.proofs.Common.{◌≡◌, ◌⊎◌, ℕ, zero, suc, ◌+◌, ◌-◌, ◌<◌, ◌≤◌, Bool, true, false, ◌&&◌, ◌||◌, cond, eqb, leb, List, [], ◌∷◌, ◌++◌, map, length, replicate, sym, ◌∙◌, ap, ap₂, refl, inl, inr, arith, ℤ, pos, ◌+ℤ◌, ◌*ℤ◌}
 use Rattle.std.proofs.lemmas.Int.{ints}
-use Rattle.std.proofs.lemmas.Bool.{cases_lt, cases_eq, cases_Bool, le-leb, lt-leb, leb-true, leb-false, eq-eqb, ne_eqb, eqb-true, eqb-false, cond-true, cond-false, true≢false, and_parts, and_from}
-use Rattle.sym_model.specs.Sum.{total, each, Among}
-use Rattle.sym_model.specs.Polynomial.{Term, Poly, same, coefficient, Same, In, join, pair, times, scale}
+use Rattle.std.proofs.lemmas.Bool.{cases_lt, cases_eq, le-leb, lt-leb, leb-true, eq-eqb, ne_eqb, eqb-true, and_parts, and_from}
+use Rattle.sym_model.specs.Sum.{total, Among}
+use Rattle.sym_model.specs.Polynomial.{Term, Poly, same, coefficient, Same, In, join, pair, times}
 use Rattle.sym_model.specs.Partition.{IsPartition, size, insert_part, sorted_parts}
 use Rattle.sym_model.specs.Bases.{has, monomial, power_sum_of}
 use Rattle.sym_model.specs.Schur.{times_in}
-use Rattle.sym_model.specs.WholeTerms.{WholeTerms, combined}
+use Rattle.sym_model.specs.WholeTerms.{combined}
 use Rattle.sym_model.specs.PowerSumProduct.{raise, distinct, raised_terms}
 use Rattle.sym_model.proofs.Sums.{total_append, total_ext, total_among, total_zero, total_none, total_map, total_exchange, Among_from_append, Among_from_map}
 use Rattle.sym_model.proofs.Exponents.{tests_agree, same_true, same_from, join_zeros}
-use Rattle.sym_model.proofs.Polynomials.{at_only, coefficient_pair, pair_times, pair_total, pair_in, pair_each, pair_scale}
+use Rattle.sym_model.proofs.Polynomials.{at_only, coefficient_pair, pair_times, pair_total, pair_in}
 use Rattle.sym_model.proofs.SortedParts.{insert_part_comm, IsPartition-sorted_parts, times_in-sorted_parts, raised_from_lowered, lowered_from_raised}
 use Rattle.sym_model.proofs.Monomials.{one_place, pair-power_sum_of, coefficient-monomial, In-monomials}
 use Rattle.sym_model.proofs.WholeTerms.{coefficient-combined}
@@ -76,14 +76,16 @@ total_one_place-join a (suc n) (b ∷ β) (c ∷ α) l =
         by (inl h) = rw (ne_eqb (a + b) c (λ e. omega arith), lt-leb a c h) refl
         by (inr h) =
             let e : eqb (a + b) c ≡ eqb b (c - a) =
-                tests_agree (eqb (a + b) c) (eqb b (c - a))
-                    (λ t. let u = eqb-true (a + b) c t in eq-eqb b (c - a) (omega arith))
-                    (λ t. let u = eqb-true b (c - a) t in eq-eqb (a + b) c (omega arith)) in
+            tests_agree (eqb (a + b) c) (eqb b (c - a))
+            (λ t. let u = eqb-true (a + b) c t in eq-eqb b (c - a) (omega arith))
+            (λ t. let u = eqb-true b (c - a) t in eq-eqb (a + b) c (omega arith)) in
             rw (e, le-leb a c h) (sym (+ℤ_idr (cond (eqb b (c - a) && same β α) (pos 1) (pos 0))))
+
     row : (x : Bool) → total (λ (ε : List ℕ). at_only α (join ε β)) (one_place a n) ≡ total (λ (γ : List ℕ). at_only γ β) (lowered a α)
         → total (λ (ε : List ℕ). cond (x && same (join ε β) α) (pos 1) (pos 0)) (one_place a n) ≡ total (λ (γ : List ℕ). cond (x && same β γ) (pos 1) (pos 0)) (lowered a α)
     row true h = h
     row false h = total_zero (one_place a n) ∙ sym (total_zero (lowered a α))
+
     second : total (λ (ε : List ℕ). at_only α (join ε β)) (one_place a n) ≡ total (λ (γ : List ℕ). at_only γ β) (lowered a α)
         → total (λ (ε : List ℕ). at_only (c ∷ α) (join ε (b ∷ β))) (map (λ (ε : List ℕ). 0 ∷ ε) (one_place a n)) ≡ total (λ (γ : List ℕ). at_only γ (b ∷ β)) (map (λ (γ : List ℕ). c ∷ γ) (lowered a α))
     second h =
@@ -109,15 +111,15 @@ total_lowered-sorted a χ [] = refl
 total_lowered-sorted a χ (c ∷ α) =
     total_append (λ (γ : List ℕ). χ (sorted_parts γ)) (cond (leb a c) (((c - a) ∷ α) ∷ []) []) (map (λ (γ : List ℕ). c ∷ γ) (lowered a α))
     ∙ ap₂ ◌+ℤ◌
-        (by (leb a c))
-        (total_map (λ (γ : List ℕ). χ (sorted_parts γ)) (λ (γ : List ℕ). c ∷ γ) (lowered a α)
-          ∙ total_lowered-sorted a (λ l. χ (insert_part c l)) α
-          ∙ total_ext
-              (λ (s : ℕ × List ℕ). cond (leb a s.0) (χ (insert_part c (insert_part (s.0 - a) (sorted_parts s.1)))) (pos 0))
-              (λ (s : ℕ × List ℕ). cond (leb a s.0) (χ (insert_part (s.0 - a) (insert_part c (sorted_parts s.1)))) (pos 0))
-              (λ s. ap (λ l. cond (leb a s.0) (χ l) (pos 0)) (insert_part_comm c (s.0 - a) (sorted_parts s.1)))
-              (spots α)
-          ∙ sym (total_map (λ (s : ℕ × List ℕ). cond (leb a s.0) (χ (insert_part (s.0 - a) (sorted_parts s.1))) (pos 0)) (λ (s : ℕ × List ℕ). (s.0, c ∷ s.1)) (spots α)))
+    (by (leb a c))
+    (total_map (λ (γ : List ℕ). χ (sorted_parts γ)) (λ (γ : List ℕ). c ∷ γ) (lowered a α)
+    ∙ total_lowered-sorted a (λ l. χ (insert_part c l)) α
+    ∙ total_ext
+    (λ (s : ℕ × List ℕ). cond (leb a s.0) (χ (insert_part c (insert_part (s.0 - a) (sorted_parts s.1)))) (pos 0))
+    (λ (s : ℕ × List ℕ). cond (leb a s.0) (χ (insert_part (s.0 - a) (insert_part c (sorted_parts s.1)))) (pos 0))
+    (λ s. ap (λ l. cond (leb a s.0) (χ l) (pos 0)) (insert_part_comm c (s.0 - a) (sorted_parts s.1)))
+    (spots α)
+    ∙ sym (total_map (λ (s : ℕ × List ℕ). cond (leb a s.0) (χ (insert_part (s.0 - a) (sorted_parts s.1))) (pos 0)) (λ (s : ℕ × List ℕ). (s.0, c ∷ s.1)) (spots α)))
   where
     by : (b : Bool) → total (λ (γ : List ℕ). χ (sorted_parts γ)) (cond b (((c - a) ∷ α) ∷ []) []) ≡ cond b (χ (insert_part (c - a) (sorted_parts α))) (pos 0)
     by true = +ℤ_idr (χ (insert_part (c - a) (sorted_parts α)))
@@ -128,13 +130,13 @@ total_spots-sorted : (ψ : ℕ → List ℕ → ℤ) (α : List ℕ) → total (
 total_spots-sorted ψ [] = refl
 total_spots-sorted ψ (c ∷ α) =
     ap (λ n. ψ c (insert_part c (sorted_parts α)) +ℤ n)
-      (total_map (λ (s : ℕ × List ℕ). ψ s.0 (insert_part s.0 (sorted_parts s.1))) (λ (s : ℕ × List ℕ). (s.0, c ∷ s.1)) (spots α)
-        ∙ total_ext
-            (λ (s : ℕ × List ℕ). ψ s.0 (insert_part s.0 (insert_part c (sorted_parts s.1))))
-            (λ (s : ℕ × List ℕ). ψ s.0 (insert_part c (insert_part s.0 (sorted_parts s.1))))
-            (λ s. ap (ψ s.0) (insert_part_comm s.0 c (sorted_parts s.1)))
-            (spots α)
-        ∙ total_spots-sorted (λ k l. ψ k (insert_part c l)) α)
+    (total_map (λ (s : ℕ × List ℕ). ψ s.0 (insert_part s.0 (sorted_parts s.1))) (λ (s : ℕ × List ℕ). (s.0, c ∷ s.1)) (spots α)
+    ∙ total_ext
+    (λ (s : ℕ × List ℕ). ψ s.0 (insert_part s.0 (insert_part c (sorted_parts s.1))))
+    (λ (s : ℕ × List ℕ). ψ s.0 (insert_part c (insert_part s.0 (sorted_parts s.1))))
+    (λ s. ap (ψ s.0) (insert_part_comm s.0 c (sorted_parts s.1)))
+    (spots α)
+    ∙ total_spots-sorted (λ k l. ψ k (insert_part c l)) α)
 
 -- ---- the places of α at which λ is left
 
@@ -148,20 +150,21 @@ lowered_here a k ρ parts h q p = by (leb a k) refl
     and_cond : (x y : Bool) → cond (x && y) (pos 1) (pos 0) ≡ cond x (cond y (pos 1) (pos 0)) (pos 0)
     and_cond true y = refl
     and_cond false y = refl
+
     by : (b : Bool) → leb a k ≡ b → cond b (cond (same (insert_part (k - a) ρ) parts) (pos 1) (pos 0)) (pos 0) ≡ cond b (cond (has (k - a) (0 ∷ parts)) (cond (same (insert_part k ρ) (raise a (k - a) parts)) (pos 1) (pos 0)) (pos 0)) (pos 0)
     by false e = refl
     by true e =
         let l = leb-true a k e in
         let back : a + (k - a) ≡ k = omega arith in
         ap (λ t. cond t (pos 1) (pos 0))
-          (tests_agree (same (insert_part (k - a) ρ) parts) (has (k - a) (0 ∷ parts) && same (insert_part k ρ) (raise a (k - a) parts))
-            (λ t.
-              let r = raised_from_lowered a (k - a) ρ parts h q (same_true (insert_part (k - a) ρ) parts t) in
-              and_from (has (k - a) (0 ∷ parts)) (same (insert_part k ρ) (raise a (k - a) parts)) r.0 (same_from (insert_part k ρ) (raise a (k - a) parts) (ap (λ n. insert_part n ρ) (sym back) ∙ r.1)))
-            (λ t.
-              let r = and_parts (has (k - a) (0 ∷ parts)) (same (insert_part k ρ) (raise a (k - a) parts)) t in
-              same_from (insert_part (k - a) ρ) parts
-                (lowered_from_raised a (k - a) ρ parts h p r.0 (ap (λ n. insert_part n ρ) back ∙ same_true (insert_part k ρ) (raise a (k - a) parts) r.1))))
+        (tests_agree (same (insert_part (k - a) ρ) parts) (has (k - a) (0 ∷ parts) && same (insert_part k ρ) (raise a (k - a) parts))
+        (λ t.
+        let r = raised_from_lowered a (k - a) ρ parts h q (same_true (insert_part (k - a) ρ) parts t) in
+        and_from (has (k - a) (0 ∷ parts)) (same (insert_part k ρ) (raise a (k - a) parts)) r.0 (same_from (insert_part k ρ) (raise a (k - a) parts) (ap (λ n. insert_part n ρ) (sym back) ∙ r.1)))
+        (λ t.
+        let r = and_parts (has (k - a) (0 ∷ parts)) (same (insert_part k ρ) (raise a (k - a) parts)) t in
+        same_from (insert_part (k - a) ρ) parts
+        (lowered_from_raised a (k - a) ρ parts h p r.0 (ap (λ n. insert_part n ρ) back ∙ same_true (insert_part k ρ) (raise a (k - a) parts) r.1))))
         ∙ and_cond (has (k - a) (0 ∷ parts)) (same (insert_part k ρ) (raise a (k - a) parts))
 
 -- the left side: the places from which a can be taken so that λ is left
@@ -169,10 +172,10 @@ total_lowered-is : (a : ℕ) (parts α : List ℕ) → 0 < a → IsPartition par
 total_lowered-is a parts α h p =
     total_lowered-sorted a (λ l. cond (same l parts) (pos 1) (pos 0)) α
     ∙ total_ext
-        (λ (s : ℕ × List ℕ). cond (leb a s.0) (cond (same (insert_part (s.0 - a) (sorted_parts s.1)) parts) (pos 1) (pos 0)) (pos 0))
-        (λ (s : ℕ × List ℕ). raised_here a parts s.0 (insert_part s.0 (sorted_parts s.1)))
-        (λ s. lowered_here a s.0 (sorted_parts s.1) parts h (IsPartition-sorted_parts s.1) p)
-        (spots α)
+    (λ (s : ℕ × List ℕ). cond (leb a s.0) (cond (same (insert_part (s.0 - a) (sorted_parts s.1)) parts) (pos 1) (pos 0)) (pos 0))
+    (λ (s : ℕ × List ℕ). raised_here a parts s.0 (insert_part s.0 (sorted_parts s.1)))
+    (λ s. lowered_here a s.0 (sorted_parts s.1) parts h (IsPartition-sorted_parts s.1) p)
+    (spots α)
     ∙ total_spots-sorted (raised_here a parts) α
 
 -- ---- the terms of the product
@@ -210,22 +213,22 @@ taken a b c x = by (cases_lt c a)
     by (inl h) = rw (ne_eqb c (a + b) (λ e. omega arith), lt-leb a c h) refl
     by (inr h) =
         let e : eqb c (a + b) ≡ eqb b (c - a) =
-            tests_agree (eqb c (a + b)) (eqb b (c - a))
-                (λ t. let u = eqb-true c (a + b) t in eq-eqb b (c - a) (omega arith))
-                (λ t. let u = eqb-true b (c - a) t in eq-eqb c (a + b) (omega arith)) in
+        tests_agree (eqb c (a + b)) (eqb b (c - a))
+        (λ t. let u = eqb-true c (a + b) t in eq-eqb b (c - a) (omega arith))
+        (λ t. let u = eqb-true b (c - a) t in eq-eqb c (a + b) (omega arith)) in
         rw (e, le-leb a c h) refl
 
 -- what one term gives at α, place by place
 term_at : (a b n : ℕ) (parts α : List ℕ) → 0 < a
     → pos (times_in (a + b) (raise a b parts)) *ℤ coefficient (monomial (raise a b parts) n) α
-      ≡ cond (eqb (length α) n) (total (λ (c : ℕ). cond (leb a c) (cond (eqb b (c - a)) (cond (same (sorted_parts α) (raise a b parts)) (pos 1) (pos 0)) (pos 0)) (pos 0)) α) (pos 0)
+    ≡ cond (eqb (length α) n) (total (λ (c : ℕ). cond (leb a c) (cond (eqb b (c - a)) (cond (same (sorted_parts α) (raise a b parts)) (pos 1) (pos 0)) (pos 0)) (pos 0)) α) (pos 0)
 term_at a b n parts α h =
     ap (λ x. pos (times_in (a + b) (raise a b parts)) *ℤ x) (coefficient-monomial (raise a b parts) n α)
     ∙ by (eqb (length α) n) (same (sorted_parts α) (raise a b parts)) refl
   where
     by : (x y : Bool) → same (sorted_parts α) (raise a b parts) ≡ y
         → pos (times_in (a + b) (raise a b parts)) *ℤ cond x (cond y (pos 1) (pos 0)) (pos 0)
-          ≡ cond x (total (λ (c : ℕ). cond (leb a c) (cond (eqb b (c - a)) (cond y (pos 1) (pos 0)) (pos 0)) (pos 0)) α) (pos 0)
+        ≡ cond x (total (λ (c : ℕ). cond (leb a c) (cond (eqb b (c - a)) (cond y (pos 1) (pos 0)) (pos 0)) (pos 0)) α) (pos 0)
     by false y e = *ℤ-zero (pos (times_in (a + b) (raise a b parts)))
     by true false e =
         *ℤ-zero (pos (times_in (a + b) (raise a b parts)))
@@ -252,19 +255,20 @@ coefficient-raised_terms a n parts α h =
     coefficient-combined (λ label. monomial label n) (raised_terms a parts) α
     ∙ total_map (λ (t : Term). t.1 *ℤ coefficient (monomial t.0 n) α) (λ (b : ℕ). (raise a b parts, pos (times_in (a + b) (raise a b parts)))) (distinct (0 ∷ parts))
     ∙ total_ext
-        (λ (b : ℕ). pos (times_in (a + b) (raise a b parts)) *ℤ coefficient (monomial (raise a b parts) n) α)
-        (λ (b : ℕ). cond (eqb (length α) n) (total (λ (c : ℕ). F c b) α) (pos 0))
-        (λ b. term_at a b n parts α h)
-        (distinct (0 ∷ parts))
+    (λ (b : ℕ). pos (times_in (a + b) (raise a b parts)) *ℤ coefficient (monomial (raise a b parts) n) α)
+    (λ (b : ℕ). cond (eqb (length α) n) (total (λ (c : ℕ). F c b) α) (pos 0))
+    (λ b. term_at a b n parts α h)
+    (distinct (0 ∷ parts))
     ∙ total_cond (eqb (length α) n) (λ (b : ℕ). total (λ (c : ℕ). F c b) α) (distinct (0 ∷ parts))
     ∙ ap (λ x. cond (eqb (length α) n) x (pos 0))
-        (sym (total_exchange F α (distinct (0 ∷ parts)))
-          ∙ total_ext (λ (c : ℕ). total (F c) (distinct (0 ∷ parts))) (λ (c : ℕ). raised_here a parts c (sorted_parts α))
-              (λ c. total_cond (leb a c) (λ (b : ℕ). cond (eqb b (c - a)) (X b) (pos 0)) (distinct (0 ∷ parts)) ∙ ap (λ x. cond (leb a c) x (pos 0)) (total_distinct-only X (c - a) (0 ∷ parts)))
-              α)
+    (sym (total_exchange F α (distinct (0 ∷ parts)))
+    ∙ total_ext (λ (c : ℕ). total (F c) (distinct (0 ∷ parts))) (λ (c : ℕ). raised_here a parts c (sorted_parts α))
+    (λ c. total_cond (leb a c) (λ (b : ℕ). cond (eqb b (c - a)) (X b) (pos 0)) (distinct (0 ∷ parts)) ∙ ap (λ x. cond (leb a c) x (pos 0)) (total_distinct-only X (c - a) (0 ∷ parts)))
+    α)
   where
     X : ℕ → ℤ
     X b = cond (same (sorted_parts α) (raise a b parts)) (pos 1) (pos 0)
+
     F : ℕ → ℕ → ℤ
     F c b = cond (leb a c) (cond (eqb b (c - a)) (X b) (pos 0)) (pos 0)
 
@@ -273,10 +277,10 @@ coefficient-power_sum_monomial : (a n : ℕ) (parts α : List ℕ) → 0 < a →
 coefficient-power_sum_monomial a n parts α h p =
     coefficient-power_sum_times a n (monomial parts n) α h (In-monomials (λ α. same (sorted_parts α) parts) n (size parts))
     ∙ total_among
-        (coefficient (monomial parts n))
-        (λ (γ : List ℕ). cond (eqb (length α) n) (cond (same (sorted_parts γ) parts) (pos 1) (pos 0)) (pos 0))
-        (lowered a α)
-        (λ γ m. coefficient-monomial parts n γ ∙ ap (λ k. cond (eqb k n) (cond (same (sorted_parts γ) parts) (pos 1) (pos 0)) (pos 0)) (length-lowered a α γ m))
+    (coefficient (monomial parts n))
+    (λ (γ : List ℕ). cond (eqb (length α) n) (cond (same (sorted_parts γ) parts) (pos 1) (pos 0)) (pos 0))
+    (lowered a α)
+    (λ γ m. coefficient-monomial parts n γ ∙ ap (λ k. cond (eqb k n) (cond (same (sorted_parts γ) parts) (pos 1) (pos 0)) (pos 0)) (length-lowered a α γ m))
     ∙ total_cond (eqb (length α) n) (λ (γ : List ℕ). cond (same (sorted_parts γ) parts) (pos 1) (pos 0)) (lowered a α)
     ∙ ap (λ x. cond (eqb (length α) n) x (pos 0)) (total_lowered-is a parts α h p)
 

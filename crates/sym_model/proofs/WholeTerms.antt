@@ -1,15 +1,13 @@
 -- Lists of terms with whole coefficients (specs/WholeTerms): what they stand for depends on the summed coefficient of
 -- each label alone.
-use Rattle.std.proofs.Common.{◌≡◌, ℕ, zero, suc, ◌+◌, ◌*◌, ◌≤◌, Bool, true, false, cond, List, [], ◌∷◌, ◌++◌, map, sym, ◌∙◌, ap, ap₂, subst, refl, inl, inr, arith, ℤ, pos, ◌+ℤ◌, ◌*ℤ◌}
-use Rattle.std.specs.Prelude.{nat_abs}
+use Rattle.std.proofs.Common.{◌≡◌, ℕ, cond, List, [], ◌∷◌, sym, ◌∙◌, ap, ap₂, refl, arith, ℤ, pos, ◌+ℤ◌, ◌*ℤ◌}
 use Rattle.std.proofs.lemmas.Int.{ints}
-use Rattle.sym_model.specs.Sum.{total, each, Among}
-use Rattle.sym_model.specs.Polynomial.{Term, Poly, same, coefficient, Same, pair, plus, times, scale}
-use Rattle.sym_model.specs.Expansion.{Terms, Fraction, Basis, basis_polynomial, denominators, cleared, value}
-use Rattle.sym_model.specs.WholeTerms.{WholeTerms, combined, as_fractions, AreWhole, numerators, weight}
-use Rattle.sym_model.proofs.Ring.{product-one, product_left_comm}
-use Rattle.sym_model.proofs.Sums.{total_append, total_ext, total_map, total_each, total_scale, total_exchange}
-use Rattle.sym_model.proofs.Polynomials.{at_only, coefficient_pair, pair_ext, pair_times, pair_factor, pair_each, pair_scale, pair_determined, same_from_pair}
+use Rattle.sym_model.specs.Polynomial.{Poly, same, coefficient, Same, pair, plus, scale}
+use Rattle.sym_model.specs.Expansion.{Terms, Basis, basis_polynomial, denominators, cleared, value}
+use Rattle.sym_model.specs.WholeTerms.{WholeTerms, combined, as_fractions, AreWhole, numerators}
+use Rattle.sym_model.proofs.Ring.{product-one}
+use Rattle.sym_model.proofs.Sums.{total_ext}
+use Rattle.sym_model.proofs.Polynomials.{at_only, coefficient_pair, pair_ext, pair_each, pair_scale, pair_determined, coefficient_plus}
 
 -- the pairing of a combination
 pub pair-combined : (polynomial : List ℕ → Poly) (terms : WholeTerms) (φ : List ℕ → ℤ) → pair (combined polynomial terms) φ ≡ pair terms (λ label. pair (polynomial label) φ)
@@ -55,6 +53,9 @@ pub as_fractions-numerators : (terms : Terms (List ℕ)) → AreWhole terms → 
 as_fractions-numerators [] w = refl
 as_fractions-numerators (t ∷ terms) w = ap₂ ◌∷◌ (ap (λ (d : ℕ). (t.0, (t.1.0, d))) (sym w.0)) (as_fractions-numerators terms w.1)
 
+pub denominators_of_whole : (terms : Terms (List ℕ)) → AreWhole terms → denominators terms ≡ 1
+denominators_of_whole terms w = ap denominators (sym (as_fractions-numerators terms w)) ∙ denominators-as_fractions (numerators terms)
+
 pub value_of_whole : (basis : Basis) (terms : Terms (List ℕ)) (n : ℕ) → AreWhole terms → value basis terms n ≡ combined (λ label. basis_polynomial basis label n) (numerators terms)
 value_of_whole basis terms n w = ap (λ l. value basis l n) (sym (as_fractions-numerators terms w)) ∙ value-as_fractions basis (numerators terms) n
 
@@ -62,3 +63,12 @@ value_of_whole basis terms n w = ap (λ l. value basis l n) (sym (as_fractions-n
 pub value_respects : (basis : Basis) (terms others : Terms (List ℕ)) (n : ℕ) → AreWhole terms → AreWhole others → Same (numerators terms) (numerators others) → Same (value basis terms n) (value basis others n)
 value_respects basis terms others n w v e =
     rw (value_of_whole basis terms n w, value_of_whole basis others n v) (combined_respects (λ label. basis_polynomial basis label n) (numerators terms) (numerators others) e)
+
+-- ---- a table to which terms are added
+
+-- with (label, c) added, what was still to come is one term less
+pub table_step : (table next rest whole : WholeTerms) (label : List ℕ) (c : ℤ)
+    → ((k : List ℕ) → coefficient next k ≡ coefficient table k +ℤ cond (same label k) c (pos 0))
+    → Same (plus table ((label, c) ∷ rest)) whole → Same (plus next rest) whole
+table_step table next rest whole label c e h k =
+    omega (arith, ints, coefficient_plus next rest k, coefficient_plus table ((label, c) ∷ rest) k, e k, h k)

@@ -21,4 +21,5 @@ pub mod HookRows
 pub mod WholeTerms
 pub mod PowerSumProduct
 pub mod PlainTerm
+pub mod PlainLists
 pub mod PartitionList

@@ -1,5 +1,5 @@
 -- What a term of the plain program stands for.
-use Rattle.std.specs.Prelude.{ℕ, ℤ, List}
+use Rattle.std.specs.Prelude.{ℕ, List}
 use Rattle.sym_model.specs.Expansion.{Fraction}
 use Rattle.sym_model.specs.declared.plain_blocks.PlainTerm.{PlainTerm}
 

@@ -1,6 +1,7 @@
 -- The command `expand m p[..]`: one power sum in the monomial basis, from its words to the printed text
 -- (this project's own).
 use Rattle.std.specs.Prelude.{◌≡◌, ℕ, ◌<◌, ◌≤◌, ◌⊎◌, List, [], ◌∷◌, ◌++◌, map, length, codes}
+use Rattle.std.specs.List.{join_with_byte}
 use Rattle.sym_model.specs.Partition.{Falls, size, without_last_zeros}
 use Rattle.sym_model.specs.Polynomial.{Poly}
 use Rattle.sym_model.specs.Bases.{power_sum}
@@ -27,11 +28,9 @@ abbrev pub AreNumberWords : List (List ℕ) → Type 0
 AreNumberWords [] = Unit {0}
 AreNumberWords (word ∷ words) = IsNumberWord word × AreNumberWords words
 
--- number words with commas between them
+-- number words with commas (the byte 44) between them
 abbrev pub comma_separated : List (List ℕ) → List ℕ
-comma_separated [] = []
-comma_separated (word ∷ []) = word
-comma_separated (word ∷ next ∷ words) = word ++ (codes "," ++ comma_separated (next ∷ words))
+comma_separated words = join_with_byte 44 words
 
 -- the word spells a power sum with these numbers: `p[`, number words with commas between them, `]`
 pub record SpellsPowerSum (word : List ℕ) (numbers : List ℕ) : Type 0 where

@@ -1,5 +1,5 @@
 -- The product of a power sum with monomial symmetric polynomials: which partitions it has and how often (after Macdonald, I.6).
-use Rattle.std.specs.Prelude.{◌≡◌, ℕ, ◌+◌, ◌==◌, cond, pos, List, [], ◌∷◌, map}
+use Rattle.std.specs.Prelude.{◌≡◌, ℕ, zero, suc, ◌+◌, ◌*◌, ◌==◌, cond, pos, List, [], ◌∷◌, map}
 use Rattle.sym_model.specs.Partition.{IsPartition, size, insert_part}
 use Rattle.sym_model.specs.Bases.{has}
 use Rattle.sym_model.specs.Schur.{times_in}
@@ -38,3 +38,8 @@ power_sum_terms (a ∷ parts) = times_power_sum a (power_sum_terms parts)
 pub record IsPartitionOf (d : ℕ) (parts : List ℕ) : Type 0 where
   pub partition : IsPartition parts
   pub of_size : size parts ≡ d
+
+-- 1·3·5·…: the product of the first k odd numbers
+abbrev pub odd_product : ℕ → ℕ
+odd_product zero = 1
+odd_product (suc k) = (2 * k + 1) * odd_product k

@@ -10,7 +10,7 @@ ghost use Rattle.sym_model.specs.Expansion.{value, power_sums};
 ghost use Rattle.sym_model.specs.PrintedOrder.{printed_order};
 ghost use Rattle.sym_model.specs.Canonical.{gcd, is_label, fits_128_bits};
 ghost use Rattle.sym_model.specs.PrintedBlock.{block, read, decimal_value};
-ghost use Rattle.sym_model.specs.PowerSumCommand.{SpellsCommand};
+ghost use Rattle.sym_model.specs.PowerSumCommand.{SpellsCommand, IsOutcome, syntax, range};
 
 /// The polynomials of the bases in few variables: what their definitions say, multiplied out by
 /// hand. With fewer variables than parts m and e are 0; every basis has 1 for the empty partition.
@@ -104,6 +104,15 @@ pub fn block_examples_law()
     ensures past_128_bits { read (codes "170141183460469231731687303715884105728  (1)\n") ≡ None }
     ensures nothing { read [] ≡ None }
     ensures leading_zeros_of_a_word { decimal_value (codes "0012") ≡ 12 }
+{}
+
+/// Words of the command for one power sum, and the outcomes of those that are refused: a word is
+/// missing, the degree is past 15, a number is greater than the one before it.
+pub fn outcome_examples_law()
     ensures command { SpellsCommand (codes "expand" ∷ codes "m" ∷ codes "p[02,1,0]" ∷ []) (codes "p[02,1,0]")
         (2 ∷ 1 ∷ 0 ∷ []) }
+    ensures no_numbers { SpellsCommand (codes "expand" ∷ codes "m" ∷ codes "p[]" ∷ []) (codes "p[]") [] }
+    ensures missing_word { IsOutcome (codes "expand" ∷ codes "m" ∷ []) (codes "! Syntax 0:0\n") syntax }
+    ensures past_the_degree { IsOutcome (codes "expand" ∷ codes "m" ∷ codes "p[16]" ∷ []) (codes "! Range 2:0\n") range }
+    ensures rising { IsOutcome (codes "expand" ∷ codes "m" ∷ codes "p[1,2]" ∷ []) (codes "! Shape 2:0\n") range }
 {}

@@ -7,9 +7,12 @@
 
 mod examples;
 mod leading;
-mod plain_blocks;
 mod partition_lists;
+mod plain_bases;
+mod plain_blocks;
+mod plain_lists;
 mod plain_order;
+mod power_sums;
 mod printing;
 mod reflection_laws;
 mod restriction;
@@ -17,12 +20,19 @@ mod ring_laws;
 mod strip_laws;
 mod sum_laws;
 mod tableau_examples;
+#[cfg(test)]
+mod tests;
 
+pub use examples::{
+    block_examples_law, order_examples_law, outcome_examples_law, worked_examples_law,
+};
 pub use leading::leading_cancel_law;
-pub use examples::{block_examples_law, order_examples_law, worked_examples_law};
-pub use plain_blocks::{PlainTerm, plain_block};
 pub use partition_lists::partitions_of_law;
+pub use plain_bases::{PlainBasis, plain_monomial, plain_part_polynomial, plain_product};
+pub use plain_blocks::{PlainTerm, plain_block};
+pub use plain_lists::{plain_exponent_lists, plain_join, plain_sorted_parts};
 pub use plain_order::{plain_falling_lexicographic, plain_printed_order, plain_size};
+pub use power_sums::power_sum_product_law;
 pub use printing::printed_block_law;
 pub use reflection_laws::reflection_law;
 pub use restriction::restriction_law;

@@ -3,23 +3,6 @@ use Rattle.std.specs.Prelude.{codes}
 use Rattle.std.specs.Fmt.{digits}
 use Rattle.sym_model.proofs.examples.block_examples_law.Goals as goal
 
-pub returns-clause-command : goal.returns-clause-command
-returns-clause-command c = record {
-  three = refl;
-  last = record {
-    words = codes "02" ∷ codes "1" ∷ codes "0" ∷ [];
-    each_number = (
-      record { nonempty = omega arith; digits = ((omega arith, omega arith), ((omega arith, omega arith), tt)) },
-      (
-        record { nonempty = omega arith; digits = ((omega arith, omega arith), tt) },
-        (record { nonempty = omega arith; digits = ((omega arith, omega arith), tt) }, tt),
-      ),
-    );
-    spelling = refl;
-    values = refl;
-  };
-}
-
 pub returns-clause-whole : goal.returns-clause-whole
 unfolding digits
 returns-clause-whole c = refl

@@ -1,4 +1,3 @@
-use Rattle.std.proofs.Common.{◌≡◌, sym, ◌∙◌, ap, ◌++◌, take}
 use Rattle.calc_base.proofs.Memory.{Store-appends}
 use Rattle.calc_base.proofs.mem_sink.MemSinkSink.put.Goals as goal
 

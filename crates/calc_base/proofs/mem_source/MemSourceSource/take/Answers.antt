@@ -1,4 +1,4 @@
-use Rattle.std.proofs.Common.{◌≡◌, ◌<◌, ◌≤◌, ◌+◌, ◌-◌, List, ℕ, sym, ◌∙◌, ap, ◌++◌, take, drop, length, refl, arith}
+use Rattle.std.proofs.Common.{◌≡◌, ◌+◌, ap, take, drop, refl, arith}
 use Rattle.std.proofs.lemmas.Grind.{common_steps}
 use Rattle.calc_base.specs.Supply.{Supply}
 use Rattle.calc_base.proofs.Memory.{Takes-front}

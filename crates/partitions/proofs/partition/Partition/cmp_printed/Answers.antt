@@ -3,7 +3,8 @@ use Rattle.std.specs.Ordering.{nat_cmp, ordering_then}
 use Rattle.std.specs.Cmp.Lexicographic.{slice_cmp}
 use Rattle.sym_model.specs.Partition.{size}
 use Rattle.sym_model.specs.PrintedOrder.{printed_order}
-use Rattle.partitions.proofs.Order.{printed_order-slice_cmp, printed_order-Equal}
+use Rattle.sym_model.proofs.Orders.{printed_order-equal}
+use Rattle.partitions.proofs.Order.{printed_order-slice_cmp}
 use Rattle.partitions.proofs.partition.Partition.cmp_printed.Goals as goal
 
 value : (c : goal.After-then) → c.then.result ≡ printed_order c.args.self.now c.args.other.now
@@ -26,5 +27,5 @@ returns-clause-value c = value c
 pub returns-clause-equal : goal.returns-clause-equal
 returns-clause-equal c =
     λ together.
-    printed_order-Equal _ _ c.size-2.ensures.limits.partition.positive c.size.ensures.limits.partition.positive
+    printed_order-equal _ _ c.size-2.ensures.limits.partition.positive c.size.ensures.limits.partition.positive
     (sym (value c) ∙ together)

@@ -1,0 +1,35 @@
+//! The calculator as a program. It runs the command that its words name, over standard input and standard output, and
+//! ends with the code of its status. Nothing goes to standard error.
+#![tactic(auto)]
+
+use calc_app::run;
+use calc_base::{Status, StdIn, StdOut};
+use std::alloc::Global;
+use std::env;
+use std::io;
+use std::io::ErrorKind;
+use std::process::ExitCode;
+use std::rt::Env;
+
+/// The code at the end where the system refuses the words for another reason than want of memory, as where one is no
+/// text in UTF-8.
+const WORDS_REFUSED: u8 = 8;
+
+fn main(rt: HostRuntime) -> ExitCode {
+    match words_of(&rt) {
+        Ok(words) => {
+            let mut source = StdIn::new(rt.stdin());
+            let mut sink = StdOut::new(rt.stdout());
+            ExitCode::from(run(rt.alloc(), &words, &mut source, &mut sink).code())
+        }
+        Err(error) if error.kind() == ErrorKind::OutOfMemory => {
+            ExitCode::from(Status::NoMemory.code())
+        }
+        Err(_) => ExitCode::from(WORDS_REFUSED),
+    }
+}
+
+/// The words after the program's name.
+fn words_of(rt: &(impl Env + Alloc<A = Global>)) -> io::Result<Vec<String>> {
+    Ok(env::args(rt)?.skip(1).collect(rt.alloc())?)
+}

@@ -1,0 +1,5 @@
+pub mod Reading
+pub mod Terms
+pub mod Refusal
+pub mod Outcome
+pub mod Top

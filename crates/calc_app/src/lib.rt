@@ -1,0 +1,14 @@
+//! The top call of the calculator: `run` reads the words of a command, computes the whole answer and
+//! puts its text, or the one line that says why there is none.
+#![tactic(auto)]
+
+mod power_sum;
+mod printer;
+mod reading;
+mod terms;
+mod top;
+
+pub use top::run;
+
+#[cfg(test)]
+mod tests;

@@ -1,0 +1,46 @@
+use Rattle.std.proofs.Common.{ℕ, ◌<◌, to_z-of_z, ◌∙◌, ◌-ℤ◌, FitsSigned, ap, sym, subst}
+use Rattle.std.specs.Int.{w128}
+use Rattle.coeff_rings.specs.declared.frac.Common.{Common}
+use Rattle.coeff_rings.specs.Proved.FractionAnswers.{difference_answers_fraction-from, difference-reached, difference-refused, CommonFits-from, common_positive}
+use Rattle.coeff_rings.proofs.frac.FracRing.sub.Goals as goal
+
+pub returns-in_err-common-clause-difference : goal.returns-in_err-common-clause-difference
+returns-in_err-common-clause-difference c =
+    c.from_residual.ensures
+    ∙ difference-refused c.args.self c.args.other (λ h. c.in_err-common.ensures.common (CommonFits-from c.args.self c.args.other _ h))
+
+pub returns-in_err-common-clause-answer : goal.returns-in_err-common-clause-answer
+returns-in_err-common-clause-answer c =
+    difference_answers_fraction-from c.args.self c.args.other c.from_residual.result c.in_err-common.ensures.held.0 c.in_err-common.ensures.held.1
+    (returns-in_err-common-clause-difference c)
+
+pub returns-in_err-total-clause-difference : goal.returns-in_err-total-clause-difference
+returns-in_err-total-clause-difference c =
+    let total = ap (λ (k : Common). k.left -ℤ k.right) c.in_ok-common.ensures.common.1 in
+    c.from_residual-in_err-total.ensures
+    ∙ difference-refused c.args.self c.args.other (λ h. c.in_err-total.ensures (subst (FitsSigned w128) (sym total) h.total_fits))
+
+pub returns-in_err-total-clause-answer : goal.returns-in_err-total-clause-answer
+returns-in_err-total-clause-answer c =
+    difference_answers_fraction-from c.args.self c.args.other c.from_residual-in_err-total.result c.in_ok-common.ensures.held.0 c.in_ok-common.ensures.held.1
+    (returns-in_err-total-clause-difference c)
+
+pub quotient-requires : goal.quotient-requires
+quotient-requires c =
+    let den = ap (λ (k : Common). k.den) c.in_ok-common.ensures.common.1 in
+    subst (λ (n : ℕ). 0 < n) (sym den)
+    (common_positive c.args.self c.args.other c.in_ok-common.ensures.held.0.lowest.positive c.in_ok-common.ensures.held.1.lowest.positive)
+
+pub returns-clause-difference : goal.returns-clause-difference
+returns-clause-difference c =
+    let is = c.in_ok-common.ensures.common.1 in
+    let fits : FitsSigned w128 c.in_ok-total.total = subst (FitsSigned w128) (sym c.in_ok-total.ensures.1) c.in_ok-total.ensures.0 in
+    difference-reached c.args.self c.args.other c.in_ok-common.common.left c.in_ok-common.common.right c.in_ok-total.total c.in_ok-common.common.den c.quotient.result
+    c.in_ok-common.ensures.held.0 c.in_ok-common.ensures.held.1 c.in_ok-common.ensures.common.0
+    (ap (λ (k : Common). k.left) is) (ap (λ (k : Common). k.right) is) (ap (λ (k : Common). k.den) is)
+    c.in_ok-total.ensures.0 c.in_ok-total.ensures.1 (rw (to_z-of_z fits) at c.quotient.ensures)
+
+pub returns-clause-answer : goal.returns-clause-answer
+returns-clause-answer c =
+    difference_answers_fraction-from c.args.self c.args.other c.quotient.result c.in_ok-common.ensures.held.0 c.in_ok-common.ensures.held.1
+    (returns-clause-difference c)

@@ -1,0 +1,151 @@
+-- Arithmetic of fractions. A fraction in lowest terms stands for n/d where its numerator times d is
+-- n times its denominator; two fractions that stand for equal quotients are the same.
+use Rattle.std.proofs.Common.{◌≡◌, ℕ, zero, suc, ◌+◌, ◌*◌, ◌/◌, ◌<◌, subst, sym, refl, ap, ◌∙◌, arith, ℤ, pos, negsuc, ◌+ℤ◌, ◌*ℤ◌, neg_ℤ, unsigned_abs, int_div}
+use Rattle.std.specs.Int.{IsGcd, ◌∣◌}
+use Rattle.std.proofs.lemmas.Nat.Gcd.{IsGcd-swap, dvd_antisymm}
+use Rattle.std.proofs.lemmas.Int.{ints, unsigned_abs-mul}
+use native.Mathlib.Nat.{div-mul_cancel, dvd-mul_left, mul-pos, eq_of_mul-eq-mul_right, add-mul, mul_comm}
+use borrow.Author.Differences.{up, down}
+use Rattle.sym_model.proofs.Ring.{ring, negation-product, product_assoc}
+use Rattle.coeff_rings.specs.Ratio.{Ratio, whole, InLowestTerms, greatest_common_divisor, lowest_terms, ratio_sum, ratio_product, ratio_negation}
+use Rattle.coeff_rings.specs.Proved.Divisors.{IsGcd-greatest, divisor_positive, coprime_without, coprime-one, divides_other_factor, quotient_positive}
+
+-- ---- whole numbers
+
+pub product_cancel : (x y : ℤ) (d : ℕ) → 0 < d → x *ℤ pos d ≡ y *ℤ pos d → x ≡ y
+product_cancel x y d some e =
+    let both : (up x + down y) * d ≡ (up y + down x) * d =
+    omega (arith, ints, ap up e, ap down e, add-mul (up x) (down y) d, add-mul (up y) (down x) d) in
+    let parts : up x + down y ≡ up y + down x = eq_of_mul-eq-mul_right d some (up x + down y) (up y + down x) both in
+    omega (arith, ints)
+
+unsigned_abs-negation : (z : ℤ) → unsigned_abs (neg_ℤ z) ≡ unsigned_abs z
+unsigned_abs-negation (pos zero) = refl
+unsigned_abs-negation (pos (suc n)) = refl
+unsigned_abs-negation (negsuc n) = refl
+
+pub unsigned_abs-quotient : (n : ℤ) (g : ℕ) → unsigned_abs (int_div n (pos g)) ≡ unsigned_abs n / g
+unsigned_abs-quotient (pos n) g = refl
+unsigned_abs-quotient (negsuc n) g = unsigned_abs-negation (pos (suc n / g))
+
+pub quotient_times : (n : ℤ) (g : ℕ) → g ∣ unsigned_abs n → int_div n (pos g) *ℤ pos g ≡ n
+quotient_times (pos n) g h = ap pos (div-mul_cancel g h)
+quotient_times (negsuc n) g h =
+    negation-product (pos (suc n / g)) (pos g) ∙ ap (λ (m : ℕ). neg_ℤ (pos m)) (div-mul_cancel g h)
+
+-- ---- fractions in lowest terms
+
+pub same_parts : (r s : Ratio) → r.num ≡ s.num → r.den ≡ s.den → r ≡ s
+same_parts r s e f =
+    let with_den : ℕ → Ratio = λ d. record { num = s.num; den = d } in
+    let with_num : ℤ → Ratio = λ n. record { num = n; den = r.den } in
+    ap with_num e ∙ ap with_den f
+
+den_divides : (r s : Ratio) → InLowestTerms r → r.num *ℤ pos s.den ≡ s.num *ℤ pos r.den → r.den ∣ s.den
+den_divides r s l e =
+    let sizes : unsigned_abs r.num * s.den ≡ unsigned_abs s.num * r.den =
+    sym (unsigned_abs-mul r.num (pos s.den)) ∙ ap unsigned_abs e ∙ unsigned_abs-mul s.num (pos r.den) in
+    divides_other_factor r.den (unsigned_abs r.num) s.den (IsGcd-swap (unsigned_abs r.num) r.den 1 l.coprime)
+    (subst (λ (n : ℕ). r.den ∣ n) (sym sizes) (dvd-mul_left r.den (unsigned_abs s.num)))
+
+pub same_fraction : (r s : Ratio) → InLowestTerms r → InLowestTerms s → r.num *ℤ pos s.den ≡ s.num *ℤ pos r.den → r ≡ s
+same_fraction r s l k e =
+    let dens : r.den ≡ s.den = dvd_antisymm (den_divides r s l e) (den_divides s r k (sym e)) in
+    same_parts r s (product_cancel r.num s.num s.den k.positive (e ∙ ap (λ (n : ℕ). s.num *ℤ pos n) dens)) dens
+
+-- ---- what a fraction stands for
+
+pub record Stands (r : Ratio) (n : ℤ) (d : ℕ) : Type 0 where
+  pub lowest : InLowestTerms r
+  pub positive : 0 < d
+  pub is : r.num *ℤ pos d ≡ n *ℤ pos r.den
+
+pub Stands-itself : (r : Ratio) → InLowestTerms r → Stands r r.num r.den
+Stands-itself r l = record { lowest = l; positive = l.positive; is = refl }
+
+pub InLowestTerms-whole : (z : ℤ) → InLowestTerms (whole z)
+InLowestTerms-whole z = record { positive = omega arith; coprime = coprime-one (unsigned_abs z) }
+
+pub Stands-whole : (z : ℤ) → Stands (whole z) z 1
+Stands-whole z = Stands-itself (whole z) (InLowestTerms-whole z)
+
+lowest_is : (n q : ℤ) (d e g : ℕ) → q *ℤ pos g ≡ n → e * g ≡ d → q *ℤ pos d ≡ n *ℤ pos e
+lowest_is n q d e g a b =
+    ap (λ (m : ℕ). q *ℤ pos m) (sym b ∙ mul_comm e g) ∙ sym (product_assoc q (pos g) (pos e)) ∙ ap (λ z. z *ℤ pos e) a
+
+pub Stands-lowest_terms : (n : ℤ) (d : ℕ) → 0 < d → Stands (lowest_terms n d) n d
+unfolding lowest_terms
+Stands-lowest_terms n d some =
+    let g = greatest_common_divisor (unsigned_abs n) d in
+    let is : IsGcd (unsigned_abs n) d g = IsGcd-greatest (unsigned_abs n) d some in
+    let positive : 0 < g = divisor_positive (unsigned_abs n) d g some is in
+    record {
+      lowest = record {
+        positive = quotient_positive d g some is.1;
+        coprime = subst (λ (m : ℕ). IsGcd m (d / g) 1) (sym (unsigned_abs-quotient n g)) (coprime_without (unsigned_abs n) d g positive is);
+      };
+      positive = some;
+      is = lowest_is n (int_div n (pos g)) d (d / g) g (quotient_times n g is.0) (div-mul_cancel g is.1);
+    }
+
+-- the two sides of equal quotients, times both denominators
+cross : (x s y r n m d e : ℤ) → x *ℤ d ≡ n *ℤ r → y *ℤ e ≡ m *ℤ s → n *ℤ e ≡ m *ℤ d → (x *ℤ s) *ℤ (d *ℤ e) ≡ (y *ℤ r) *ℤ (d *ℤ e)
+cross x s y r n m d e p q c =
+    let first : (x *ℤ s) *ℤ (d *ℤ e) ≡ (x *ℤ d) *ℤ (s *ℤ e) = simp ring in
+    let second : (n *ℤ r) *ℤ (s *ℤ e) ≡ (n *ℤ e) *ℤ (r *ℤ s) = simp ring in
+    let third : (m *ℤ d) *ℤ (r *ℤ s) ≡ (m *ℤ s) *ℤ (r *ℤ d) = simp ring in
+    let fourth : (y *ℤ e) *ℤ (r *ℤ d) ≡ (y *ℤ r) *ℤ (d *ℤ e) = simp ring in
+    first ∙ ap (λ z. z *ℤ (s *ℤ e)) p ∙ second ∙ ap (λ z. z *ℤ (r *ℤ s)) c ∙ third ∙ ap (λ z. z *ℤ (r *ℤ d)) (sym q) ∙ fourth
+
+pub Stands-same : (r s : Ratio) (n m : ℤ) (d e : ℕ) → Stands r n d → Stands s m e → n *ℤ pos e ≡ m *ℤ pos d → r ≡ s
+Stands-same r s n m d e p q c =
+    same_fraction r s p.lowest q.lowest
+    (product_cancel (r.num *ℤ pos s.den) (s.num *ℤ pos r.den) (d * e) (mul-pos p.positive q.positive)
+    (cross r.num (pos s.den) s.num (pos r.den) n m (pos d) (pos e) p.is q.is c))
+
+sum_cross : (t rn rd sn sd td n d m e : ℤ) → t *ℤ (rd *ℤ sd) ≡ (rn *ℤ sd +ℤ sn *ℤ rd) *ℤ td → rn *ℤ d ≡ n *ℤ rd → sn *ℤ e ≡ m *ℤ sd
+    → (t *ℤ (d *ℤ e)) *ℤ (rd *ℤ sd) ≡ ((n *ℤ e +ℤ m *ℤ d) *ℤ td) *ℤ (rd *ℤ sd)
+sum_cross t rn rd sn sd td n d m e a p q =
+    let first : (t *ℤ (d *ℤ e)) *ℤ (rd *ℤ sd) ≡ (t *ℤ (rd *ℤ sd)) *ℤ (d *ℤ e) = simp ring in
+    let second : ((rn *ℤ sd +ℤ sn *ℤ rd) *ℤ td) *ℤ (d *ℤ e) ≡ (rn *ℤ d) *ℤ (sd *ℤ (e *ℤ td)) +ℤ (sn *ℤ e) *ℤ (rd *ℤ (d *ℤ td)) = simp ring (omega (arith, ints)) in
+    let third : (n *ℤ rd) *ℤ (sd *ℤ (e *ℤ td)) +ℤ (m *ℤ sd) *ℤ (rd *ℤ (d *ℤ td)) ≡ ((n *ℤ e +ℤ m *ℤ d) *ℤ td) *ℤ (rd *ℤ sd) = simp ring (omega (arith, ints)) in
+    first ∙ ap (λ z. z *ℤ (d *ℤ e)) a ∙ second
+    ∙ ap (λ z. z *ℤ (sd *ℤ (e *ℤ td)) +ℤ (sn *ℤ e) *ℤ (rd *ℤ (d *ℤ td))) p
+    ∙ ap (λ z. (n *ℤ rd) *ℤ (sd *ℤ (e *ℤ td)) +ℤ z *ℤ (rd *ℤ (d *ℤ td))) q ∙ third
+
+pub Stands-sum : (r s : Ratio) (n m : ℤ) (d e : ℕ) → Stands r n d → Stands s m e → Stands (ratio_sum r s) (n *ℤ pos e +ℤ m *ℤ pos d) (d * e)
+Stands-sum r s n m d e p q =
+    let dens : 0 < r.den * s.den = mul-pos p.lowest.positive q.lowest.positive in
+    let t = Stands-lowest_terms (r.num *ℤ pos s.den +ℤ s.num *ℤ pos r.den) (r.den * s.den) dens in
+    record {
+      lowest = t.lowest;
+      positive = mul-pos p.positive q.positive;
+      is = product_cancel _ _ (r.den * s.den) dens
+          (sum_cross (ratio_sum r s).num r.num (pos r.den) s.num (pos s.den) (pos (ratio_sum r s).den) n (pos d) m (pos e) t.is p.is q.is);
+    }
+
+product_cross : (t rn rd sn sd td n d m e : ℤ) → t *ℤ (rd *ℤ sd) ≡ (rn *ℤ sn) *ℤ td → rn *ℤ d ≡ n *ℤ rd → sn *ℤ e ≡ m *ℤ sd
+    → (t *ℤ (d *ℤ e)) *ℤ (rd *ℤ sd) ≡ ((n *ℤ m) *ℤ td) *ℤ (rd *ℤ sd)
+product_cross t rn rd sn sd td n d m e a p q =
+    let first : (t *ℤ (d *ℤ e)) *ℤ (rd *ℤ sd) ≡ (t *ℤ (rd *ℤ sd)) *ℤ (d *ℤ e) = simp ring in
+    let second : ((rn *ℤ sn) *ℤ td) *ℤ (d *ℤ e) ≡ ((rn *ℤ d) *ℤ (sn *ℤ e)) *ℤ td = simp ring in
+    let third : ((n *ℤ rd) *ℤ (m *ℤ sd)) *ℤ td ≡ ((n *ℤ m) *ℤ td) *ℤ (rd *ℤ sd) = simp ring in
+    first ∙ ap (λ z. z *ℤ (d *ℤ e)) a ∙ second ∙ ap (λ z. (z *ℤ (sn *ℤ e)) *ℤ td) p ∙ ap (λ z. ((n *ℤ rd) *ℤ z) *ℤ td) q ∙ third
+
+pub Stands-product : (r s : Ratio) (n m : ℤ) (d e : ℕ) → Stands r n d → Stands s m e → Stands (ratio_product r s) (n *ℤ m) (d * e)
+Stands-product r s n m d e p q =
+    let dens : 0 < r.den * s.den = mul-pos p.lowest.positive q.lowest.positive in
+    let t = Stands-lowest_terms (r.num *ℤ s.num) (r.den * s.den) dens in
+    record {
+      lowest = t.lowest;
+      positive = mul-pos p.positive q.positive;
+      is = product_cancel _ _ (r.den * s.den) dens
+          (product_cross (ratio_product r s).num r.num (pos r.den) s.num (pos s.den) (pos (ratio_product r s).den) n (pos d) m (pos e) t.is p.is q.is);
+    }
+
+pub Stands-negation : (r : Ratio) (n : ℤ) (d : ℕ) → Stands r n d → Stands (ratio_negation r) (neg_ℤ n) d
+Stands-negation r n d p = record {
+  lowest = record { positive = p.lowest.positive; coprime = subst (λ (m : ℕ). IsGcd m r.den 1) (sym (unsigned_abs-negation r.num)) p.lowest.coprime };
+  positive = p.positive;
+  is = negation-product r.num (pos d) ∙ ap neg_ℤ p.is ∙ sym (negation-product n (pos r.den));
+}

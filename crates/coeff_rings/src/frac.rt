@@ -1,0 +1,317 @@
+//! Fractions of whole numbers of 128 bits, in lowest terms.
+ghost use Rattle.std.specs.Prelude.{refl, ◌≡◌, ℕ, ℤ, pos, neg_ℤ, ◌+◌, ◌*◌, ◌<◌, ◌^◌, ◌*ℤ◌, Bool, unsigned_abs, FitsSigned, SomeIff, IfSome};
+ghost use Rattle.std.specs.Int.{w128, IsGcd};
+ghost use Rattle.coeff_rings.specs.Ratio.{Ratio, whole, lowest_terms, greatest_common_divisor};
+ghost use Rattle.coeff_rings.specs.Signs.{signed, signs_differ};
+ghost use Rattle.coeff_rings.specs.Checked.{IsFraction, CommonFits, checked_i128, checked_fraction, checked_ratio_of, numerator_over_common, common_denominator, checked_ratio_sum, checked_ratio_difference, checked_ratio_product, checked_ratio_quotient, checked_ratio_negation};
+ghost use Rattle.coeff_rings.specs.Proved.FractionAnswers.{zero_is_fraction, one_is_fraction, sum_answers_fraction, sum_held_fraction, sum_laws_fraction, negation_answers_fraction, negation_held_fraction, difference_answers_fraction, difference_held_fraction, product_answers_fraction, product_held_fraction, ring_laws_fraction, quotient_held_fraction, field_laws_fraction};
+
+use crate::digits::Digits;
+use crate::scalar::{Field, Ring, Scalar};
+use num_traits::{CheckedAdd, CheckedMul, CheckedNeg, CheckedSub};
+use std::marker::Model;
+
+/// A fraction in lowest terms, with a numerator from -2^127 to 2^127 - 1 and a denominator from 1
+/// to 2^127 - 1. A contract sees the two numbers.
+#[derive(Clone, Copy, PartialEq, Eq, Debug)]
+pub struct Frac {
+    num: i128,
+    den: u128,
+}
+
+impl Model for Frac {
+    ghost use Rattle.coeff_rings.specs.Ratio.{Ratio};
+    ghost use Rattle.coeff_rings.specs.Checked.{IsFraction};
+
+    ghost Value = { Ratio };
+
+    ghost view = { λ f. record { num = f.num; den = f.den } };
+
+    ghost invariant = { λ f. IsFraction (record { num = f.num; den = f.den }) };
+
+    ghost inverse = { λ r. record { num = r.num; den = r.den } };
+}
+
+impl Frac {
+    /// The fraction `num/den`, or `None` exactly where `den` is 0 or the reduced fraction with a
+    /// positive denominator does not fit.
+    pub fn new(num: i128, den: i128) -> Option<Frac>
+        ensures value { result ≡ checked_ratio_of num den }
+        ensures held { IfSome result IsFraction }
+    {
+        if den == 0 {
+            return None;
+        }
+        reduced(
+            differ_in_sign(num, den),
+            num.unsigned_abs(),
+            den.unsigned_abs(),
+        )
+    }
+
+    /// The numerator.
+    pub fn num(&self) -> i128
+        ensures value { result ≡ self.now.num }
+        ensures held { IsFraction self.now }
+    {
+        self.num
+    }
+
+    /// The denominator, which is positive.
+    pub fn den(&self) -> i128
+        ensures value { result ≡ pos self.now.den }
+        ensures held { IsFraction self.now }
+    {
+        self.den as i128
+    }
+
+    // The sizes of the two numbers.
+    fn sizes(&self) -> Sizes
+        ensures value { result ≡ record { num = unsigned_abs self.now.num; den = self.now.den } }
+        ensures lowest { (0 < result.den) × IsGcd result.num result.den 1 }
+        ensures held { IsFraction self.now }
+    {
+        Sizes {
+            num: self.num.unsigned_abs(),
+            den: self.den,
+        }
+    }
+}
+
+impl Scalar for Frac {
+    ghost value = { λ r. r };
+
+    ghost zero = { whole (pos 0) };
+
+    ghost one = { whole (pos 1) };
+
+    ghost is_held = { IsFraction };
+
+    ghost checked_sum = { checked_ratio_sum };
+
+    fn zero() -> Frac {
+        Frac { num: 0, den: 1 }
+    }
+
+    fn one() -> Frac {
+        Frac { num: 1, den: 1 }
+    }
+
+    fn is_zero(&self) -> bool {
+        self.num == 0
+    }
+
+    fn add(self, other: Frac) -> Option<Frac> {
+        let common = over_common(self, other)?;
+        let total = CheckedAdd::checked_add(&common.left, &common.right)?;
+        quotient(total, common.den)
+    }
+
+    fn digits(&self, out: &mut Digits) {
+        out.clear();
+        out.put_signed(self.num);
+        if self.den != 1 {
+            out.put(b"/");
+            out.put_unsigned(self.den);
+        }
+    }
+
+    ghost zero_value = { (refl, zero_is_fraction) };
+
+    ghost one_value = { (refl, one_is_fraction) };
+
+    ghost same_value = { λ a b e. e };
+
+    ghost lowest = { λ a h. h.lowest };
+
+    ghost sum_answers = { sum_answers_fraction };
+
+    ghost sum_held = { sum_held_fraction };
+
+    ghost sum_laws = { sum_laws_fraction };
+}
+
+impl Ring for Frac {
+    ghost checked_negation = { checked_ratio_negation };
+
+    ghost checked_difference = { checked_ratio_difference };
+
+    ghost checked_product = { checked_ratio_product };
+
+    fn from_whole(v: i128) -> Frac {
+        Frac { num: v, den: 1 }
+    }
+
+    fn neg(self) -> Option<Frac> {
+        let num = CheckedNeg::checked_neg(&self.num)?;
+        Some(Frac { num, den: self.den })
+    }
+
+    fn sub(self, other: Frac) -> Option<Frac> {
+        let common = over_common(self, other)?;
+        let total = CheckedSub::checked_sub(&common.left, &common.right)?;
+        quotient(total, common.den)
+    }
+
+    fn mul(self, other: Frac) -> Option<Frac> {
+        product(
+            differ_in_sign(self.num, other.num),
+            self.sizes(),
+            other.sizes(),
+        )
+    }
+
+    ghost negation_answers = { negation_answers_fraction };
+
+    ghost negation_held = { negation_held_fraction };
+
+    ghost difference_answers = { difference_answers_fraction };
+
+    ghost difference_held = { difference_held_fraction };
+
+    ghost product_answers = { product_answers_fraction };
+
+    ghost product_held = { product_held_fraction };
+
+    ghost ring_laws = { ring_laws_fraction };
+}
+
+impl Field for Frac {
+    ghost checked_quotient = { checked_ratio_quotient };
+
+    fn div(self, other: Frac) -> Option<Frac> {
+        let divisor = other.sizes();
+        let reciprocal = Sizes {
+            num: divisor.den,
+            den: divisor.num,
+        };
+        product(
+            differ_in_sign(self.num, other.num),
+            self.sizes(),
+            reciprocal,
+        )
+    }
+
+    ghost quotient_held = { quotient_held_fraction };
+
+    ghost field_laws = { field_laws_fraction };
+}
+
+/// The sizes of a fraction's two numbers.
+#[derive(Clone, Copy)]
+struct Sizes {
+    num: u128,
+    den: u128,
+}
+
+/// The numerators of two fractions over their least common denominator, and that denominator.
+#[derive(Clone, Copy)]
+struct Common {
+    left: i128,
+    right: i128,
+    den: u128,
+}
+
+/// The greatest common divisor, by Euclid's algorithm.
+fn common_divisor(a: u128, b: u128) -> u128
+    requires { 0 < b }
+    ensures greatest { result ≡ greatest_common_divisor a b }
+    ensures divisor { IsGcd a b result }
+    ensures positive { 0 < result }
+{
+    let (mut x, mut y) = (a, b);
+    while y != 0 {
+        (x, y) = (y, x % y);
+    }
+    x
+}
+
+/// Whether one number is negative and the other is not.
+fn differ_in_sign(a: i128, b: i128) -> bool
+    ensures { result ≡ signs_differ a b }
+{
+    (a < 0) != (b < 0)
+}
+
+/// The number times a factor below 2^127, where it fits.
+fn scaled(number: i128, factor: u128) -> Option<i128>
+    requires { factor < 2 ^ 127 }
+    ensures { SomeIff result (FitsSigned w128 (number *ℤ pos factor)) (number *ℤ pos factor) }
+{
+    CheckedMul::checked_mul(&number, &(factor as i128))
+}
+
+/// Two fractions over their least common denominator, where the three numbers fit.
+fn over_common(a: Frac, b: Frac) -> Option<Common>
+    ensures held { IsFraction a × IsFraction b }
+    ensures common { SomeIff result (CommonFits a b)
+        (record { left = numerator_over_common a b; right = numerator_over_common b a; den = common_denominator a b }) }
+{
+    let divisor = common_divisor(a.den, b.den);
+    let left = scaled(a.num, b.den / divisor)?;
+    let right = scaled(b.num, a.den / divisor)?;
+    let den = CheckedMul::checked_mul(&a.den, &(b.den / divisor))?;
+    if den > i128::MAX as u128 {
+        return None;
+    }
+    Some(Common { left, right, den })
+}
+
+/// The whole number of a sign and a size, where it fits.
+fn with_sign(negative: bool, size: u128) -> Option<i128>
+    ensures { result ≡ checked_i128 (signed negative size) }
+{
+    if size <= i128::MAX as u128 {
+        let number = size as i128;
+        return Some(if negative { -number } else { number });
+    }
+    if negative && size == 1 << 127 {
+        return Some(i128::MIN);
+    }
+    None
+}
+
+/// The fraction of a sign and two sizes with no common divisor, where it fits.
+fn from_sizes(negative: bool, num: u128, den: u128) -> Option<Frac>
+    requires positive { 0 < den }
+    requires coprime { IsGcd num den 1 }
+    ensures { result ≡ checked_fraction (record { num = signed negative num; den = den }) }
+{
+    let num = with_sign(negative, num)?;
+    if den > i128::MAX as u128 {
+        return None;
+    }
+    Some(Frac { num, den })
+}
+
+/// The fraction of a sign and two sizes in lowest terms, where it fits.
+fn reduced(negative: bool, num: u128, den: u128) -> Option<Frac>
+    requires { 0 < den }
+    ensures { result ≡ checked_fraction (lowest_terms (signed negative num) den) }
+{
+    let divisor = common_divisor(num, den);
+    from_sizes(negative, num / divisor, den / divisor)
+}
+
+/// A whole number over a positive one in lowest terms, where it fits.
+fn quotient(num: i128, den: u128) -> Option<Frac>
+    requires { 0 < den }
+    ensures { result ≡ checked_fraction (lowest_terms num den) }
+{
+    reduced(num < 0, num.unsigned_abs(), den)
+}
+
+/// The product of two fractions of sizes, each in lowest terms, with a sign, where it fits. What
+/// can be cancelled is cancelled before the numbers are multiplied, so that no product is too large
+/// unless the answer is.
+fn product(negative: bool, left: Sizes, right: Sizes) -> Option<Frac>
+    requires left { (0 < left.den) × IsGcd left.num left.den 1 }
+    requires right { (0 < right.den) × IsGcd right.num right.den 1 }
+    ensures { result ≡ checked_fraction (lowest_terms (signed negative (left.num * right.num)) (left.den * right.den)) }
+{
+    let down = common_divisor(left.num, right.den);
+    let up = common_divisor(right.num, left.den);
+    let num = CheckedMul::checked_mul(&(left.num / down), &(right.num / up))?;
+    let den = CheckedMul::checked_mul(&(left.den / up), &(right.den / down))?;
+    from_sizes(negative, num, den)
+}

@@ -1,0 +1,127 @@
+//! Whole numbers of 128 bits.
+ghost use Rattle.std.specs.Prelude.{refl, ◌≡◌, ℤ, pos, ◌+ℤ◌, ◌-ℤ◌, ◌*ℤ◌, neg_ℤ, FitsSigned};
+ghost use Rattle.std.specs.Int.{w128};
+ghost use Rattle.coeff_rings.specs.Ratio.{whole};
+ghost use Rattle.coeff_rings.specs.Checked.{checked_i128};
+ghost use Rattle.coeff_rings.specs.Proved.Fractions.{InLowestTerms-whole};
+ghost use Rattle.coeff_rings.specs.Proved.Whole.{zero_fits_i128, one_fits_i128, same_whole, checked_i128-held, sum_answers_i128, sum_laws_i128, negation_answers_i128, difference_answers_i128, product_answers_i128, ring_laws_i128};
+
+use crate::digits::Digits;
+use crate::scalar::{Ring, Scalar};
+use num_traits::{CheckedAdd, CheckedMul, CheckedNeg, CheckedSub};
+use std::marker::Model;
+
+/// A whole number from -2^127 to 2^127 - 1. A contract sees the number.
+#[derive(Clone, Copy, PartialEq, Eq, Debug)]
+pub struct Int {
+    number: i128,
+}
+
+impl Model for Int {
+    ghost Value = { ℤ };
+
+    ghost view = { λ i. i.number };
+
+    ghost inverse = { λ z. record { number = z } };
+}
+
+impl Int {
+    /// The scalar of a number.
+    pub fn new(v: i128) -> Int
+        ensures { result ≡ v }
+    {
+        Int { number: v }
+    }
+
+    /// The number.
+    pub fn get(&self) -> i128
+        ensures { result ≡ self.now }
+    {
+        self.number
+    }
+}
+
+impl Scalar for Int {
+    ghost value = { whole };
+
+    ghost zero = { pos 0 };
+
+    ghost one = { pos 1 };
+
+    ghost is_held = { FitsSigned w128 };
+
+    ghost checked_sum = { λ a b. checked_i128 (a +ℤ b) };
+
+    fn zero() -> Int {
+        Int::new(0)
+    }
+
+    fn one() -> Int {
+        Int::new(1)
+    }
+
+    fn is_zero(&self) -> bool {
+        self.number == 0
+    }
+
+    fn add(self, other: Int) -> Option<Int> {
+        CheckedAdd::checked_add(&self.number, &other.number).map(Int::new)
+    }
+
+    fn digits(&self, out: &mut Digits) {
+        out.clear();
+        out.put_signed(self.number);
+    }
+
+    ghost zero_value = { (refl, zero_fits_i128) };
+
+    ghost one_value = { (refl, one_fits_i128) };
+
+    ghost same_value = { same_whole };
+
+    ghost lowest = { λ a _. InLowestTerms-whole a };
+
+    ghost sum_answers = { sum_answers_i128 };
+
+    ghost sum_held = { λ a b _ _. checked_i128-held (a +ℤ b) };
+
+    ghost sum_laws = { sum_laws_i128 };
+}
+
+impl Ring for Int {
+    ghost checked_negation = { λ a. checked_i128 (neg_ℤ a) };
+
+    ghost checked_difference = { λ a b. checked_i128 (a -ℤ b) };
+
+    ghost checked_product = { λ a b. checked_i128 (a *ℤ b) };
+
+    fn from_whole(v: i128) -> Int {
+        Int::new(v)
+    }
+
+    fn neg(self) -> Option<Int> {
+        CheckedNeg::checked_neg(&self.number).map(Int::new)
+    }
+
+    fn sub(self, other: Int) -> Option<Int> {
+        CheckedSub::checked_sub(&self.number, &other.number).map(Int::new)
+    }
+
+    fn mul(self, other: Int) -> Option<Int> {
+        CheckedMul::checked_mul(&self.number, &other.number).map(Int::new)
+    }
+
+    ghost negation_answers = { negation_answers_i128 };
+
+    ghost negation_held = { λ a _. checked_i128-held (neg_ℤ a) };
+
+    ghost difference_answers = { difference_answers_i128 };
+
+    ghost difference_held = { λ a b _ _. checked_i128-held (a -ℤ b) };
+
+    ghost product_answers = { product_answers_i128 };
+
+    ghost product_held = { λ a b _ _. checked_i128-held (a *ℤ b) };
+
+    ghost ring_laws = { ring_laws_i128 };
+}

@@ -1,0 +1,20 @@
+//! Exact coefficients: integers, counts and fractions of 128 bits whose every operation gives the
+//! exact value or `None`. Nothing here takes memory.
+#![tactic(auto)]
+
+mod count;
+mod digits;
+mod frac;
+mod int;
+mod laws;
+mod scalar;
+
+pub use count::Count;
+pub use digits::Digits;
+pub use frac::Frac;
+pub use int::Int;
+pub use laws::{field_law, fraction_examples, lowest_terms_law};
+pub use scalar::{Field, Ring, Scalar};
+
+#[cfg(test)]
+mod tests;

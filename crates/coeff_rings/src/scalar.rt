@@ -1,0 +1,152 @@
+//! What every coefficient can do. A scalar has a value, a fraction in lowest terms, and each of its
+//! operations gives the exact value or `None`. A contract says which by a function of the scalars
+//! (as `checked_sum`), so that code over any scalar can say where its ring refuses.
+//!
+//! The laws under a trait's functions serve code over any scalar. Where they ask `is_held`, what is
+//! true of every scalar that a program meets, each function gives that of what it takes and answers.
+ghost use Rattle.std.specs.Prelude.{◌≡◌, ◌≢◌, ◌↔◌, ℕ, ℤ, pos, List, Option, IsTrue, IfSome};
+ghost use Rattle.coeff_rings.specs.Ratio.{Ratio, whole, InLowestTerms};
+ghost use Rattle.coeff_rings.specs.Answers.{AnswersSum, AnswersDifference, AnswersProduct, AnswersNegation, AnswersQuotient};
+ghost use Rattle.coeff_rings.specs.Laws.{SumLaws, RingLaws, FieldLaws};
+ghost use Rattle.coeff_rings.specs.Text.{decimal_text};
+
+use crate::digits::Digits;
+
+/// Numbers that are added, tested for 0 and printed.
+pub trait Scalar: Copy {
+    // The fraction that a scalar stands for.
+    ghost value: { Self → Ratio };
+
+    // The scalars 0 and 1.
+    ghost zero: { Self };
+
+    ghost one: { Self };
+
+    // What is true of every scalar of the type.
+    ghost is_held: { Self → Type 0 };
+
+    // The answer of `add`.
+    ghost checked_sum: { Self → Self → Option Self };
+
+    /// The scalar 0.
+    fn zero() -> Self
+        ensures zero { result ≡ zero }
+        ensures value { value result ≡ whole (pos 0) }
+        ensures held { is_held result };
+
+    /// The scalar 1.
+    fn one() -> Self
+        ensures one { result ≡ one }
+        ensures value { value result ≡ whole (pos 1) }
+        ensures held { is_held result };
+
+    /// Whether the value is 0.
+    fn is_zero(&self) -> bool
+        ensures zero { IsTrue result ↔ (value self.now ≡ whole (pos 0)) }
+        ensures held { is_held self.now };
+
+    /// The sum, or `None` where the type refuses it. The sum with 0 is always there, and so is one
+    /// with room: under a common denominator below 2^127 at which the absolute values add up to
+    /// less than 2^127.
+    fn add(self, other: Self) -> Option<Self>
+        ensures sum { result ≡ checked_sum self other }
+        ensures answer { AnswersSum value self other result }
+        ensures held { is_held self × is_held other }
+        ensures held_sum { IfSome result is_held };
+
+    /// Puts the value's decimal text in the place of what the buffer held: `NUM/DEN` in lowest
+    /// terms, and a whole value without its denominator.
+    fn digits(&self, out: &mut Digits)
+        ensures text { out.new ≡ decimal_text (value self.now) }
+        ensures held { is_held self.now };
+
+    ghost zero_value: { (value zero ≡ whole (pos 0)) × is_held zero };
+
+    ghost one_value: { (value one ≡ whole (pos 1)) × is_held one };
+
+    ghost same_value: { (a b : Self) → value a ≡ value b → a ≡ b };
+
+    ghost lowest: { (a : Self) → is_held a → InLowestTerms (value a) };
+
+    ghost sum_answers: { (a b : Self) → is_held a → is_held b → AnswersSum value a b (checked_sum a b) };
+
+    ghost sum_held: { (a b : Self) → is_held a → is_held b → IfSome (checked_sum a b) is_held };
+
+    ghost sum_laws: { SumLaws is_held value };
+}
+
+/// Scalars that are also negated, subtracted and multiplied.
+pub trait Ring: Scalar {
+    // The answers of `neg`, `sub` and `mul`.
+    ghost checked_negation: { Self → Option Self };
+
+    ghost checked_difference: { Self → Self → Option Self };
+
+    ghost checked_product: { Self → Self → Option Self };
+
+    /// The scalar of a whole number.
+    fn from_whole(v: i128) -> Self
+        ensures value { Self.value result ≡ whole v }
+        ensures held { Self.is_held result };
+
+    /// The negation, or `None` where the type refuses it. It is there where the absolute value times
+    /// its denominator is below 2^127.
+    fn neg(self) -> Option<Self>
+        ensures negation { result ≡ checked_negation self }
+        ensures answer { AnswersNegation Self.value self result }
+        ensures held { Self.is_held self }
+        ensures held_negation { IfSome result Self.is_held };
+
+    /// The difference, or `None` where the type refuses it. It is there where a sum has room.
+    fn sub(self, other: Self) -> Option<Self>
+        ensures difference { result ≡ checked_difference self other }
+        ensures answer { AnswersDifference Self.value self other result }
+        ensures held { Self.is_held self × Self.is_held other }
+        ensures held_difference { IfSome result Self.is_held };
+
+    /// The product, or `None` where the type refuses it. It is there where it has room: with
+    /// multiples of the two denominators whose product is below 2^127, at which the product of the
+    /// absolute values is below 2^127.
+    fn mul(self, other: Self) -> Option<Self>
+        ensures product { result ≡ checked_product self other }
+        ensures answer { AnswersProduct Self.value self other result }
+        ensures held { Self.is_held self × Self.is_held other }
+        ensures held_product { IfSome result Self.is_held };
+
+    ghost negation_answers: { (a : Self) → Self.is_held a → AnswersNegation Self.value a (checked_negation a) };
+
+    ghost negation_held: { (a : Self) → Self.is_held a → IfSome (checked_negation a) Self.is_held };
+
+    ghost difference_answers: { (a b : Self) → Self.is_held a → Self.is_held b
+        → AnswersDifference Self.value a b (checked_difference a b) };
+
+    ghost difference_held: { (a b : Self) → Self.is_held a → Self.is_held b
+        → IfSome (checked_difference a b) Self.is_held };
+
+    ghost product_answers: { (a b : Self) → Self.is_held a → Self.is_held b
+        → AnswersProduct Self.value a b (checked_product a b) };
+
+    ghost product_held: { (a b : Self) → Self.is_held a → Self.is_held b
+        → IfSome (checked_product a b) Self.is_held };
+
+    ghost ring_laws: { RingLaws Self.is_held Self.value };
+}
+
+/// A ring with quotients by what is not 0.
+pub trait Field: Ring {
+    // The answer of `div`.
+    ghost checked_quotient: { Self → Self → Option Self };
+
+    /// The quotient, or `None` where the type refuses it.
+    fn div(self, other: Self) -> Option<Self>
+        requires { Self.value other ≢ whole (pos 0) }
+        ensures quotient { result ≡ checked_quotient self other }
+        ensures answer { AnswersQuotient Self.value self other result }
+        ensures held { Self.is_held self × Self.is_held other }
+        ensures held_quotient { IfSome result Self.is_held };
+
+    ghost quotient_held: { (a b : Self) → Self.is_held a → Self.is_held b → Self.value b ≢ whole (pos 0)
+        → IfSome (checked_quotient a b) Self.is_held };
+
+    ghost field_laws: { FieldLaws Self.is_held Self.value };
+}

@@ -1,0 +1,17 @@
+-- What a lister of partitions has before it, and what is current.
+use Rattle.std.specs.Prelude.{ℕ, List, [], ◌∷◌, Option, Some, None}
+use Rattle.partitions.specs.declared.listing.Stage.{Stage}
+use Rattle.partitions.specs.declared.listing.Stage.TheVariants.{New, Listing, Ended}
+use Rattle.partitions.specs.Listing.{partitions_after}
+
+-- the partitions still to come, where these parts are in the buffer
+abbrev pub rest_at : Stage → List ℕ → List (List ℕ)
+rest_at New parts = parts ∷ partitions_after parts
+rest_at Listing parts = partitions_after parts
+rest_at Ended parts = []
+
+-- the current one
+abbrev pub item_at : Stage → List ℕ → Option (List ℕ)
+item_at New parts = None
+item_at Listing parts = Some parts
+item_at Ended parts = None
