@@ -4,3 +4,5 @@ pub mod Cells
 pub mod Sorting
 pub mod Reflecting
 pub mod Removing
+pub mod Parity
+pub mod Searching

@@ -83,3 +83,33 @@ fn is_signed(answer: &Option<Signed>, numbers: &[u64], is_negative: bool) -> boo
         None => false,
     }
 }
+
+#[test]
+fn removes_rim_hooks(rt: HostRuntime) -> Result<(), Fail> {
+    let alloc = rt.alloc();
+    let core = plain_core(alloc, 3, 6, &[4, 1, 1])?;
+    assert!(rt; is_core(&core, &[], false, 1));
+    let core = plain_core(alloc, 3, 6, &[4, 2])?;
+    assert!(rt; is_core(&core, &[4, 2], false, 0));
+    let core = plain_core(alloc, 2, 4, &[3, 1])?;
+    assert!(rt; is_core(&core, &[], false, 1));
+    let core = plain_core(alloc, 2, 4, &[2, 2])?;
+    assert!(rt; is_core(&core, &[2, 2], false, 0));
+    let core = plain_core(alloc, 2, 4, &[4, 4])?;
+    assert!(rt; is_core(&core, &[], false, 2));
+    let core = plain_core(alloc, 2, 4, &[4])?;
+    assert!(rt; is_core(&core, &[], true, 1));
+    match plain_removal(alloc, 3, &[2, 1])? {
+        Some(removal) => {
+            assert_eq!(rt; removal.left.len(), 0);
+            assert_eq!(rt; removal.height, 2);
+        }
+        None => assert!(rt; false),
+    }
+    assert!(rt; plain_removal(alloc, 3, &[])?.is_none());
+    Ok(())
+}
+
+fn is_core(core: &Core, shape: &[u64], is_negative: bool, power: u64) -> bool {
+    core.shape.as_slice() == shape && core.is_negative == is_negative && core.power == power
+}
