@@ -5,11 +5,10 @@
 use calc_app::run;
 use calc_base::{Status, StdIn, StdOut};
 use std::alloc::Global;
-use std::env;
-use std::io;
 use std::io::ErrorKind;
 use std::process::ExitCode;
 use std::rt::Env;
+use std::{env, io};
 
 /// The code at the end where the system refuses the words for another reason than want of memory, as where one is no
 /// text in UTF-8.

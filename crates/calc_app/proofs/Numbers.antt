@@ -1,11 +1,11 @@
 -- Lists of numbers: their sum and their order by places, and number words between commas.
-use Rattle.std.proofs.Common.{◌≡◌, ℕ, suc, zero, ◌+◌, ◌-◌, ◌*◌, ◌<◌, ◌≤◌, Bool, true, false, cond, eqb, List, [], ◌∷◌, ◌++◌, length, get_or, take, map, refl, sym, ◌∙◌, ap, subst, arith, append-nil, ne_eqb, eq-eqb}
+use Rattle.std.proofs.Common.{◌≡◌, ℕ, suc, zero, ◌+◌, ◌<◌, ◌≤◌, false, eqb, List, [], ◌∷◌, ◌++◌, length, get_or, take, map, refl, sym, ◌∙◌, ap, subst, arith, append-nil, ne_eqb}
 use Rattle.std.proofs.lemmas.List.{take_more}
 use Rattle.std.proofs.lemmas.List.{map-append, length-map}
 use Rattle.std.proofs.Math.ListN.{get_or-map}
-use Rattle.std.specs.List.{slice_split, onto_first, join_with_byte}
+use Rattle.std.specs.List.{slice_split, onto_first}
 use Rattle.sym_model.specs.Partition.{Falls, size}
-use Rattle.sym_model.specs.PowerSumCommand.{IsDigit, AreDigits, IsNumberWord, AreNumberWords, comma_separated}
+use Rattle.sym_model.specs.PowerSumCommand.{AreDigits, IsNumberWord, AreNumberWords, comma_separated}
 use Rattle.calc_app.specs.Reading.{is_comma}
 
 pub size-push : (numbers : List ℕ) (n : ℕ) → size (numbers ++ n ∷ []) ≡ size numbers + n

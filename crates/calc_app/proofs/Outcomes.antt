@@ -1,5 +1,5 @@
 -- The outcome of a command: its words spell at most one list of numbers, so that at most one ending fits them.
-use Rattle.std.proofs.Common.{◌≡◌, ◌≢◌, ℕ, ◌<◌, ◌⊎◌, inl, inr, List, [], ◌∷◌, ◌++◌, length, map, Bool, true, Option, Some, refl, sym, ◌∙◌, ap, subst, arith, length-append}
+use Rattle.std.proofs.Common.{◌≡◌, ◌≢◌, ℕ, ◌<◌, inl, inr, List, [], ◌∷◌, ◌++◌, length, map, Bool, true, Option, Some, refl, sym, ◌∙◌, ap, subst, arith, length-append}
 use Rattle.std.specs.Prelude.{codes, Result, Ok, Err, Vec}
 use Rattle.std.specs.declared.alloc.Global.{Global}
 use Rattle.std.specs.Fmt.{digits}
@@ -12,11 +12,11 @@ use Rattle.calc_base.specs.declared.status.Status.TheVariants as status
 use Rattle.calc_base.specs.Sink.{Appends, AppendsPrefix}
 use Rattle.sym_model.specs.Partition.{Falls}
 use Rattle.sym_model.specs.PrintedBlock.{decimal_value}
-use Rattle.sym_model.specs.PowerSumCommand.{IsNumberWord, AreNumberWords, comma_separated, SpellsPowerSum, SpellsCommand, IsWithinLimits, IsPastLimits, IsMisshapen, IsAnswered, IsOutcome, Ending, done, some_refused, syntax, range, past}
+use Rattle.sym_model.specs.PowerSumCommand.{IsNumberWord, AreNumberWords, comma_separated, SpellsCommand, IsWithinLimits, IsPastLimits, IsMisshapen, IsOutcome, Ending, done, some_refused, syntax, range, past}
 use Rattle.sym_model.proofs.Blocks.{read-block}
 use Rattle.calc_app.specs.declared.terms.Term.{Term}
-use Rattle.calc_app.specs.Outcome.{Computes, ComesOf, text_of, status_for}
-use Rattle.calc_app.specs.Reading.{ReadsWords, is_comma, third_word}
+use Rattle.calc_app.specs.Outcome.{ComesOf, text_of, status_for}
+use Rattle.calc_app.specs.Reading.{is_comma, third_word}
 use Rattle.calc_app.specs.Refusal.{refusal_text}
 use Rattle.calc_app.specs.Top.{Leaves, PutsPrefix, PrintsPowerSum, status_of}
 use Rattle.calc_app.proofs.Numbers.{split-comma_separated}

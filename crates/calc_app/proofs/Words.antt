@@ -1,11 +1,11 @@
 -- The words of the command: what the pieces that were read say of them.
-use Rattle.std.proofs.Common.{◌≡◌, ℕ, suc, zero, ◌+◌, ◌≤◌, ◌<◌, min, List, [], ◌∷◌, ◌++◌, length, get_or, map, refl, sym, ◌∙◌, ap, subst, arith}
+use Rattle.std.proofs.Common.{◌≡◌, ℕ, ◌≤◌, ◌<◌, List, [], ◌∷◌, ◌++◌, length, get_or, map, refl, sym, ◌∙◌, ap, subst, arith}
 use Rattle.std.specs.Prelude.{codes}
 use Rattle.std.proofs.lemmas.List.{append_cancel_right, length-map}
 use Rattle.sym_model.specs.Partition.{Falls, size}
 use Rattle.sym_model.specs.PrintedBlock.{decimal_value}
-use Rattle.sym_model.specs.PowerSumCommand.{AreNumberWords, comma_separated, SpellsPowerSum, SpellsCommand, IsWithinLimits, IsPastLimits, IsMisshapen}
-use Rattle.std.specs.Prelude.{Result, Ok, Err}
+use Rattle.sym_model.specs.PowerSumCommand.{AreNumberWords, comma_separated, SpellsCommand, IsWithinLimits, IsPastLimits, IsMisshapen}
+use Rattle.std.specs.Prelude.{Err}
 use Rattle.calc_base.specs.declared.words.WordsFault.{WordsFault}
 use Rattle.calc_base.specs.declared.words.WordsFault.TheVariants.{Syntax, Literal, Range, Shape, NoMemory}
 use Rattle.calc_app.specs.Reading.{kept, ListsNumbers, ArePassed, Judges, ReadsCommand, ReadsWords}

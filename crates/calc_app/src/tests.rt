@@ -27,7 +27,10 @@ fn power_sums_are_printed_in_monomials(rt: HostRuntime) -> Result<(), Fail> {
         ("p[01,1,1,0]", "1  (3)\n3  (2,1)\n6  (1,1,1)\n"),
     ] {
         let mut sink = MemSink::new(rt.alloc(), 64, &[])?;
-        assert_eq!(rt; run_words(rt.alloc(), &["expand", "m", word], &mut sink)?, Status::Done);
+        assert_eq!(rt;
+            run_words(rt.alloc(), &["expand", "m", word], &mut sink)?,
+            Status::Done
+        );
         assert_eq!(rt; sink.bytes(), text.as_bytes());
     }
     Ok(())
@@ -45,7 +48,10 @@ fn words_are_refused_by_one_line(rt: HostRuntime) -> Result<(), Fail> {
         ("p[0,15]", "! Shape 2:0\n", Status::Range),
     ] {
         let mut sink = MemSink::new(rt.alloc(), 64, &[])?;
-        assert_eq!(rt; run_words(rt.alloc(), &["expand", "m", word], &mut sink)?, status);
+        assert_eq!(rt;
+            run_words(rt.alloc(), &["expand", "m", word], &mut sink)?,
+            status
+        );
         assert_eq!(rt; sink.bytes(), line.as_bytes());
     }
     Ok(())
@@ -62,7 +68,10 @@ fn after_a_fault_the_sink_is_not_called(rt: HostRuntime) -> Result<(), Fail> {
         ([5, 6, 7, 8, 9, 10, 11], "! Syntax 0:0\n"),
     ] {
         let mut sink = MemSink::new(rt.alloc(), 64, &fails)?;
-        assert_eq!(rt; run_words(rt.alloc(), &["--help"], &mut sink)?, Status::SinkFault);
+        assert_eq!(rt;
+            run_words(rt.alloc(), &["--help"], &mut sink)?,
+            Status::SinkFault
+        );
         assert_eq!(rt; sink.bytes(), text.as_bytes());
         assert_eq!(rt; sink.faults(), 1);
     }

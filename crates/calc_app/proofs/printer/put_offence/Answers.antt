@@ -1,4 +1,3 @@
-use Rattle.std.proofs.Common.{◌++◌}
 use Rattle.calc_base.proofs.GoesLaws.{Goes-then, Goes-as}
 use Rattle.calc_app.proofs.Blocks.{place_line}
 use Rattle.calc_app.proofs.printer.put_offence.Goals as goal

@@ -1,5 +1,5 @@
-use Rattle.std.proofs.Common.{◌≡◌, length, ap, ◌<◌, sym, arith, rules, tests}
-use Rattle.calc_base.proofs.GoesLaws.{Goes-then, Goes-as, Goes-item}
+use Rattle.std.proofs.Common.{◌≡◌, length, ap, ◌<◌, rules, tests}
+use Rattle.calc_base.proofs.GoesLaws.{Goes-as, Goes-item}
 use Rattle.calc_app.proofs.Blocks.{term_line, block-terms, block-nothing}
 use Rattle.calc_app.proofs.printer.put_terms.Goals as goal
 

@@ -1,4 +1,4 @@
-use Rattle.std.proofs.Common.{◌≡◌, ℕ, suc, ◌≤◌, ◌-◌, get_or, arith, ap}
+use Rattle.std.proofs.Common.{◌≡◌, suc, ◌-◌, get_or, arith, ap}
 use Rattle.calc_app.proofs.Numbers.{Falls-at, Falls-from}
 use Rattle.calc_app.proofs.reading.falls.Goals as goal
 

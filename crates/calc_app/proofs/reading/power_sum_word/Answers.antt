@@ -1,4 +1,4 @@
-use Rattle.std.proofs.Common.{◌≡◌, List, [], ◌∷◌, ℕ, ap, sym, ◌∙◌, rules}
+use Rattle.std.proofs.Common.{◌≡◌, ◌∙◌, rules}
 use Rattle.std.specs.Prelude.{string_bytes, codes}
 use Rattle.calc_app.proofs.Words.{three_items}
 use Rattle.calc_app.proofs.reading.power_sum_word.Goals as goal

@@ -1,4 +1,4 @@
-use Rattle.std.proofs.Common.{arith, ◌<◌, length, ◌∙◌}
+use Rattle.std.proofs.Common.{arith, ◌<◌, length}
 use Rattle.calc_app.proofs.Digits.{AreDigits-at, AreDigits-more, kept-more}
 use Rattle.calc_app.proofs.reading.read_number.Goals as goal
 

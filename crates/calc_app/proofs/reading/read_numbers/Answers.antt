@@ -1,8 +1,7 @@
-use Rattle.std.proofs.Common.{◌≡◌, ◌<◌, ◌≤◌, ◌+◌, ℕ, List, [], ◌∷◌, ◌++◌, map, length, get_or, refl, ap, subst, sym, ◌∙◌, arith, take, take_all, rules}
+use Rattle.std.proofs.Common.{◌<◌, map, length, refl, ap, sym, ◌∙◌, take, take_all, rules}
 use Rattle.std.proofs.lemmas.List.Splits.{join_with_byte-slice_split}
 use Rattle.std.specs.List.{join_with_byte}
 use Rattle.sym_model.specs.PrintedBlock.{decimal_value}
-use Rattle.sym_model.specs.PowerSumCommand.{AreNumberWords}
 use Rattle.calc_app.specs.Reading.{kept}
 use Rattle.calc_app.proofs.Numbers.{map-map, pushed-more, AreNumberWords-more, no_number_words}
 use Rattle.calc_app.proofs.reading.read_numbers.Goals as goal

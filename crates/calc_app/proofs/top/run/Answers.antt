@@ -1,4 +1,4 @@
-use Rattle.std.proofs.Common.{◌≡◌, ◌≢◌, rules, tests, ap, ◌∙◌, inl, refl}
+use Rattle.std.proofs.Common.{◌≢◌, rules, tests, ap, ◌∙◌, inl, refl}
 use Rattle.calc_base.specs.declared.status.Status.TheVariants as status
 use Rattle.calc_base.specs.Sink.{grown}
 use Rattle.calc_app.specs.Outcome.{text_of}
