@@ -5,7 +5,7 @@ use Rattle.std.proofs.Math.Seq.{drop-cons, take-append_seam}
 use Rattle.std.proofs.lemmas.List.{take-append-drop, take-take, length-set, take_more_set, length-drop, length-take, append_assoc, get_or-take}
 use Rattle.sym_model.specs.Partition.{ArePositive, size}
 use Rattle.sym_model.specs.PartitionList.{partitions_of}
-use Rattle.sym_model.proofs.PartitionLists.{length-ArePositive}
+use Rattle.sym_model.proofs.SortedParts.{rows_within_size}
 use Rattle.partitions.specs.Listing.{greatest_within, partitions_after, AreOnes, HoldsParts}
 use Rattle.partitions.proofs.Parts.{size-append}
 use Rattle.partitions.proofs.Listings.{greatest_within-step, size-AreOnes, partitions_after-part, partitions_after-append, ArePositive-append, size-greatest_within, ArePositive-greatest_within, partitions_within-first}
@@ -82,7 +82,7 @@ cuts buffer rows above h nonzero within ones other_part =
       h.sum,
     ) in
     let few : above - 1 ≤ size (take (above - 1) buffer) =
-    omega (arith, length-ArePositive (take (above - 1) buffer) front, length-take (above - 1) buffer, h.rows_in) in
+    omega (arith, rows_within_size (take (above - 1) buffer) front, length-take (above - 1) buffer, h.rows_in) in
     record {
       parts = parts;
       part = part;

@@ -11,6 +11,7 @@ use Rattle.sym_model.specs.PrintedOrder.{falling_lexicographic}
 use Rattle.sym_model.specs.PartitionList.{down_from, partitions_within, partitions_of, FallsLexicographically}
 use Rattle.sym_model.proofs.Sums.{Among-map, Among_from_map, Among-each, Among_from_each, Among_from_append}
 use Rattle.sym_model.proofs.Orders.{falling_lexicographic-total}
+use Rattle.sym_model.proofs.SortedParts.{rows_within_size}
 
 -- ---- the numbers from k down to 1
 
@@ -91,11 +92,6 @@ Among-partitions_within (suc rows) (suc d) most (a ∷ parts) w h =
     Among-each (λ b. map (λ rest. b ∷ rest) (partitions_within (suc d - b) b rows)) a (a ∷ parts) (down_from top) here
     (Among-map (λ rest. a ∷ rest) parts (partitions_within (suc d - a) a rows) tail)
 
--- there are no more parts than cells
-pub length-ArePositive : (parts : List ℕ) → ArePositive parts → length parts ≤ size parts
-length-ArePositive [] p = omega arith
-length-ArePositive (a ∷ parts) p = omega (arith, p.0, length-ArePositive parts p.1)
-
 columns_few : (parts : List ℕ) → columns parts ≤ size parts
 columns_few [] = omega arith
 columns_few (a ∷ parts) = omega arith
@@ -115,7 +111,7 @@ Among-partitions_of d parts p s =
       sum = s;
       first = omega (arith, columns_few parts);
     } in
-    Among-partitions_within d d d parts w (omega (arith, length-ArePositive parts p.positive))
+    Among-partitions_within d d d parts w (omega (arith, rows_within_size parts p.positive))
 
 -- ---- in order
 
