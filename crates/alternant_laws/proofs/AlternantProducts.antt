@@ -1,6 +1,6 @@
 -- An alternant times a symmetric polynomial: a_β·f is the sum over the terms of f, of exponents α, of a_(β + α).
-use Rattle.std.proofs.Common.{◌≡◌, ℕ, ◌+◌, List, [], ◌∷◌, length, sym, ◌∙◌, ap, refl, ℤ, pos, ◌*ℤ◌}
-use Rattle.sym_model.specs.Sum.{total, Among}
+use Rattle.std.proofs.Common.{◌≡◌, ℕ, List, length, sym, ◌∙◌, ap, ℤ, ◌*ℤ◌}
+use Rattle.sym_model.specs.Sum.{total}
 use Rattle.sym_model.specs.Polynomial.{Poly, Term, Same, In, join, scale, times, pair}
 use Rattle.sym_model.specs.PlaceOrders.{orders, places, sign}
 use Rattle.sym_model.specs.Symmetric.{Symmetric}

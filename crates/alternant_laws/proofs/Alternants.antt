@@ -1,10 +1,10 @@
 -- The laws of alternants: an exchange of two exponents changes the sign, and equal exponents give 0.
-use Rattle.std.proofs.Common.{◌≡◌, ℕ, zero, suc, ◌+◌, List, [], ◌∷◌, ◌++◌, length, sym, ◌∙◌, ap, refl, arith, ℤ, pos, neg_ℤ, ◌*ℤ◌}
+use Rattle.std.proofs.Common.{◌≡◌, ℕ, zero, suc, ◌+◌, List, [], ◌∷◌, ◌++◌, length, sym, ◌∙◌, ap, refl, arith, ℤ, pos, neg_ℤ}
 use Rattle.std.proofs.lemmas.Int.{ints}
 use Rattle.std.proofs.lemmas.List.{length-map}
 use Rattle.sym_model.specs.Sum.{Among}
 use Rattle.sym_model.specs.Partition.{part, after}
-use Rattle.sym_model.specs.Polynomial.{Poly, Term, Same, In, nothing, negate, pair}
+use Rattle.sym_model.specs.Polynomial.{Same, In, nothing, negate}
 use Rattle.sym_model.specs.PlaceOrders.{orders, places, sign}
 use Rattle.sym_model.specs.Alternant.{rearranged, alternant}
 use Rattle.sym_model.proofs.Polynomials.{same_from_pair, pair_negate, In_map}

@@ -2,7 +2,7 @@
 --     inserting x φ l         the sum over the places of l of ± φ of l with x put there, the sign falling with each step
 --     alternating β φ         the sum over the orders of β of sign times φ, by inserting the entries one at a time
 --     alternating_exchange    exchanging two entries of β changes the sign
-use Rattle.std.proofs.Common.{◌≡◌, ℕ, zero, suc, ◌+◌, ◌<◌, List, [], ◌∷◌, ◌++◌, map, length, sym, ◌∙◌, ap, ap₂, refl, arith, ℤ, pos, ◌+ℤ◌, ◌-ℤ◌, ◌*ℤ◌, neg_ℤ}
+use Rattle.std.proofs.Common.{◌≡◌, ℕ, List, [], ◌∷◌, ◌++◌, map, ◌∙◌, ap, ap₂, refl, arith, ℤ, ◌-ℤ◌, neg_ℤ}
 use Rattle.std.proofs.lemmas.Int.{ints}
 
 abbrev pub inserting : ℕ → (List ℕ → ℤ) → List ℕ → ℤ

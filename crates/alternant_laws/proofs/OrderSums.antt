@@ -2,18 +2,18 @@
 --     orders_reach        what neighbouring exchanges keep true of a list holds of each of its orders
 --     orders_sum          the signed sum over the orders of a rising list is its alternating sum
 --     pair_alternant      pairing an alternant with a test function, as a sum over orders and as an alternating sum
-use Rattle.std.proofs.Common.{◌≡◌, ℕ, zero, suc, ◌+◌, ◌-◌, ◌<◌, ◌≤◌, Bool, true, false, cond, nat_lt, List, [], ◌∷◌, ◌++◌, map, length, get_or, sym, ◌∙◌, ap, ap₂, subst, refl, inl, inr, arith, ℤ, pos, ◌+ℤ◌, ◌-ℤ◌, ◌*ℤ◌, neg_ℤ, append_assoc}
+use Rattle.std.proofs.Common.{◌≡◌, ℕ, zero, suc, ◌+◌, ◌-◌, ◌<◌, ◌≤◌, cond, nat_lt, List, [], ◌∷◌, ◌++◌, map, length, get_or, sym, ◌∙◌, ap, ap₂, subst, refl, inl, inr, arith, ℤ, ◌+ℤ◌, ◌*ℤ◌, neg_ℤ, append_assoc}
 use Rattle.std.proofs.lemmas.Int.{ints}
 use Rattle.std.proofs.lemmas.Bool.Decides.{nat_tests}
-use Rattle.sym_model.specs.Sum.{total, each, Among}
-use Rattle.sym_model.specs.Polynomial.{Poly, Term, pair, join}
+use Rattle.sym_model.specs.Sum.{total, Among}
+use Rattle.sym_model.specs.Polynomial.{Term, pair, join}
 use Rattle.sym_model.specs.Partition.{part, after}
 use Rattle.sym_model.specs.PlaceOrders.{insertions, orders, places, smaller, inversions, minus_one_to, sign}
 use Rattle.sym_model.specs.Alternant.{rearranged, alternant}
 use Rattle.sym_model.proofs.Signs.{minus_one_to_add}
-use Rattle.sym_model.proofs.Ring.{product_assoc, one-product, product-one, negation-product, distributes_left, product-negation}
-use Rattle.sym_model.proofs.Sums.{total_ext, total_among, total_map, total_each, total_scale, total_neg, Among_from_map, Among_from_each}
-use Rattle.alternant_laws.proofs.Alternating.{inserting, alternating, inserting_ext, alternating_ext, alternating_map}
+use Rattle.sym_model.proofs.Ring.{product_assoc, negation-product, distributes_left, product-negation}
+use Rattle.sym_model.proofs.Sums.{total_among, total_map, total_each, total_scale, total_neg, Among_from_map, Among_from_each}
+use Rattle.alternant_laws.proofs.Alternating.{inserting, alternating, alternating_map}
 
 -- ---- neighbouring exchanges
 

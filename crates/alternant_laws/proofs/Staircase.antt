@@ -1,7 +1,7 @@
 -- a_ρ leads with the coefficient 1: each order of ρ but ρ itself is below ρ. So a_ρ cancels.
-use Rattle.std.proofs.Common.{◌≡◌, ℕ, zero, suc, ◌+◌, ◌<◌, ◌⊎◌, Bool, true, false, cond, List, [], ◌∷◌, length, sym, ◌∙◌, ap, ap₂, subst, refl, inl, inr, arith, ℤ, pos, ◌-ℤ◌, neg_ℤ}
+use Rattle.std.proofs.Common.{◌≡◌, ℕ, zero, suc, ◌<◌, cond, List, [], ◌∷◌, length, ◌∙◌, ap, ap₂, subst, refl, inl, inr, arith, ℤ, pos, ◌-ℤ◌}
 use Rattle.std.proofs.lemmas.Int.{ints}
-use Rattle.sym_model.specs.Polynomial.{Poly, Same, In, same, coefficient, times, pair}
+use Rattle.sym_model.specs.Polynomial.{Poly, Same, In, coefficient, times}
 use Rattle.sym_model.specs.Leading.{Above, Leads}
 use Rattle.sym_model.specs.Alternant.{alternant, staircase}
 use Rattle.sym_model.proofs.Exponents.{same_refl, same_apart}

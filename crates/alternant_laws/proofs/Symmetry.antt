@@ -1,7 +1,7 @@
 -- Symmetric polynomials through their pairings: an order of the places changes no pairing.
-use Rattle.std.proofs.Common.{◌≡◌, ℕ, zero, suc, ◌+◌, Bool, true, false, ◌&&◌, ◌==◌, cond, List, [], ◌∷◌, ◌++◌, append_assoc, map, length, sym, ◌∙◌, ap, ap₂, refl, arith, ℤ, pos, ◌*ℤ◌}
-use Rattle.sym_model.specs.Sum.{total, Among}
-use Rattle.sym_model.specs.Polynomial.{Poly, Term, Same, In, same, coefficient, pair}
+use Rattle.std.proofs.Common.{◌≡◌, ℕ, zero, suc, Bool, true, false, ◌&&◌, ◌==◌, cond, List, [], ◌∷◌, ◌++◌, append_assoc, map, length, sym, ◌∙◌, ap, refl, ℤ, pos, ◌*ℤ◌}
+use Rattle.sym_model.specs.Sum.{Among}
+use Rattle.sym_model.specs.Polynomial.{Poly, Term, In, same, coefficient, pair}
 use Rattle.sym_model.specs.Partition.{part}
 use Rattle.sym_model.specs.PlaceOrders.{orders, places}
 use Rattle.sym_model.specs.Symmetric.{Symmetric}

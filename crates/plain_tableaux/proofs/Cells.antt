@@ -1,8 +1,8 @@
 -- How many cells the first rows of a skew shape have.
-use Rattle.std.proofs.Common.{◌≡◌, ℕ, zero, suc, ◌+◌, ◌-◌, ◌<◌, ◌≤◌, List, [], ◌∷◌, ◌++◌, map, length, get_or, sym, ◌∙◌, ap, refl, arith}
+use Rattle.std.proofs.Common.{◌≡◌, ℕ, zero, suc, ◌+◌, ◌-◌, ◌≤◌, List, map, length, get_or, ◌∙◌, ap, refl, arith}
 use Rattle.std.proofs.lemmas.List.{length-map, length-append}
 use Rattle.sym_model.specs.Sum.{each}
-use Rattle.sym_model.specs.Partition.{part, after, rows, cells}
+use Rattle.sym_model.specs.Partition.{part, after, cells}
 use Rattle.plain_tableaux.proofs.WordLists.{each_after-more}
 
 abbrev row_cells : List ℕ → List ℕ → ℕ → List (ℕ × ℕ)
@@ -22,9 +22,9 @@ cells_to-more outer inner k =
     let row = row_cells outer inner (k + 1) in
     let e : k + 1 - 1 ≡ k = omega arith in
     let a : length row ≡ get_or outer k 0 - get_or inner k 0 =
-      length-map (after (part inner (k + 1)) (part outer (k + 1) - part inner (k + 1))) (λ (column : ℕ). (k + 1, column))
-        ∙ length_after (part inner (k + 1)) (part outer (k + 1) - part inner (k + 1))
-        ∙ ap (λ i. get_or outer i 0 - get_or inner i 0) e in
+    length-map (after (part inner (k + 1)) (part outer (k + 1) - part inner (k + 1))) (λ (column : ℕ). (k + 1, column))
+    ∙ length_after (part inner (k + 1)) (part outer (k + 1) - part inner (k + 1))
+    ∙ ap (λ i. get_or outer i 0 - get_or inner i 0) e in
     ap length (each_after-more (row_cells outer inner) k) ∙ length-append (cells_to outer inner k) row ∙ ap (λ n. length (cells_to outer inner k) + n) a
 
 cells_to_rise : (outer inner : List ℕ) (d k : ℕ) → length (cells_to outer inner k) ≤ length (cells_to outer inner (k + d))

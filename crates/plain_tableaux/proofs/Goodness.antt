@@ -30,8 +30,8 @@ every_more test k =
 pub every_on : (test : ℕ → Bool) (k : ℕ) → every test (0 ∷ after 0 k) ≡ true → test (k + 1) ≡ true → every test (0 ∷ after 0 (k + 1)) ≡ true
 every_on test k h e =
     ap (λ p. test 0 && p) (every_more test k)
-      ∙ sym (and_assoc (test 0) (every test (after 0 k)) (test (k + 1)))
-      ∙ ap₂ ◌&&◌ h e
+    ∙ sym (and_assoc (test 0) (every test (after 0 k)) (test (k + 1)))
+    ∙ ap₂ ◌&&◌ h e
 
 -- the test fails at one of the numbers
 every_fails_in : (test : ℕ → Bool) (j k : ℕ) → j < k → test (j + 1) ≡ false → every test (after 0 k) ≡ false

@@ -1,5 +1,5 @@
 -- The sign of a power of -1 by the parity of the exponent.
-use Rattle.std.proofs.Common.{◌≡◌, ℕ, zero, suc, ◌+◌, ◌%◌, ◌==◌, Bool, true, false, ◌⊎◌, inl, inr, sym, ◌∙◌, ap, arith, ℤ, pos, negsuc, neg_ℤ, refl}
+use Rattle.std.proofs.Common.{◌≡◌, ℕ, zero, suc, ◌%◌, ◌==◌, true, false, ◌⊎◌, inl, inr, sym, ◌∙◌, ap, arith, pos, negsuc, neg_ℤ, refl}
 use Rattle.std.proofs.lemmas.Bool.Decides.{nat_tests}
 use Rattle.sym_model.specs.PlaceOrders.{minus_one_to}
 use Rattle.plain_tableaux.specs.Signed.{sign_of}
@@ -11,6 +11,6 @@ parity (suc m) = elim (parity m) [ inl h ↦ (let e = h.0 in inr (omega arith, a
 
 pub sign_of_parity : (m : ℕ) → sign_of (m % 2 == 1) ≡ minus_one_to m
 sign_of_parity m = elim (parity m) [
-    inl h ↦ (let e = h.0 in let t : (m % 2 == 1) ≡ false = grind (arith, nat_tests) in ap sign_of t ∙ sym h.1)
-    | inr h ↦ (let e = h.0 in let t : (m % 2 == 1) ≡ true = grind (arith, nat_tests) in ap sign_of t ∙ sym h.1)
-  ]
+  | inl h ↦ (let e = h.0 in let t : (m % 2 == 1) ≡ false = grind (arith, nat_tests) in ap sign_of t ∙ sym h.1)
+  | inr h ↦ (let e = h.0 in let t : (m % 2 == 1) ≡ true = grind (arith, nat_tests) in ap sign_of t ∙ sym h.1)
+]

@@ -1,5 +1,5 @@
 -- One reflection of a list, with what follows it.
-use Rattle.std.proofs.Common.{◌≡◌, ℕ, ◌<◌, ◌≤◌, Bool, true, false, List, sym, ◌∙◌, ap, ap₂, subst, arith, ℤ, Option, Some, None}
+use Rattle.std.proofs.Common.{◌≡◌, ℕ, ◌<◌, ◌≤◌, false, List, sym, ◌∙◌, ap, ap₂, arith, ℤ, Option}
 use Rattle.sym_model.specs.BetaList.{has_equal_entries, sorted_falling, sorting_sign}
 use Rattle.sym_model.specs.AlcoveReduction.{spread, squares, reflected, with_sign, reflected_into_alcove}
 use Rattle.sym_model.proofs.Reflections.{reflect_again, squares_fall, squares_sorted}
@@ -25,4 +25,4 @@ pub again : (n : ℕ) (list next falling : List ℕ) (sign : ℤ) (answer : Opti
     → answer ≡ reflected_into_alcove n falling → with_sign sign answer ≡ reflected_into_alcove n list
 again n list next falling sign answer h e =
     ap₂ with_sign (h.turn ∙ ap sorting_sign h.reflection) (e ∙ ap (reflected_into_alcove n) (h.order ∙ ap sorted_falling h.reflection))
-      ∙ sym (reflect_again n list h.positive h.far (ap has_equal_entries (sym h.reflection) ∙ h.apart))
+    ∙ sym (reflect_again n list h.positive h.far (ap has_equal_entries (sym h.reflection) ∙ h.apart))

@@ -1,15 +1,15 @@
 -- One removal of a rim hook, by its rows first, .., last, counted from 0.
 --     removal_found      the rows of `left_part` are what a removal leaves
 --     none_in_rows       where the tests fail, no removal has these rows
-use Rattle.std.proofs.Common.{◌≡◌, ℕ, zero, suc, ◌+◌, ◌-◌, ◌<◌, ◌≤◌, ◌⊎◌, ◌==◌, nat_lt, cond, List, [], ◌∷◌, length, get_or, sym, ◌∙◌, ap, subst, refl, inl, inr, arith}
+use Rattle.std.proofs.Common.{◌≡◌, ℕ, zero, suc, ◌+◌, ◌-◌, ◌<◌, ◌≤◌, ◌⊎◌, List, [], ◌∷◌, length, get_or, sym, ◌∙◌, ap, subst, refl, inl, inr, arith}
 use Rattle.std.proofs.lemmas.Bool.{cases_lt, cases_eq}
 use Rattle.std.proofs.lemmas.Bool.Decides.{nat_tests}
 use Rattle.sym_model.specs.Partition.{Falls, ArePositive, IsPartition, size, part, in_front, without_last_zeros}
 use Rattle.sym_model.specs.Strip.{height}
 use Rattle.sym_model.specs.HookRows.{IsHookRows}
 use Rattle.sym_model.specs.RimHookReduction.{IsRemoval}
-use Rattle.sym_model.proofs.Strips.{falls_part, falls_far}
-use Rattle.sym_model.proofs.RimHooks.{hook_from_rows, height_of_rows, past_end}
+use Rattle.sym_model.proofs.Strips.{falls_part}
+use Rattle.sym_model.proofs.RimHooks.{hook_from_rows, height_of_rows}
 use Rattle.sym_model.proofs.HookSizes.{hook_size}
 use Rattle.sym_model.proofs.SortedParts.{IsPartition-without_last_zeros}
 use Rattle.plain_tableaux.specs.Removed.{left_part, HasNoneInRows}
@@ -133,10 +133,10 @@ row_left shape numbers first last rest i v = part_of (without_last_zeros numbers
 partition_left : (n : ℕ) (shape numbers : List ℕ) (first last rest : ℕ) → Fits n shape first last rest → AreLeft numbers shape first last rest → IsPartition (without_last_zeros numbers)
 partition_left n shape numbers first last rest h v =
     IsPartition-without_last_zeros numbers (falls_from_places numbers (λ i.
-      let a = v i in
-      let b = v (i + 1) in
-      let c = left_falls n shape first last rest i h in
-      omega (arith, a, b, c)))
+    let a = v i in
+    let b = v (i + 1) in
+    let c = left_falls n shape first last rest i h in
+    omega (arith, a, b, c)))
 
 -- a row counted from 1 is one counted from 0
 row_before : (i : ℕ) → 1 ≤ i → (k : ℕ) × (i ≡ k + 1)
@@ -152,12 +152,14 @@ hook_left n shape numbers first last rest h v = record { counts = omega arith; o
         let k = r.0 in
         let x = left_above shape first last rest k (let e = r.1 in omega (arith, e)) in
         subst (λ j. part shape j ≡ part (without_last_zeros numbers) j) (sym r.1) (part_of shape k ∙ sym x ∙ sym (row_left shape numbers first last rest k v))
+
     below : (i : ℕ) → last + 1 < i → part shape i ≡ part (without_last_zeros numbers) i
     below i b =
         let r = row_before i (omega arith) in
         let k = r.0 in
         let x = left_below shape first last rest k h.ordered (let e = r.1 in omega (arith, e)) in
         subst (λ j. part shape j ≡ part (without_last_zeros numbers) j) (sym r.1) (part_of shape k ∙ sym x ∙ sym (row_left shape numbers first last rest k v))
+
     chained : (i : ℕ) → first + 1 ≤ i → i < last + 1 → part shape (i + 1) ≡ part (without_last_zeros numbers) i + 1
     chained i a b =
         let r = row_before i (omega arith) in
@@ -169,6 +171,7 @@ hook_left n shape numbers first last rest h v = record { counts = omega arith; o
         let q = part_of shape (k + 1) in
         let y = row_left shape numbers first last rest k v in
         subst (λ j. part shape (j + 1) ≡ part (without_last_zeros numbers) j + 1) (sym e) (omega (arith, x, p, q, y))
+
     end : part (without_last_zeros numbers) (last + 1) < part shape (last + 1)
     end =
         let x = left_last shape first last rest last h.ordered refl in

@@ -2,9 +2,9 @@
 --     search_on       one more first row without a removal
 --     no_removal      no rows, no removal
 --     goes_on         a removal and what follows it
-use Rattle.std.proofs.Common.{◌≡◌, ℕ, zero, suc, ◌+◌, ◌-◌, ◌*◌, ◌<◌, ◌≤◌, ◌⊎◌, ◌==◌, Bool, false, Option, Some, None, is_some, List, length, sym, ◌∙◌, ap, ap₂, subst, refl, inl, inr, arith, ℤ, ◌*ℤ◌}
-use Rattle.std.proofs.lemmas.Bool.{cases_lt, cases_eq}
-use Rattle.sym_model.specs.Partition.{IsPartition, size, part}
+use Rattle.std.proofs.Common.{◌≡◌, ℕ, suc, ◌+◌, ◌-◌, ◌<◌, ◌≤◌, ◌⊎◌, false, Option, Some, None, is_some, List, length, sym, ◌∙◌, ap, subst, inl, inr, arith, ℤ, ◌*ℤ◌}
+use Rattle.std.proofs.lemmas.Bool.{cases_lt}
+use Rattle.sym_model.specs.Partition.{IsPartition}
 use Rattle.sym_model.specs.Strip.{height}
 use Rattle.sym_model.specs.HookRows.{IsHookRows}
 use Rattle.sym_model.specs.PlaceOrders.{minus_one_to}

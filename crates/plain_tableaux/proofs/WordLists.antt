@@ -28,9 +28,9 @@ pub each_take-more : {A B C : Type 0} (f : B → List C) (g : A → B) (xs : Lis
     → each f (map g (take (i + 1) xs)) ≡ each f (map g (take i xs)) ++ f (g x)
 each_take-more f g xs i x h e =
     ap (λ l. each f (map g l)) (take_more xs i x h ∙ ap (λ y. take i xs ++ (y ∷ [])) (sym e))
-      ∙ ap (each f) (map-append g (take i xs) (x ∷ []))
-      ∙ each-append f (map g (take i xs)) (g x ∷ [])
-      ∙ ap (λ l. each f (map g (take i xs)) ++ l) (each-one f (g x))
+    ∙ ap (each f) (map-append g (take i xs) (x ∷ []))
+    ∙ each-append f (map g (take i xs)) (g x ∷ [])
+    ∙ ap (λ l. each f (map g (take i xs)) ++ l) (each-one f (g x))
 
 -- falling numbers: the greatest first
 pub each_reverse-after : {B : Type 0} (f : ℕ → List B) (j k : ℕ) → k ≢ 0 → each f (reverse (after j k)) ≡ f (j + k) ++ each f (reverse (after j (k - 1)))
@@ -38,9 +38,9 @@ each_reverse-after f j k h =
     let e : k ≡ k - 1 + 1 = omega arith in
     let d : j + (k - 1) + 1 ≡ j + k = omega arith in
     ap (λ n. each f (reverse (after j n))) e
-      ∙ ap (λ l. each f (reverse l)) (after-more j (k - 1))
-      ∙ ap (each f) (reverse-append (after j (k - 1)) ((j + (k - 1) + 1) ∷ []))
-      ∙ ap (λ n. f n ++ each f (reverse (after j (k - 1)))) d
+    ∙ ap (λ l. each f (reverse l)) (after-more j (k - 1))
+    ∙ ap (each f) (reverse-append (after j (k - 1)) ((j + (k - 1) + 1) ∷ []))
+    ∙ ap (λ n. f n ++ each f (reverse (after j (k - 1)))) d
 
 pub map_after-more : {B : Type 0} (f : ℕ → B) (k : ℕ) → map f (after 0 (k + 1)) ≡ map f (after 0 k) ++ (f (k + 1) ∷ [])
 map_after-more f k =
@@ -60,5 +60,5 @@ pub select_take-more : {A B : Type 0} (test : B → Bool) (g : A → B) (xs : Li
     → select test (map g (take (i + 1) xs)) ≡ select test (map g (take i xs)) ++ cond (test (g x)) (g x ∷ []) []
 select_take-more test g xs i x h e =
     ap (λ l. select test (map g l)) (take_more xs i x h ∙ ap (λ y. take i xs ++ (y ∷ [])) (sym e))
-      ∙ ap (select test) (map-append g (take i xs) (x ∷ []))
-      ∙ select-append test (map g (take i xs)) (g x)
+    ∙ ap (select test) (map-append g (take i xs) (x ∷ []))
+    ∙ select-append test (map g (take i xs)) (g x)

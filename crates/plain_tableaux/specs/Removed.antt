@@ -1,5 +1,5 @@
 -- What the answers of the removals of rim hooks stand for.
-use Rattle.std.specs.Prelude.{◌≡◌, ℕ, ◌+◌, ◌-◌, ◌==◌, nat_lt, cond, ◌≤◌, List, Option, Some, None, slice_index}
+use Rattle.std.specs.Prelude.{◌≡◌, ℕ, ◌+◌, ◌-◌, ◌==◌, nat_lt, cond, List, Option, Some, None, slice_index}
 use Rattle.sym_model.specs.Partition.{IsPartition, size}
 use Rattle.sym_model.specs.Strip.{height}
 use Rattle.sym_model.specs.HookRows.{IsHookRows}

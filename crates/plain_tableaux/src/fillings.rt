@@ -5,10 +5,9 @@ ghost use Rattle.sym_model.specs.Sum.{each, select};
 ghost use Rattle.sym_model.specs.Schur.{row_lengths, fillings_of, semistandard, tableaux};
 ghost use Rattle.plain_tableaux.specs.Words.{words_of, fillings_in};
 
-use std::alloc::{AllocError, Global};
-
 use crate::semistandard::{plain_contains, plain_semistandard};
 use crate::words::plain_words;
+use std::alloc::{AllocError, Global};
 
 /// The semistandard tableaux of the shape outer/inner with entries from 1 to n, each by its rows;
 /// none where inner does not lie inside outer. Want of memory is its only error.
@@ -72,10 +71,8 @@ fn stacked(
     rows: &[Vec<u64>],
     rest: &[Vec<Vec<u64>>],
 ) -> Result<Vec<Vec<Vec<u64>>>, AllocError>
-    ensures {
-        IfOk result (λ list. fillings_in list.items
-            ≡ each (λ row. map (λ filling. row ∷ filling) (fillings_in rest.now)) (words_of rows.now))
-    }
+    ensures { IfOk result (λ list. fillings_in list.items
+        ≡ each (λ row. map (λ filling. row ∷ filling) (fillings_in rest.now)) (words_of rows.now)) }
 {
     let mut list = Vec::new(alloc);
     for row in rows {
@@ -90,10 +87,8 @@ fn push_stacked(
     row: &[u64],
     rest: &[Vec<Vec<u64>>],
 ) -> Result<(), AllocError>
-    ensures {
-        OnOk result (fillings_in list.new.items
-            ≡ fillings_in list.old.items ++ map (λ filling. row.now ∷ filling) (fillings_in rest.now))
-    }
+    ensures { OnOk result (fillings_in list.new.items
+        ≡ fillings_in list.old.items ++ map (λ filling. row.now ∷ filling) (fillings_in rest.now)) }
 {
     for filling in rest {
         list.push(with_first_row(alloc, row, filling)?)?;
@@ -133,9 +128,7 @@ fn semistandard_among(
     inner: &[u64],
     fillings: &[Vec<Vec<u64>>],
 ) -> Result<Vec<Vec<Vec<u64>>>, AllocError>
-    ensures {
-        IfOk result (λ list. fillings_in list.items ≡ select (semistandard inner.now) (fillings_in fillings.now))
-    }
+    ensures { IfOk result (λ list. fillings_in list.items ≡ select (semistandard inner.now) (fillings_in fillings.now)) }
 {
     let mut list = Vec::new(alloc);
     for filling in fillings {

@@ -8,12 +8,11 @@ ghost use Rattle.sym_model.specs.Schur.{times_in, content};
 ghost use Rattle.sym_model.specs.GoodTableau.{column_reading, is_falling, is_good, is_among, good_tableaux, good_readings};
 ghost use Rattle.plain_tableaux.specs.Words.{words_of, fillings_in};
 
-use std::alloc::{AllocError, Global};
-
 use crate::fillings::{plain_tableaux, push_rows};
 use crate::numbers::number_at;
 use crate::readings::{plain_column_reading, plain_reading_right_of};
 use crate::words::plain_words;
+use std::alloc::{AllocError, Global};
 
 /// The column readings, in rising lexicographic order, of the good tableaux of the shape outer/inner
 /// with this start and entries from 1 to k; none where start has more than k parts. The number of
@@ -60,10 +59,8 @@ fn good_among(
     inner: &[u64],
     tableaux: &[Vec<Vec<u64>>],
 ) -> Result<Vec<Vec<Vec<u64>>>, AllocError>
-    ensures {
-        IfOk result (λ list. fillings_in list.items
-            ≡ select (is_good k start.now outer.now inner.now) (fillings_in tableaux.now))
-    }
+    ensures { IfOk result (λ list. fillings_in list.items
+        ≡ select (is_good k start.now outer.now inner.now) (fillings_in tableaux.now)) }
 {
     let mut list = Vec::new(alloc);
     for tableau in tableaux {
@@ -80,10 +77,8 @@ fn push_if(
     keeps: bool,
     tableau: &[Vec<u64>],
 ) -> Result<(), AllocError>
-    ensures {
-        OnOk result (fillings_in list.new.items
-            ≡ fillings_in list.old.items ++ cond keeps (words_of tableau.now ∷ []) [])
-    }
+    ensures { OnOk result (fillings_in list.new.items
+        ≡ fillings_in list.old.items ++ cond keeps (words_of tableau.now ∷ []) []) }
 {
     if keeps {
         let mut kept = Vec::new(alloc);
@@ -186,9 +181,7 @@ fn readings_of(
     inner: &[u64],
     fillings: &[Vec<Vec<u64>>],
 ) -> Result<Vec<Vec<u64>>, AllocError>
-    ensures {
-        IfOk result (λ list. words_of list.items ≡ map (column_reading outer.now inner.now) (fillings_in fillings.now))
-    }
+    ensures { IfOk result (λ list. words_of list.items ≡ map (column_reading outer.now inner.now) (fillings_in fillings.now)) }
 {
     let mut list = Vec::new(alloc);
     for filling in fillings {
@@ -215,9 +208,7 @@ fn those_among(
     words: &[Vec<u64>],
     readings: &[Vec<u64>],
 ) -> Result<Vec<Vec<u64>>, AllocError>
-    ensures {
-        IfOk result (λ list. words_of list.items ≡ select (λ w. is_among w (words_of readings.now)) (words_of words.now))
-    }
+    ensures { IfOk result (λ list. words_of list.items ≡ select (λ w. is_among w (words_of readings.now)) (words_of words.now)) }
 {
     let mut list = Vec::new(alloc);
     for word in words {

@@ -6,9 +6,8 @@ ghost use Rattle.sym_model.specs.Partition.{after};
 ghost use Rattle.sym_model.specs.GoodTableau.{column, reading_right_of, column_reading};
 ghost use Rattle.plain_tableaux.specs.Words.{words_of};
 
-use std::alloc::{AllocError, Global};
-
 use crate::numbers::{number_at, without_first};
+use std::alloc::{AllocError, Global};
 
 /// The column reading of a filling of the shape outer/inner, given by its rows: the columns from
 /// the rightmost to the leftmost, each from top to bottom. Want of memory is its only error.
@@ -18,9 +17,7 @@ pub fn plain_column_reading(
     inner: &[u64],
     filling: &[Vec<u64>],
 ) -> Result<Vec<u64>, AllocError>
-    ensures {
-        IfOk result (λ reading. reading.items ≡ column_reading outer.now inner.now (words_of filling.now))
-    }
+    ensures { IfOk result (λ reading. reading.items ≡ column_reading outer.now inner.now (words_of filling.now)) }
 {
     plain_reading_right_of(alloc, 0, outer, inner, filling)
 }
@@ -34,9 +31,7 @@ pub fn plain_reading_right_of(
     inner: &[u64],
     filling: &[Vec<u64>],
 ) -> Result<Vec<u64>, AllocError>
-    ensures {
-        IfOk result (λ reading. reading.items ≡ reading_right_of j outer.now inner.now (words_of filling.now))
-    }
+    ensures { IfOk result (λ reading. reading.items ≡ reading_right_of j outer.now inner.now (words_of filling.now)) }
 {
     let mut reading = Vec::new(alloc);
     let columns = number_at(outer, 0);
@@ -53,10 +48,8 @@ fn push_columns(
     count: u64,
 ) -> Result<(), AllocError>
     requires { j + count < 2 ^ 64 }
-    ensures {
-        OnOk result (reading.new.items
-            ≡ reading.old.items ++ each (column inner.now (words_of filling.now)) (reverse (after j count)))
-    }
+    ensures { OnOk result (reading.new.items
+        ≡ reading.old.items ++ each (column inner.now (words_of filling.now)) (reverse (after j count))) }
 {
     if count == 0 {
         return Ok(());
@@ -71,9 +64,7 @@ fn push_column(
     filling: &[Vec<u64>],
     j: u64,
 ) -> Result<(), AllocError>
-    ensures {
-        OnOk result (reading.new.items ≡ reading.old.items ++ column inner.now (words_of filling.now) j)
-    }
+    ensures { OnOk result (reading.new.items ≡ reading.old.items ++ column inner.now (words_of filling.now) j) }
 {
     let [row, below @ ..] = filling else {
         return Ok(());

@@ -5,10 +5,11 @@ ghost use Rattle.sym_model.specs.Partition.{part};
 ghost use Rattle.sym_model.specs.AlcoveReduction.{alcove_reduction, reflected_into_alcove, spread, last_raised, reflected};
 ghost use Rattle.plain_tableaux.specs.Signed.{signed_of};
 
-use std::alloc::{AllocError, Global};
-
-use crate::beta_lists::{has_equal, is_one_odd, is_sorting_odd, plain_beta, plain_from_beta, sorted};
+use crate::beta_lists::{
+    has_equal, is_one_odd, is_sorting_odd, plain_beta, plain_from_beta, sorted,
+};
 use crate::numbers::number_at;
+use std::alloc::{AllocError, Global};
 
 /// A list of numbers with a sign.
 #[derive(Drop)]
@@ -19,7 +20,12 @@ pub struct Signed {
 
 /// The reduction of a partition with at most k rows into the alcove of level n - k: a partition with
 /// a sign, or None where it is 0. Want of memory is its only error.
-pub fn plain_alcove(alloc: Global, k: u64, n: u64, shape: &[u64]) -> Result<Option<Signed>, AllocError>
+pub fn plain_alcove(
+    alloc: Global,
+    k: u64,
+    n: u64,
+    shape: &[u64],
+) -> Result<Option<Signed>, AllocError>
     requires positive { 1 ≤ n }
     requires fits { (i : ℕ) → part shape.now i + k < 2 ^ 64 }
     ensures { IfOk result (λ answer. signed_of answer ≡ alcove_reduction k n shape.now) }
@@ -29,7 +35,10 @@ pub fn plain_alcove(alloc: Global, k: u64, n: u64, shape: &[u64]) -> Result<Opti
         return Ok(None);
     };
     let numbers = plain_from_beta(alloc, &end.numbers)?;
-    Ok(Some(Signed { numbers, is_negative: end.is_negative }))
+    Ok(Some(Signed {
+        numbers,
+        is_negative: end.is_negative,
+    }))
 }
 
 /// Where the reflections of a list end, with a sign; None where that is 0. Want of memory is its
@@ -41,7 +50,10 @@ pub fn plain_reflect(alloc: Global, n: u64, list: &[u64]) -> Result<Option<Signe
     let gap = spread_of(list);
     if gap < n {
         let numbers = Vec::from_slice(alloc, list)?;
-        return Ok(Some(Signed { numbers, is_negative: false }));
+        return Ok(Some(Signed {
+            numbers,
+            is_negative: false,
+        }));
     }
     if gap == n {
         return Ok(None);
@@ -57,7 +69,10 @@ pub fn plain_reflect(alloc: Global, n: u64, list: &[u64]) -> Result<Option<Signe
         return Ok(None);
     };
     let is_negative = is_one_odd(turns, end.is_negative);
-    Ok(Some(Signed { numbers: end.numbers, is_negative }))
+    Ok(Some(Signed {
+        numbers: end.numbers,
+        is_negative,
+    }))
 }
 
 // How far the first entry is above the last.

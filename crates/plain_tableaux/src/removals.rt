@@ -6,10 +6,9 @@ ghost use Rattle.sym_model.specs.RimHookReduction.{GoesTo};
 ghost use Rattle.plain_tableaux.specs.Signed.{sign_of};
 ghost use Rattle.plain_tableaux.specs.Removed.{IsFound, IsFoundFrom, IsFoundInRows, left_part};
 
-use std::alloc::{AllocError, Global};
-
 use crate::beta_lists::{count_up_to_last_positive, is_one_odd};
 use crate::numbers::number_at;
+use std::alloc::{AllocError, Global};
 
 /// What is left where a rim hook is removed from a partition, and the height of that rim hook.
 #[derive(Drop)]
@@ -37,12 +36,20 @@ pub fn plain_core(alloc: Global, k: u64, n: u64, shape: &[u64]) -> Result<Core, 
 {
     let Some(removal) = plain_removal(alloc, n, shape)? else {
         let shape = Vec::from_slice(alloc, shape)?;
-        return Ok(Core { shape, is_negative: false, power: 0 });
+        return Ok(Core {
+            shape,
+            is_negative: false,
+            power: 0,
+        });
     };
     let core = plain_core(alloc, k, n, &removal.left)?;
     let turns = k.saturating_sub(removal.height) % 2 == 1;
     let is_negative = is_one_odd(turns, core.is_negative);
-    Ok(Core { shape: core.shape, is_negative, power: core.power + 1 })
+    Ok(Core {
+        shape: core.shape,
+        is_negative,
+        power: core.power + 1,
+    })
 }
 
 /// A removal of a rim hook of n cells from a partition; None where there is none. Want of memory is
@@ -103,7 +110,10 @@ fn removal_between(
     let mut left = left_rows(alloc, shape, first, last, rest)?;
     let rows = count_up_to_last_positive(&left);
     left.truncate(rows);
-    Ok(Some(Removal { left, height: above + 1 }))
+    Ok(Some(Removal {
+        left,
+        height: above + 1,
+    }))
 }
 
 fn left_rows(
@@ -115,9 +125,7 @@ fn left_rows(
 ) -> Result<Vec<u64>, AllocError>
     requires ordered { first ≤ last }
     requires within { last < length shape.now }
-    ensures {
-        IfOk result (λ left. (i : ℕ) → slice_index left.items i ≡ left_part shape.now first last rest i)
-    }
+    ensures { IfOk result (λ left. (i : ℕ) → slice_index left.items i ≡ left_part shape.now first last rest i) }
 {
     let mut left = Vec::new(alloc);
     for i in 0..shape.len() {

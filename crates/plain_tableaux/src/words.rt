@@ -23,9 +23,7 @@ pub fn plain_words(alloc: Global, n: u64, length: u64) -> Result<Vec<Vec<u64>>, 
 
 // Each letter from 1 to n in front of each of the words.
 fn prefixed(alloc: Global, n: u64, words: &[Vec<u64>]) -> Result<Vec<Vec<u64>>, AllocError>
-    ensures {
-        IfOk result (λ list. words_of list.items ≡ each (λ a. map (λ w. a ∷ w) (words_of words.now)) (after 0 n))
-    }
+    ensures { IfOk result (λ list. words_of list.items ≡ each (λ a. map (λ w. a ∷ w) (words_of words.now)) (after 0 n)) }
 {
     let mut list = Vec::new(alloc);
     for below in 0..n {
@@ -40,9 +38,7 @@ fn push_prefixed(
     first: u64,
     words: &[Vec<u64>],
 ) -> Result<(), AllocError>
-    ensures {
-        OnOk result (words_of list.new.items ≡ words_of list.old.items ++ map (λ w. first ∷ w) (words_of words.now))
-    }
+    ensures { OnOk result (words_of list.new.items ≡ words_of list.old.items ++ map (λ w. first ∷ w) (words_of words.now)) }
 {
     for word in words {
         list.push(with_first(alloc, first, word)?)?;

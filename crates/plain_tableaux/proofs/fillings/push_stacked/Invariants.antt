@@ -1,7 +1,5 @@
 use Rattle.std.proofs.Common.{◌≡◌, ◌∷◌, ◌++◌, map, take}
-use Rattle.sym_model.specs.Sum.{each, select}
-use Rattle.sym_model.specs.Schur.{semistandard}
-use Rattle.plain_tableaux.specs.Words.{words_of, fillings_in}
+use Rattle.plain_tableaux.specs.Words.{fillings_in}
 use Rattle.plain_tableaux.proofs.fillings.push_stacked.Given as goal
 
 abbrev pub invariant-loop-filling : goal.invariant-loop-filling

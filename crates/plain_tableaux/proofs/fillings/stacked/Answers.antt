@@ -1,5 +1,5 @@
-use Rattle.std.proofs.Common.{◌≡◌, ◌<◌, ◌∷◌, ◌++◌, map, length, sym, ◌∙◌, ap, ap₂, arith}
-use Rattle.plain_tableaux.specs.Words.{words_of, fillings_in}
+use Rattle.std.proofs.Common.{◌<◌, ◌∷◌, ◌++◌, map, length, sym, ◌∙◌, ap, ap₂, arith}
+use Rattle.plain_tableaux.specs.Words.{fillings_in}
 use Rattle.plain_tableaux.proofs.WordLists.{each_take-more}
 use Rattle.plain_tableaux.proofs.fillings.stacked.Goals as goal
 
@@ -9,5 +9,5 @@ loop-row-preserved c =
     let rest = fillings_in c.args.rest.now in
     let within : c.loop-row.row-index < length c.args.rows.now = omega arith in
     c.in_ok-push_stacked.ensures
-      ∙ ap₂ ◌++◌ c.loop-row.invariant (ap (λ letters. map (λ filling. letters ∷ filling) rest) c.deref.ensures.value)
-      ∙ sym (each_take-more (λ letters. map (λ filling. letters ∷ filling) rest) (λ word. word.items) c.args.rows.now c.loop-row.row-index row within c.row-item.is)
+    ∙ ap₂ ◌++◌ c.loop-row.invariant (ap (λ letters. map (λ filling. letters ∷ filling) rest) c.deref.ensures.value)
+    ∙ sym (each_take-more (λ letters. map (λ filling. letters ∷ filling) rest) (λ word. word.items) c.args.rows.now c.loop-row.row-index row within c.row-item.is)

@@ -1,6 +1,5 @@
-use Rattle.std.proofs.Common.{◌≡◌, ◌∷◌, ◌++◌, map, take}
-use Rattle.sym_model.specs.Sum.{each, select}
-use Rattle.sym_model.specs.Schur.{semistandard}
+use Rattle.std.proofs.Common.{◌≡◌, ◌∷◌, map, take}
+use Rattle.sym_model.specs.Sum.{each}
 use Rattle.plain_tableaux.specs.Words.{words_of, fillings_in}
 use Rattle.plain_tableaux.proofs.fillings.stacked.Given as goal
 

@@ -1,4 +1,4 @@
-use Rattle.std.proofs.Common.{length, ◌+◌}
+use Rattle.std.proofs.Common.{length}
 use Rattle.plain_tableaux.proofs.good.+falls.Given as goal
 
 abbrev pub decreases-falls : goal.decreases-falls

@@ -1,5 +1,5 @@
-use Rattle.std.proofs.Common.{◌≡◌, ◌+◌, ◌≤◌, length, sym, ◌∙◌, ap, arith}
-use Rattle.plain_tableaux.proofs.Cells.{cells_to, cells_to-more, cells_to_within}
+use Rattle.std.proofs.Common.{◌+◌, ◌≤◌, length, arith}
+use Rattle.plain_tableaux.proofs.Cells.{cells_to-more, cells_to_within}
 use Rattle.plain_tableaux.proofs.good.count_cells.Goals as goal
 
 pub overflow_add-count : goal.overflow_add-count

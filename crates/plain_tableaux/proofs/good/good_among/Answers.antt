@@ -1,4 +1,4 @@
-use Rattle.std.proofs.Common.{◌≡◌, ◌<◌, ◌∷◌, [], ◌++◌, cond, length, sym, ◌∙◌, ap, ap₂, arith}
+use Rattle.std.proofs.Common.{◌<◌, ◌∷◌, [], ◌++◌, cond, length, sym, ◌∙◌, ap, ap₂, arith}
 use Rattle.sym_model.specs.GoodTableau.{is_good}
 use Rattle.plain_tableaux.specs.Words.{words_of}
 use Rattle.plain_tableaux.proofs.WordLists.{select_take-more}
@@ -11,5 +11,5 @@ loop-tableau-preserved c =
     let within : c.loop-tableau.tableau-index < length c.args.tableaux.now = omega arith in
     let kept = ap (λ w. test (words_of w)) c.deref.ensures.value in
     c.in_ok-push_if.ensures
-      ∙ ap₂ ◌++◌ c.loop-tableau.invariant (ap₂ (λ b w. cond b (w ∷ []) []) (c.in_ok-good.ensures ∙ kept) (ap words_of c.deref-in-loop-tableau.ensures.value))
-      ∙ sym (select_take-more test (λ filling. words_of filling.items) c.args.tableaux.now c.loop-tableau.tableau-index c.tableau-item.result within c.tableau-item.is)
+    ∙ ap₂ ◌++◌ c.loop-tableau.invariant (ap₂ (λ b w. cond b (w ∷ []) []) (c.in_ok-good.ensures ∙ kept) (ap words_of c.deref-in-loop-tableau.ensures.value))
+    ∙ sym (select_take-more test (λ filling. words_of filling.items) c.args.tableaux.now c.loop-tableau.tableau-index c.tableau-item.result within c.tableau-item.is)

@@ -1,10 +1,9 @@
-use Rattle.std.proofs.Common.{◌≡◌, ◌∷◌, ◌++◌, ◌+◌, map, take, length, true}
-use Rattle.sym_model.specs.Sum.{each, select}
+use Rattle.std.proofs.Common.{◌≡◌, ◌∷◌, true}
 use Rattle.sym_model.specs.Polynomial.{join}
-use Rattle.sym_model.specs.Partition.{after, cells}
-use Rattle.sym_model.specs.Schur.{content, times_in}
-use Rattle.sym_model.specs.GoodTableau.{every, is_falling, is_good, is_among, reading_right_of, column_reading}
-use Rattle.plain_tableaux.specs.Words.{words_of, fillings_in}
+use Rattle.sym_model.specs.Partition.{after}
+use Rattle.sym_model.specs.Schur.{content}
+use Rattle.sym_model.specs.GoodTableau.{every, is_falling, reading_right_of}
+use Rattle.plain_tableaux.specs.Words.{words_of}
 use Rattle.plain_tableaux.proofs.good.plain_is_good.Given as goal
 
 abbrev pub invariant-loop-j : goal.invariant-loop-j

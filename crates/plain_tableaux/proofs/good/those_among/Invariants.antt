@@ -1,10 +1,7 @@
-use Rattle.std.proofs.Common.{◌≡◌, ◌∷◌, ◌++◌, ◌+◌, map, take, length, true}
-use Rattle.sym_model.specs.Sum.{each, select}
-use Rattle.sym_model.specs.Polynomial.{join}
-use Rattle.sym_model.specs.Partition.{after, cells}
-use Rattle.sym_model.specs.Schur.{content, times_in}
-use Rattle.sym_model.specs.GoodTableau.{every, is_falling, is_good, is_among, reading_right_of, column_reading}
-use Rattle.plain_tableaux.specs.Words.{words_of, fillings_in}
+use Rattle.std.proofs.Common.{◌≡◌, take}
+use Rattle.sym_model.specs.Sum.{select}
+use Rattle.sym_model.specs.GoodTableau.{is_among}
+use Rattle.plain_tableaux.specs.Words.{words_of}
 use Rattle.plain_tableaux.proofs.good.those_among.Given as goal
 
 abbrev pub invariant-loop-word : goal.invariant-loop-word

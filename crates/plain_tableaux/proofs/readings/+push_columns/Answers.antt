@@ -1,4 +1,4 @@
-use Rattle.std.proofs.Common.{◌≡◌, ◌+◌, ◌-◌, ◌++◌, reverse, sym, ◌∙◌, ap, append_assoc}
+use Rattle.std.proofs.Common.{◌+◌, ◌-◌, ◌++◌, reverse, sym, ◌∙◌, ap, append_assoc}
 use Rattle.std.proofs.lemmas.Result.{on_ok_weaker}
 use Rattle.sym_model.specs.Sum.{each}
 use Rattle.sym_model.specs.Partition.{after}
@@ -14,9 +14,9 @@ returns t c =
     let j = c.args.j in
     let k = c.args.count in
     on_ok_weaker c.push_columns.result
-      (λ e.
-        e
-          ∙ ap (λ l. l ++ each f (reverse (after j (k - 1)))) c.in_ok-push_column.ensures
-          ∙ append_assoc before (f (j + k)) (each f (reverse (after j (k - 1))))
-          ∙ ap (λ l. before ++ l) (sym (each_reverse-after f j k c.if-count-eq0.false)))
-      c.push_columns.ensures
+    (λ e.
+    e
+    ∙ ap (λ l. l ++ each f (reverse (after j (k - 1)))) c.in_ok-push_column.ensures
+    ∙ append_assoc before (f (j + k)) (each f (reverse (after j (k - 1))))
+    ∙ ap (λ l. before ++ l) (sym (each_reverse-after f j k c.if-count-eq0.false)))
+    c.push_columns.ensures

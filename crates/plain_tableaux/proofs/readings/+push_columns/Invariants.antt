@@ -1,4 +1,3 @@
-use Rattle.std.proofs.Common.{length}
 use Rattle.plain_tableaux.proofs.readings.+push_columns.Given as goal
 
 abbrev pub decreases-push_columns : goal.decreases-push_columns

@@ -1,4 +1,4 @@
-use Rattle.std.proofs.Common.{length, ◌+◌}
+use Rattle.std.proofs.Common.{length}
 use Rattle.plain_tableaux.proofs.reflections.+push_last_raised.Given as goal
 
 abbrev pub decreases-push_last_raised : goal.decreases-push_last_raised

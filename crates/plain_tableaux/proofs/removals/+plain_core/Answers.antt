@@ -1,4 +1,4 @@
-use Rattle.std.proofs.Common.{◌≡◌, ◌-◌, sym, ◌∙◌, ap, ap₂, subst, ◌*ℤ◌}
+use Rattle.std.proofs.Common.{◌∙◌, ap, subst, ◌*ℤ◌}
 use Rattle.sym_model.specs.PlaceOrders.{minus_one_to}
 use Rattle.sym_model.specs.RimHookReduction.{GoesTo}
 use Rattle.plain_tableaux.specs.Signed.{sign_of}
@@ -16,7 +16,7 @@ returns-clause-end t c =
     let core = c.in_ok-core.core in
     let found = subst (IsFound n shape) c.in-Some.is c.in_ok-removal.ensures in
     goes_on k n shape removal.left.items core.shape.items (sign_of core.is_negative) (sign_of c.is_one_odd-is_negative.result) core.power removal.height
-      found.0
-      found.1
-      (subst (λ l. GoesTo k n l core.shape.items (sign_of core.is_negative) core.power) c.deref.ensures.value c.in_ok-core.ensures.end)
-      (c.is_one_odd-is_negative.ensures ∙ ap (λ s. s *ℤ sign_of core.is_negative) (sign_of_parity c.saturating_sub.result ∙ ap minus_one_to c.saturating_sub.ensures))
+    found.0
+    found.1
+    (subst (λ l. GoesTo k n l core.shape.items (sign_of core.is_negative) core.power) c.deref.ensures.value c.in_ok-core.ensures.end)
+    (c.is_one_odd-is_negative.ensures ∙ ap (λ s. s *ℤ sign_of core.is_negative) (sign_of_parity c.saturating_sub.result ∙ ap minus_one_to c.saturating_sub.ensures))

@@ -1,4 +1,4 @@
-use Rattle.std.proofs.Common.{◌≡◌, ◌∙◌, sym, ◌≤◌, arith}
+use Rattle.std.proofs.Common.{◌∙◌, sym, arith}
 use Rattle.plain_tableaux.proofs.Searching.{search_on, no_removal, none_found}
 use Rattle.plain_tableaux.proofs.removals.plain_removal.Goals as goal
 

@@ -1,4 +1,4 @@
-use Rattle.std.proofs.Common.{◌≡◌, ◌+◌, ◌∷◌, map, sym, ◌∙◌, ap, add-one}
+use Rattle.std.proofs.Common.{◌∷◌, map, sym, ◌∙◌, ap, add-one}
 use Rattle.sym_model.specs.Sum.{each}
 use Rattle.sym_model.specs.Partition.{after}
 use Rattle.sym_model.specs.Schur.{words}
@@ -8,5 +8,5 @@ use Rattle.plain_tableaux.proofs.words.plain_words.Goals as goal
 pub loop-done-preserved : goal.loop-done-preserved
 loop-done-preserved c =
     c.in_ok-list.ensures
-      ∙ ap (λ shorter. each (λ a. map (λ w. a ∷ w) shorter) (after 0 c.args.n)) (ap words_of c.deref.ensures.value ∙ c.loop-done.invariant)
-      ∙ ap (words c.args.n) (sym (add-one c.loop-done.done))
+    ∙ ap (λ shorter. each (λ a. map (λ w. a ∷ w) shorter) (after 0 c.args.n)) (ap words_of c.deref.ensures.value ∙ c.loop-done.invariant)
+    ∙ ap (words c.args.n) (sym (add-one c.loop-done.done))
