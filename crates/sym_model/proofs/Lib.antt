@@ -27,6 +27,7 @@ pub mod PlainTexts
 pub mod PlainExponents
 pub mod PlainDegrees
 pub mod PartitionLists
+pub mod OrderLists
 pub mod Reflections
 pub mod Signs
 pub mod HookSizes

@@ -8,6 +8,7 @@
 mod examples;
 mod grammar;
 mod leading;
+mod order_laws;
 mod partition_lists;
 mod plain_bases;
 mod plain_blocks;
@@ -29,6 +30,7 @@ pub use examples::{
 };
 pub use grammar::{expression_examples_law, grammar_law, left_to_right_law};
 pub use leading::leading_cancel_law;
+pub use order_laws::place_orders_law;
 pub use partition_lists::partitions_of_law;
 pub use plain_bases::{PlainBasis, plain_monomial, plain_part_polynomial, plain_product};
 pub use plain_blocks::{PlainTerm, plain_block};
