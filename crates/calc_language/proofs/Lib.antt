@@ -4,3 +4,4 @@ pub mod GrowthFacts
 pub mod FirstOffences
 pub mod ScanFacts
 pub mod ScanRuns
+pub mod BuildFacts

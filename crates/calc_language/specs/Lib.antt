@@ -4,3 +4,4 @@ pub mod Weights
 pub mod Symbols
 pub mod Offences
 pub mod ScanSteps
+pub mod Building

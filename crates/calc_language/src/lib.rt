@@ -1,6 +1,7 @@
 //! The words of a command: expressions with their weights, and how words are read as a command.
 #![tactic(auto)]
 
+mod builder;
 mod expr;
 mod formula;
 mod offence;
