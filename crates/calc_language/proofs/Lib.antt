@@ -5,3 +5,4 @@ pub mod FirstOffences
 pub mod ScanFacts
 pub mod ScanRuns
 pub mod BuildFacts
+pub mod BuildRuns

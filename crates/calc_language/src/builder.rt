@@ -1,5 +1,5 @@
 // The tree of a word that is known to be an expression, built from left to right with no recursion.
-ghost use Rattle.std.specs.Prelude.{◌≡◌, ℕ, ◌+◌, ◌*◌, ◌^◌, ◌<◌, ◌≤◌, IfOk, option_map};
+ghost use Rattle.std.specs.Prelude.{◌≡◌, ℕ, ◌+◌, ◌*◌, ◌^◌, ◌<◌, ◌≤◌, IfOk, option_map, true};
 ghost use Rattle.sym_model.specs.LeftToRight.{join_factor, join_term, join, at, awaited, in_number, in_entry, other, start, found, after_factor, before_factor, in_list_step, step};
 ghost use Rattle.calc_language.specs.ScanSteps.{IsSoundDigit};
 ghost use Rattle.calc_language.specs.Symbols.{symbol_in};

@@ -91,7 +91,7 @@ entry_marks-snoc b k before (v ∷ ws) w =
         ∙ ap (λ n. entry_marks (b + length v + 1) (k + 1) (Some (decimal_value v)) ws ++ (n, entry (k + 1 + length ws) (last_value before (v ∷ ws)) (decimal_value w)) ∷ []) place
         ∙ ap (λ n. entry_marks (b + length v + 1) (k + 1) (Some (decimal_value v)) ws ++ (b + length (v ++ (codes "," ++ commas ws)), entry n (last_value before (v ∷ ws)) (decimal_value w)) ∷ []) count)
 
-entry_marks-next : (b : ℕ) (ws : List (List ℕ)) (w : List ℕ)
+pub entry_marks-next : (b : ℕ) (ws : List (List ℕ)) (w : List ℕ)
     → entry_marks b 0 None (ws ++ w ∷ []) ≡ entry_marks b 0 None ws ++ (b + length (commas ws), entry (length ws) (last_value None ws) (decimal_value w)) ∷ []
 entry_marks-next b ws w =
     entry_marks-snoc b 0 None ws w
