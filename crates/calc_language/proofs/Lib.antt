@@ -6,3 +6,5 @@ pub mod ScanFacts
 pub mod ScanRuns
 pub mod BuildFacts
 pub mod BuildRuns
+pub mod JudgeFacts
+pub mod WordsFacts

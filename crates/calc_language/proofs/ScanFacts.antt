@@ -68,7 +68,7 @@ awaited-length t f o = simp length-append (omega arith)
 after_slash-length : (n : List ℕ) (t : BeforeTerm Phrase) (f : BeforeFactor Phrase) (o : Opened Phrase) → length (written (at (after_slash n) t f o)) ≡ piece_begin t f o + length n + 1
 after_slash-length n t f o = simp length-append (omega arith)
 
-letter-length : (basis : Basis) → length (letter basis) ≡ 1
+pub letter-length : (basis : Basis) → length (letter basis) ≡ 1
 letter-length monomials = refl
 letter-length elementaries = refl
 letter-length completes = refl

@@ -5,3 +5,4 @@ pub mod Symbols
 pub mod Offences
 pub mod ScanSteps
 pub mod Building
+pub mod Reading

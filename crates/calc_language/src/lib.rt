@@ -8,7 +8,9 @@ mod offence;
 mod scan;
 mod symbol;
 mod weigh;
+mod words;
 
 pub use calc_base::{Basis, Weight};
 pub use expr::Expr;
 pub use formula::Formula;
+pub use words::{Command, read_words};
