@@ -59,7 +59,7 @@ first_of_two : (o p : Offence) (x : Bool) → earlier (cond x (Some o) (Some p))
 first_of_two o p true = refl
 first_of_two o p false = refl
 
-earlier-assoc : (a b c : Option Offence) → earlier (earlier a b) c ≡ earlier a (earlier b c)
+pub earlier-assoc : (a b c : Option Offence) → earlier (earlier a b) c ≡ earlier a (earlier b c)
 earlier-assoc None b c = refl
 earlier-assoc (Some o) None c = refl
 earlier-assoc (Some o) (Some p) None = first_of_two o p (comes_first o p)

@@ -4,3 +4,7 @@ pub mod GrowthFacts
 pub mod FirstOffences
 pub mod ScanFacts
 pub mod ScanRuns
+pub mod BuildFacts
+pub mod BuildRuns
+pub mod JudgeFacts
+pub mod WordsFacts

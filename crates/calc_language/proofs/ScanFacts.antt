@@ -48,7 +48,7 @@ value_from-snoc : (n : ℕ) (ds : List ℕ) (c : ℕ) → value_from n (ds ++ c 
 value_from-snoc n [] c = refl
 value_from-snoc n (d ∷ ds) c = value_from-snoc (10 * n + (d - 48)) ds c
 
-value-next : (ds : List ℕ) (c : ℕ) → capped (10 * capped (decimal_value ds) + (c - 48)) ≡ capped (decimal_value (ds ++ c ∷ []))
+pub value-next : (ds : List ℕ) (c : ℕ) → capped (10 * capped (decimal_value ds) + (c - 48)) ≡ capped (decimal_value (ds ++ c ∷ []))
 value-next ds c = capped-next (decimal_value ds) (c - 48) ∙ ap capped (sym (value_from-snoc 0 ds c))
 
 small-digit : (c : ℕ) → c < 256 → c - 48 ≡ capped (c - 48)
@@ -59,7 +59,7 @@ abbrev pub IsByte : Symbol → Type 0
 IsByte (digit c) = c < 256
 IsByte _ = Unit {0}
 
-value-first : (c : ℕ) → c < 256 → c - 48 ≡ capped (decimal_value (c ∷ []))
+pub value-first : (c : ℕ) → c < 256 → c - 48 ≡ capped (decimal_value (c ∷ []))
 value-first c h = omega arith
 
 awaited-length : (t : BeforeTerm Phrase) (f : BeforeFactor Phrase) (o : Opened Phrase) → length (written (at awaited t f o)) ≡ piece_begin t f o
@@ -68,7 +68,7 @@ awaited-length t f o = simp length-append (omega arith)
 after_slash-length : (n : List ℕ) (t : BeforeTerm Phrase) (f : BeforeFactor Phrase) (o : Opened Phrase) → length (written (at (after_slash n) t f o)) ≡ piece_begin t f o + length n + 1
 after_slash-length n t f o = simp length-append (omega arith)
 
-letter-length : (basis : Basis) → length (letter basis) ≡ 1
+pub letter-length : (basis : Basis) → length (letter basis) ≡ 1
 letter-length monomials = refl
 letter-length elementaries = refl
 letter-length completes = refl

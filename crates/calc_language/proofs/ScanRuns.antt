@@ -40,7 +40,7 @@ written-so_far : (w : List ℕ) → Continues w (read_on w start)
 written-so_far w = read-written w start (tt, tt, tt, tt)
 
 -- the symbols of bytes
-byte-symbol : (b : ℕ) (s : Symbol) → b < 256 → Codes b s → IsByte s
+pub byte-symbol : (b : ℕ) (s : Symbol) → b < 256 → Codes b s → IsByte s
 byte-symbol b (digit c) h k = omega (arith, k.0)
 byte-symbol b _ h k = tt
 
@@ -243,7 +243,7 @@ finds-whole s u (at p t f o) e keep h sees =
         (finds-next s u (number_mark s.mode) (new_mark (at p t f o) other) (state_marks (at p t f o))
             (ap (λ m. option_map plain (number_mark m)) keep.0 ∙ piece-mark p t f o) keep.2 sees)
 
-at-end : (w : List ℕ) (i : ℕ) → i ≡ length w → read_on (take i w) start ≡ read_on w start
+pub at-end : (w : List ℕ) (i : ℕ) → i ≡ length w → read_on (take i w) start ≡ read_on w start
 at-end w i h = ap (λ n. read_on (take n w) start) h ∙ ap (λ v. read_on v start) (take-length w)
 
 pub whole-scanned : (w : List ℕ) (i : ℕ) (s u : Scan) → i ≡ length w → Keeps s (read_on (take i w) start) → is_whole s ≡ true → Sees s (number_mark s.mode) u → IsScanned w (Ok u)

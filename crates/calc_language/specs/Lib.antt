@@ -4,3 +4,5 @@ pub mod Weights
 pub mod Symbols
 pub mod Offences
 pub mod ScanSteps
+pub mod Building
+pub mod Reading

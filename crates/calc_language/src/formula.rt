@@ -25,7 +25,7 @@ pub struct Formula {
 impl Formula {
     /// The formula of this tree. The tree comes back exactly where it is not within the bounds. No memory is taken.
     pub fn from_tree(tree: Expr) -> Result<Formula, Expr>
-        ensures { MatchResult result (λ f. f.tree ≡ tree) (λ e. (e ≡ tree) × ¬ IsFormula tree) }
+        ensures { MatchResult result (λ f. (f.tree ≡ tree) × IsFormula tree) (λ e. (e ≡ tree) × ¬ IsFormula tree) }
     {
         if tree.is_plain_within(MAX_NESTING) && tree.capped_degree() <= MAX_DEGREE {
             Ok(Formula { tree })

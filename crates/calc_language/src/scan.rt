@@ -36,7 +36,7 @@ pub(crate) struct Scan {
 }
 
 // A number with a digit more, or `WIDE`.
-fn extended(value: u128, digit: u8) -> u128
+pub(crate) fn extended(value: u128, digit: u8) -> u128
     requires { 48 ≤ digit }
     ensures { result ≡ capped (10 * value + (digit - 48)) }
 {
