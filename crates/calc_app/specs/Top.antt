@@ -33,7 +33,7 @@ pub record PutsPrefix {S : Type 0} (written : S → Option (List ℕ)) (count : 
   pub appended : AppendsPrefix written count old new text
 
 -- What a command leaves in the sink, by its status: the whole text, settled; after a fault of the sink a prefix; without
--- memory nothing. Statuses that no command of one line has never come.
+-- memory nothing. The other statuses never come.
 abbrev pub Leaves : {S : Type 0} → (S → Option (List ℕ)) → (S → Option ℕ) → (S → Bool)
     → (old new : S) → List (List ℕ) → Status → Type 0
 Leaves written count settled old new words Done = PutsWhole written count settled old new words done
@@ -45,7 +45,7 @@ Leaves written count settled old new words SinkFault = PutsPrefix written count 
 Leaves written count settled old new words SourceFault = ⊥
 Leaves written count settled old new words NoMemory = new ≡ old
 
--- The headline. To the bytes that stood before a text was appended. The words spell the command `expand m p[..]` with
+-- The headline. A text was appended to the bytes that stood before. The words spell the command `expand m p[..]` with
 -- some numbers; the text, read back, is a canonical list of terms; and in every number of variables that list, read in
 -- the monomial basis, is the power sum of the numbers.
 pub record PrintsPowerSum (words : List (List ℕ)) (before : List ℕ) (now : Option (List ℕ)) : Type 0 where

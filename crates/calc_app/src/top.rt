@@ -42,13 +42,14 @@ pub fn run<S: Source, K: Sink>(
     ensures leaves { Leaves K.written K.length K.settled sink.old sink.new
         (bytes_of words.now) result }
 
-    // Whatever text is defined for the words: where the sink did not fail, the answer is the status
-    // that goes with the text, or want of memory.
+    // Where a text is defined for the words, with an ending, the answer is the status of that ending,
+    // or want of memory, or the sink's count of faults rose.
     ensures complete { (text : List ℕ) → (ending : Ending) → IsOutcome (bytes_of words.now) text ending
         → (result ≡ status_of ending) ⊎ (result ≡ Status.NoMemory)
         ⊎ Rose (K.faults sink.old) (K.faults sink.new) }
 
-    // `Range` and `Shape` are said apart: the line is the one that is defined.
+    // At `Range` the line that was put is the one that is defined: `! Range` and `! Shape` have each
+    // their own cause.
     ensures refusal { (text : List ℕ) → IsOutcome (bytes_of words.now) text range
         → result ≡ Status.Range → Appends K.written K.length sink.old sink.new text }
 
