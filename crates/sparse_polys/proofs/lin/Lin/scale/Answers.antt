@@ -1,13 +1,10 @@
-use Rattle.std.proofs.Common.{◌≡◌, List, [], ◌∷◌, ◌++◌, map, pos, sym, ap, ◌∙◌, subst, refl, append_assoc, inl, inr}
+use Rattle.std.proofs.Common.{◌≡◌, [], ◌∷◌, ◌++◌, sym, ap, ◌∙◌, subst, refl, append_assoc}
 use Rattle.std.specs.Prelude.{None, Some, Err, IfSome}
 use Rattle.std.specs.List.{IsDistinct}
 use Rattle.std.specs.Map.{lookup, keys_of}
-use Rattle.std.proofs.lemmas.List.{map-append}
-use Rattle.coeff_rings.specs.Ratio.{Ratio, whole, InLowestTerms, ratio_product}
+use Rattle.coeff_rings.specs.Ratio.{InLowestTerms, ratio_product}
 use Rattle.sym_model.specs.Sum.{Among}
-use Rattle.sym_model.specs.Expansion.{Fraction}
-use Rattle.sparse_polys.specs.Combination.{coefficient, fraction, ratio, terms_of, IsCombination, IsMultipleOf, HasMoreAt}
-use Rattle.sparse_polys.specs.Refusal.{IsRefused}
+use Rattle.sparse_polys.specs.Combination.{coefficient, fraction, terms_of, IsCombination}
 use Rattle.sparse_polys.proofs.Coefficients.{product-zero}
 use Rattle.sparse_polys.proofs.Steps.{absent_before, multiple-before, IsMultipleOf-next, products-next, fits-zero_left, error_is, among-next, all_done, IsCombination-empty}
 use Rattle.sparse_polys.proofs.lin.Lin.scale.Goals as goal
