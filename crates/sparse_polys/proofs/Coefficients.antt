@@ -1,16 +1,15 @@
 -- Coefficients in lowest terms, and the coefficient of a label in a list of pairs.
-use Rattle.std.proofs.Common.{◌≡◌, ◌≢◌, ℕ, zero, suc, ◌<◌, ◌*◌, ◌+◌, Bool, true, false, ◌&&◌, cond, List, [], ◌∷◌, ◌++◌, map, ℤ, pos, negsuc, ◌*ℤ◌, nat_abs, unsigned_abs, neg_ℤ, refl, sym, ap, ◌∙◌, subst, zero-mul, arith}
+use Rattle.std.proofs.Common.{◌≡◌, ◌≢◌, ℕ, zero, suc, ◌<◌, ◌*◌, Bool, true, false, cond, List, [], ◌∷◌, ℤ, pos, negsuc, ◌*ℤ◌, nat_abs, unsigned_abs, neg_ℤ, refl, sym, ap, ◌∙◌, subst, zero-mul, arith}
 use Rattle.std.specs.Prelude.{Option, Some, None}
 use Rattle.std.specs.Option.{option_map, unwrap_or}
 use Rattle.std.specs.Map.{lookup, keys_of}
 use Rattle.std.specs.Int.{IsGcd}
-use Rattle.std.proofs.lemmas.Bool.{and_parts, and_from}
 use Rattle.coeff_rings.specs.Ratio.{Ratio, whole, InLowestTerms, ratio_product}
 use Rattle.coeff_rings.specs.Proved.Fractions.{Stands-same, Stands-itself, Stands-whole, Stands-product}
 use Rattle.coeff_rings.specs.Proved.FractionLaws.{num-zero}
-use Rattle.sym_model.specs.Expansion.{Fraction, Terms}
+use Rattle.sym_model.specs.Expansion.{Fraction}
 use Rattle.sym_model.specs.Canonical.{is_reduced}
-use Rattle.sym_model.proofs.Orders.{IsReduced, is_reduced-from, is_reduced-tells}
+use Rattle.sym_model.proofs.Orders.{is_reduced-from, is_reduced-tells}
 use Rattle.sparse_polys.specs.Combination.{fraction, ratio, terms_of, coefficient}
 
 -- ---- lowest terms

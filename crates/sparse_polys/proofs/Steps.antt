@@ -1,5 +1,5 @@
 -- Loops over the pairs of a table: what one more pair changes.
-use Rattle.std.proofs.Common.{◌≡◌, ◌≢◌, ℕ, Bool, true, false, ◌&&◌, cond, List, [], ◌∷◌, ◌++◌, pos, refl, sym, ap, ◌∙◌, subst, inl, inr, append-nil, if◌then◌else◌}
+use Rattle.std.proofs.Common.{◌≡◌, Bool, true, false, cond, List, [], ◌∷◌, ◌++◌, pos, refl, sym, ap, ◌∙◌, subst, inl, inr, append-nil, if◌then◌else◌}
 use Rattle.std.specs.Prelude.{Option, Some, None, Result, Ok, Err, IsErrAnd, IsErrOf}
 use Rattle.std.specs.Cmp.{IsEquivalence}
 use Rattle.std.specs.List.{IsDistinct}
@@ -12,10 +12,9 @@ use Rattle.coeff_rings.specs.Answers.{AnswersSum}
 use Rattle.coeff_rings.specs.Proved.FractionLaws.{sum_comm, sum-zero}
 use Rattle.sym_model.specs.Sum.{Among}
 use Rattle.sym_model.specs.Expansion.{Fraction, Terms}
-use Rattle.sparse_polys.specs.Combination.{fraction, ratio, terms_of, coefficient, are_terms, IsCombination, HasMoreAt, IsSumOf, IsMultipleOf}
+use Rattle.sparse_polys.specs.Combination.{fraction, ratio, terms_of, coefficient, IsCombination, HasMoreAt, IsSumOf, IsMultipleOf}
 use Rattle.sparse_polys.specs.Refusal.{IsRefused}
 use Rattle.sparse_polys.proofs.Coefficients.{coefficient-terms_of, value_at, product-zero}
-use Rattle.sparse_polys.proofs.Tables.{lowest-coefficient}
 
 module _ {L X : Type 0} where
   found_past : (test : L → Bool) (xs ys : List (L × X)) → lookup test xs ≡ None → lookup test (xs ++ ys) ≡ lookup test ys

@@ -1,20 +1,20 @@
 -- Tables of terms: the changes of a table, and the tests of its terms.
-use Rattle.std.proofs.Common.{◌≡◌, ◌≢◌, ℕ, Bool, true, false, ◌&&◌, cond, List, [], ◌∷◌, ◌++◌, pos, refl, sym, ap, ◌∙◌, subst, true≢false, if◌then◌else◌}
-use Rattle.std.specs.Prelude.{Option, Some, None, IsTrue}
+use Rattle.std.proofs.Common.{◌≡◌, Bool, true, false, ◌&&◌, cond, List, [], ◌∷◌, pos, refl, sym, ap, ◌∙◌, subst, if◌then◌else◌}
+use Rattle.std.specs.Prelude.{Option, Some, None}
 use Rattle.std.specs.Cmp.{IsEquivalence}
 use Rattle.std.specs.List.{IsDistinct}
 use Rattle.std.specs.Option.{unwrap_or}
-use Rattle.std.specs.Map.{lookup, keys_of, update}
+use Rattle.std.specs.Map.{lookup, keys_of}
 use Rattle.std.proofs.lemmas.Bool.{and_parts, and_from}
 use Rattle.std.proofs.lemmas.Map.{lookup-none}
 use Rattle.std.proofs.lemmas.Map.Keys.{IsDistinct-tail}
 use Rattle.std.proofs.lemmas.Map.Entries.{none_past_head}
-use Rattle.coeff_rings.specs.Ratio.{Ratio, whole, InLowestTerms, ratio_sum, ratio_product}
+use Rattle.coeff_rings.specs.Ratio.{Ratio, InLowestTerms, ratio_sum}
 use Rattle.coeff_rings.specs.Proved.Fractions.{InLowestTerms-whole}
-use Rattle.sym_model.specs.Expansion.{Fraction, Terms}
-use Rattle.sym_model.specs.Canonical.{is_reduced, each_term}
-use Rattle.sparse_polys.specs.Combination.{fraction, ratio, terms_of, coefficient, are_terms, IsCombination, HasMoreAt, IsSumOf, IsMultipleOf}
-use Rattle.sparse_polys.proofs.Coefficients.{coefficient-terms_of, keys-terms_of, value_at, is_reduced-lowest, lowest-is_reduced, not_zero-is_reduced, product-zero}
+use Rattle.sym_model.specs.Expansion.{Terms}
+use Rattle.sym_model.specs.Canonical.{is_reduced}
+use Rattle.sparse_polys.specs.Combination.{fraction, ratio, terms_of, coefficient, are_terms, IsCombination, HasMoreAt}
+use Rattle.sparse_polys.proofs.Coefficients.{coefficient-terms_of, keys-terms_of, value_at, lowest-is_reduced}
 
 -- whether a pair passes the test of a term
 abbrev pub is_term : {L R : Type 0} → (L → Bool) → (R → Ratio) → L → R → Bool

@@ -1,5 +1,5 @@
 -- Sums over the terms of a combination: they follow from its coefficients, whatever the order of the terms.
-use Rattle.std.proofs.Common.{◌≡◌, ◌≢◌, ◌≤◌, ℕ, Bool, true, false, not, cond, List, [], ◌∷◌, length, ℤ, pos, ◌+ℤ◌, refl, sym, ap, ◌∙◌, subst, inl, inr, arith, true≢false}
+use Rattle.std.proofs.Common.{◌≡◌, ◌≤◌, Bool, true, false, not, cond, [], ◌∷◌, length, ℤ, pos, ◌+ℤ◌, refl, sym, ap, ◌∙◌, subst, inl, inr, arith}
 use Rattle.std.specs.Prelude.{Option, Some, None}
 use Rattle.std.specs.Option.{unwrap_or}
 use Rattle.std.specs.Cmp.{IsEquivalence}
@@ -89,7 +89,6 @@ module _ {L : Type 0} {eq : L → L → Bool} (laws : IsEquivalence eq) (same : 
     total-at [] distinct = sym (empty k)
     total-at (t ∷ terms) distinct = by (eq k t.0) refl (total-at terms (IsDistinct-tail eq t.0 (keys_of terms) distinct))
       where
-
         by : (b : Bool) → eq k t.0 ≡ b → total (λ (u : L × Fraction). f u.0 (ratio u.1)) (select (λ (u : L × Fraction). eq k u.0) terms) ≡ f k (coefficient eq terms k) → total (λ (u : L × Fraction). f u.0 (ratio u.1)) (cond b (t ∷ select (λ (u : L × Fraction). eq k u.0) terms) (select (λ (u : L × Fraction). eq k u.0) terms)) ≡ f k (ratio (unwrap_or (cond b (Some t.1) (lookup (eq k) terms)) (pos 0, 1)))
         by true p h =
             let none : select (λ (u : L × Fraction). eq k u.0) terms ≡ [] = select_none k terms (lookup-none (eq k) terms (none_past_head laws k t terms distinct p)) in

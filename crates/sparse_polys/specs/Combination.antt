@@ -1,6 +1,6 @@
 -- Finite linear combinations of labels, as lists of terms: which coefficient a label has, and when a list is
 -- one of them.
-use Rattle.std.specs.Prelude.{◌≡◌, ℕ, ℤ, pos, Bool, ◌&&◌, List, map, if◌then◌else◌, IsTrue}
+use Rattle.std.specs.Prelude.{◌≡◌, pos, Bool, ◌&&◌, List, map, if◌then◌else◌, IsTrue}
 use Rattle.std.specs.List.{IsDistinct}
 use Rattle.std.specs.Map.{lookup, keys_of}
 use Rattle.std.specs.Option.{unwrap_or}

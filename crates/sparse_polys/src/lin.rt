@@ -79,10 +79,7 @@ impl<L: Label, R: Scalar> Lin<L, R> {
         ensures combination { IsCombination L.eq L.is_label self.new }
     {
         label.lies_in_limits();
-        let sum = self
-            .coefficient(&label)
-            .add(c)
-            .ok_or(SumFault::Large)?;
+        let sum = self.coefficient(&label).add(c).ok_or(SumFault::Large)?;
         if sum.is_zero() {
             self.table.swap_remove(&label);
         } else {
@@ -180,7 +177,10 @@ fn sort_labels<L: Label, R: Scalar>(table: &mut IndexMap<L, R>) -> Result<(), Al
 }
 
 // The pairs in the order of the table.
-fn pairs_of<L: Label, R: Scalar>(alloc: Global, table: IndexMap<L, R>) -> Result<Vec<(L, R)>, AllocError>
+fn pairs_of<L: Label, R: Scalar>(
+    alloc: Global,
+    table: IndexMap<L, R>,
+) -> Result<Vec<(L, R)>, AllocError>
     ensures { IfOk result (λ pairs. pairs.items ≡ table.entries) }
 {
     table.into_iter().collect(alloc)

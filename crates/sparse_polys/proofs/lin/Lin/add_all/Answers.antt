@@ -1,4 +1,4 @@
-use Rattle.std.proofs.Common.{◌≡◌, List, [], ◌∷◌, ◌++◌, map, pos, sym, ap, ◌∙◌, subst, refl, append_assoc, append-nil}
+use Rattle.std.proofs.Common.{◌≡◌, [], ◌∷◌, ◌++◌, map, pos, sym, ap, ◌∙◌, subst, refl, append_assoc}
 use Rattle.std.specs.Prelude.{None, Some, Err}
 use Rattle.std.specs.List.{IsDistinct}
 use Rattle.std.specs.Map.{lookup, keys_of}
@@ -6,7 +6,7 @@ use Rattle.std.specs.Map.Iter.{deref_pair}
 use Rattle.std.proofs.lemmas.List.{map-append}
 use Rattle.coeff_rings.specs.Ratio.{Ratio, whole, InLowestTerms}
 use Rattle.coeff_rings.specs.Proved.FractionLaws.{sum-zero}
-use Rattle.sparse_polys.specs.Combination.{coefficient, terms_of, IsCombination, IsSumOf, HasMoreAt}
+use Rattle.sparse_polys.specs.Combination.{coefficient, terms_of, IsSumOf, HasMoreAt}
 use Rattle.sparse_polys.specs.Refusal.{IsRefused}
 use Rattle.sparse_polys.proofs.Coefficients.{coefficient-terms_of, value_at}
 use Rattle.sparse_polys.proofs.Tables.{lowest-coefficient}

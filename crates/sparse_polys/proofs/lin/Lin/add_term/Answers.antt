@@ -1,9 +1,9 @@
-use Rattle.std.proofs.Common.{◌≡◌, ℕ, pos, Bool, true, false, ◌&&◌, sym, ap, ◌∙◌, subst}
+use Rattle.std.proofs.Common.{◌≡◌, pos, true, ◌&&◌, sym, ap, ◌∙◌, subst}
 use Rattle.std.specs.Prelude.{Some, None, IfSome}
 use Rattle.std.proofs.lemmas.Bool.{and_from}
 use Rattle.coeff_rings.specs.Ratio.{Ratio, ratio_sum, whole}
 use Rattle.sym_model.specs.Canonical.{is_reduced}
-use Rattle.sparse_polys.specs.Combination.{terms_of, coefficient, fraction, HasMoreAt, IsCombination}
+use Rattle.sparse_polys.specs.Combination.{terms_of, coefficient, fraction, HasMoreAt}
 use Rattle.sparse_polys.proofs.Coefficients.{value_at, is_reduced-lowest}
 use Rattle.sparse_polys.proofs.Tables.{IsCombination-put, IsCombination-taken, HasMoreAt-found}
 use Rattle.sparse_polys.proofs.lin.Lin.add_term.Goals as goal

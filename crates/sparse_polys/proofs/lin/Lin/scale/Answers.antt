@@ -1,26 +1,25 @@
-use Rattle.std.proofs.Common.{◌≡◌, List, [], ◌∷◌, ◌++◌, map, pos, sym, ap, ◌∙◌, subst, refl, append_assoc, inl, inr}
+use Rattle.std.proofs.Common.{◌≡◌, [], ◌∷◌, ◌++◌, sym, ap, ◌∙◌, subst, refl, append_assoc}
 use Rattle.std.specs.Prelude.{None, Some, Err, IfSome}
 use Rattle.std.specs.List.{IsDistinct}
 use Rattle.std.specs.Map.{lookup, keys_of}
-use Rattle.std.proofs.lemmas.List.{map-append}
-use Rattle.coeff_rings.specs.Ratio.{Ratio, whole, InLowestTerms, ratio_product}
+use Rattle.coeff_rings.specs.Ratio.{InLowestTerms, ratio_product}
 use Rattle.sym_model.specs.Sum.{Among}
-use Rattle.sym_model.specs.Expansion.{Fraction}
-use Rattle.sparse_polys.specs.Combination.{coefficient, fraction, ratio, terms_of, IsCombination, IsMultipleOf, HasMoreAt}
-use Rattle.sparse_polys.specs.Refusal.{IsRefused}
+use Rattle.sparse_polys.specs.Combination.{coefficient, fraction, terms_of, IsCombination}
 use Rattle.sparse_polys.proofs.Coefficients.{product-zero}
 use Rattle.sparse_polys.proofs.Steps.{absent_before, multiple-before, IsMultipleOf-next, products-next, fits-zero_left, error_is, among-next, all_done, IsCombination-empty}
 use Rattle.sparse_polys.proofs.lin.Lin.scale.Goals as goal
 
 pub loop-label-init : goal.loop-label-init
 loop-label-init g c =
-    let low : InLowestTerms (g.R.Scalar.value c.args.c) = g.met.R.Scalar.lowest c.args.c c.is_scalar.ensures in
-    ([], record {
-      is = subst (IsCombination g.L.PartialEq.eq g.L.Label.is_label) (sym c.new-scaled.ensures) (IsCombination-empty g.L.PartialEq.eq g.L.Label.is_label);
-      multiples = λ q. ap (λ terms. coefficient g.L.PartialEq.eq terms q) c.new-scaled.ensures ∙ sym (product-zero (g.R.Scalar.value c.args.c) low);
-      fits = λ t m. absurd m;
-      so_far = refl;
-    })
+    let low : InLowestTerms (g.R.Scalar.value c.args.c) = g.met.R.Scalar.lowest c.args.c c.is_scalar.ensures in (
+      [],
+      record {
+        is = subst (IsCombination g.L.PartialEq.eq g.L.Label.is_label) (sym c.new-scaled.ensures) (IsCombination-empty g.L.PartialEq.eq g.L.Label.is_label);
+        multiples = λ q. ap (λ terms. coefficient g.L.PartialEq.eq terms q) c.new-scaled.ensures ∙ sym (product-zero (g.R.Scalar.value c.args.c) low);
+        fits = λ t m. absurd m;
+        so_far = refl;
+      },
+    )
 
 pub loop-label-preserved : goal.loop-label-preserved
 loop-label-preserved g c =
@@ -48,13 +47,15 @@ loop-label-preserved g c =
     let is : value product ≡ ratio_product (value a) x =
     subst (λ o. IfSome o (λ s. value s ≡ ratio_product (value a) x)) c.in_ok-product.ensures.ok_part c.mul.ensures.answer.value in
     let answered : g.R.Ring.checked_product a c.args.c ≡ Some product = sym c.mul.ensures.product ∙ c.in_ok-product.ensures.ok_part in
-    let says = c.in_ok-add_term.ensures in
-    (done ++ (k, a) ∷ [], record {
-      is = says.combination;
-      multiples = IsMultipleOf-next laws same value done k a none x (value product) cur new low (g.met.R.Scalar.lowest product held) is inv.multiples says.ok;
-      fits = products-next g.met.R.Scalar.same_value done k a c.args.c product answered inv.fits;
-      so_far = append_assoc done ((k, a) ∷ []) rest ∙ so_far;
-    })
+    let says = c.in_ok-add_term.ensures in (
+      done ++ (k, a) ∷ [],
+      record {
+        is = says.combination;
+        multiples = IsMultipleOf-next laws same value done k a none x (value product) cur new low (g.met.R.Scalar.lowest product held) is inv.multiples says.ok;
+        fits = products-next g.met.R.Scalar.same_value done k a c.args.c product answered inv.fits;
+        so_far = append_assoc done ((k, a) ∷ []) rest ∙ so_far;
+      },
+    )
 
 pub returns-in_err-product-clause-large : goal.returns-in_err-product-clause-large
 returns-in_err-product-clause-large g c =
@@ -67,15 +68,19 @@ returns-in_err-product-clause-large g c =
     ap (λ es. done ++ es) (sym c.in-Some.ensures.steps) ∙ c.loop-label.invariant.1.so_far ∙ c.into_iter-label-iterator.ensures.into_iter_gives.0 in
     let among : Among (k, fraction (value a)) c.args.self =
     subst (Among (k, fraction (value a))) (ap (terms_of value) all ∙ c.self.view_is) (among-next value done k a rest) in
-    λ large. ((k, fraction (value a)), among, record {
-      left = a;
-      right = c.args.c;
-      left_held = c.mul.ensures.held.0;
-      right_held = c.mul.ensures.held.1;
-      left_value = refl;
-      right_value = refl;
-      refused = sym c.mul.ensures.product ∙ c.in_err-product.ensures.ok_part;
-    })
+    λ large. (
+      (k, fraction (value a)),
+      among,
+      record {
+        left = a;
+        right = c.args.c;
+        left_held = c.mul.ensures.held.0;
+        right_held = c.mul.ensures.held.1;
+        left_value = refl;
+        right_value = refl;
+        refused = sym c.mul.ensures.product ∙ c.in_err-product.ensures.ok_part;
+      },
+    )
 
 pub returns-in_err-add_term-clause-large : goal.returns-in_err-add_term-clause-large
 returns-in_err-add_term-clause-large g c =
