@@ -8,3 +8,4 @@ pub mod BuildFacts
 pub mod BuildRuns
 pub mod JudgeFacts
 pub mod WordsFacts
+pub mod ReadingFacts

@@ -1,8 +1,8 @@
 -- What the words of a command are read as (this project's own).
-use Rattle.std.specs.Prelude.{◌≡◌, ℕ, List, map, Option, Some, None, Result, Ok, Err, string_bytes}
+use Rattle.std.specs.Prelude.{◌≡◌, ℕ, List, Option, Some, None, Result, Ok, Err, ◌⊎◌}
 use Rattle.sym_model.specs.Expansion.{Basis, monomials}
 use Rattle.sym_model.specs.Words.{Phrase, SpellsPhrase, tree, Command as PlainCommand, expand}
-use Rattle.sym_model.specs.Offence.{Kind, literal, range, shape, first_of, offences, HasFirstOffence, SpellsWithoutOffence, IsSyntaxPlace}
+use Rattle.sym_model.specs.Offence.{Kind, literal, range, shape, Offence, first_of, offences, HasFirstOffence, SpellsWithoutOffence, IsSyntaxPlace}
 use Rattle.calc_base.specs.declared.words.WordsFault.{WordsFault}
 use Rattle.calc_base.specs.declared.words.WordsFault.TheVariants.{Syntax, Literal, Range, Shape, NoMemory}
 use Rattle.calc_language.specs.declared.words.Command.{Command}
@@ -42,3 +42,18 @@ IsFaultOf o (Literal at) = (o ≡ (at.byte, literal)) × (at.word ≡ 2)
 IsFaultOf o (Range at) = (o ≡ (at.byte, range)) × (at.word ≡ 2)
 IsFaultOf o (Shape at) = (o ≡ (at.byte, shape)) × (at.word ≡ 2)
 IsFaultOf o _ = ⊥
+
+-- the command is accepted, but for want of memory
+abbrev pub Accepts : PlainCommand → Result Command WordsFault → Type 0
+Accepts c (Ok command) = command_of command ≡ c
+Accepts c (Err fault) = fault ≡ NoMemory
+
+-- the offence is refused, but for want of memory
+abbrev pub Refuses : Offence → Result Command WordsFault → Type 0
+Refuses o (Ok command) = ⊥
+Refuses o (Err fault) = IsFaultOf o fault ⊎ (fault ≡ NoMemory)
+
+-- words that go wrong at a place are refused there, but for want of memory
+abbrev pub GoesWrong : ℕ → ℕ → Result Command WordsFault → Type 0
+GoesWrong word byte (Ok command) = ⊥
+GoesWrong word byte (Err fault) = (fault ≡ Syntax (record { word = word; byte = byte })) ⊎ (fault ≡ NoMemory)

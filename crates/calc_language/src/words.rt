@@ -1,8 +1,10 @@
 // How the words of a command are read.
-ghost use Rattle.std.specs.Prelude.{◌≡◌, ◌↔◌, IsTrue, map, string_bytes};
+ghost use Rattle.std.specs.Prelude.{◌≡◌, ◌↔◌, ℕ, IsTrue, map, string_bytes};
 ghost use Rattle.calc_language.specs.Offences.{offence_in};
 ghost use Rattle.calc_language.specs.ScanSteps.{IsScanned};
-ghost use Rattle.calc_language.specs.Reading.{IsRead, IsJudged, IsFaultOf};
+ghost use Rattle.calc_language.specs.Reading.{IsRead, IsJudged, IsFaultOf, Accepts, Refuses, GoesWrong};
+ghost use Rattle.sym_model.specs.Words.{Command as PlainCommand};
+ghost use Rattle.sym_model.specs.Offence.{Offence as PlainOffence, SpellsWithoutOffence, HasFirstOffence, IsSyntaxPlace};
 
 use crate::builder::build;
 use crate::offence::{Kind, Offence, earlier};
@@ -93,6 +95,22 @@ fn is_word(word: &String, name: &str) -> bool
 /// as `Range` a parenthesis that opens depth 65, the 65th number of an atom, byte 4,096 of a longer word, and a degree past
 /// 20 at the word's end; as `Shape` a number of an atom that is greater than the one before it, and a denominator 0.
 pub fn read_words(alloc: Global, words: &[String]) -> Result<Command, WordsFault>
+    ensures read { IsRead (map string_bytes words.now) result }
+    ensures accepts {
+        (command : PlainCommand) → SpellsWithoutOffence (map string_bytes words.now) command → Accepts command result
+    }
+    ensures refuses {
+        (offence : PlainOffence) → HasFirstOffence (map string_bytes words.now) (Some offence) → Refuses offence result
+    }
+    ensures goes_wrong {
+        (word byte : ℕ) → IsSyntaxPlace (map string_bytes words.now) word byte → GoesWrong word byte result
+    }
+{
+    read(alloc, words)
+}
+
+// The words as they are read: what follows for each command and offence, the public call says.
+fn read(alloc: Global, words: &[String]) -> Result<Command, WordsFault>
     ensures { IsRead (map string_bytes words.now) result }
 {
     let Some((command, words)) = words.split_first() else {
