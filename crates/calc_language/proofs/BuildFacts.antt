@@ -1,8 +1,7 @@
 -- What the reader builds, tied to the phrase that is read.
-use Rattle.std.proofs.Common.{◌≡◌, ℕ, zero, suc, ◌+◌, ◌-◌, ◌*◌, ◌<◌, ◌≤◌, List, [], ◌∷◌, ◌++◌, length, length-append, refl, sym, ap, ◌∙◌, subst, arith, None}
-use Rattle.sym_model.specs.Partition.{Falls, size, rows, without_last_zeros, in_front, IsPartition}
+use Rattle.std.proofs.Common.{◌≡◌, ℕ, zero, suc, ◌+◌, ◌*◌, ◌<◌, ◌≤◌, List, [], ◌∷◌, ◌++◌, length, refl, sym, ap, ◌∙◌, arith, None}
+use Rattle.sym_model.specs.Partition.{Falls, size, rows, without_last_zeros, in_front}
 use Rattle.sym_model.specs.LeftToRight.{Opened, outermost, inside, BeforeTerm, no_term, BeforeFactor, no_factor, State, at, awaited, closed, opens, closes, join, Piece, found, after_factor, before_factor}
-use Rattle.partitions.proofs.Parts.{without_last_zeros-IsPartition}
 use Rattle.calc_language.specs.declared.builder.Frame.{Frame}
 use Rattle.calc_language.specs.Building.{Built, builds, terms_in, factors_in, opened_from, opened_in, AreAtMost, AreEntries}
 

@@ -1,21 +1,21 @@
 -- What is built of a word is the tree of the phrase that is read.
-use Rattle.std.proofs.Common.{◌≡◌, ℕ, zero, suc, ◌+◌, ◌-◌, ◌*◌, ◌^◌, ◌<◌, ◌≤◌, ◌==◌, nat_lt, nat_le, min, Bool, true, false, ◌||◌, ◌&&◌, cond, List, [], ◌∷◌, ◌++◌, length, length-append, map, take, drop, get_or, refl, sym, ap, ◌∙◌, subst, append_assoc, add-one, arith, Option, Some, None, option_map}
+use Rattle.std.proofs.Common.{◌≡◌, ℕ, ◌+◌, ◌^◌, ◌<◌, ◌≤◌, ◌==◌, nat_lt, Bool, true, false, cond, List, [], ◌∷◌, ◌++◌, length, map, take, drop, get_or, refl, sym, ap, ◌∙◌, subst, append_assoc, arith, Option, Some, None}
 use Rattle.std.specs.Prelude.{option_to_list}
-use Rattle.std.proofs.lemmas.List.{append-nil, map-append, take-append-drop}
+use Rattle.std.proofs.lemmas.List.{map-append, take-append-drop}
 use Rattle.std.proofs.lemmas.Bool.Decides.{nat_tests}
 use Rattle.sym_model.specs.Expansion.{Basis}
-use Rattle.sym_model.specs.Partition.{Falls, without_last_zeros}
-use Rattle.sym_model.specs.Expression.{Tree, number, fraction, atom}
+use Rattle.sym_model.specs.Partition.{Falls}
+use Rattle.sym_model.specs.Expression.{number, fraction}
 use Rattle.sym_model.specs.PrintedBlock.{decimal_value}
-use Rattle.sym_model.specs.Words.{Phrase, numeral, ratio, label, brackets, tree, SpellsPhrase}
-use Rattle.sym_model.specs.Offence.{Mark, value, denominator, entry, opening, marks, entry_marks, is_wide, rises}
+use Rattle.sym_model.specs.Words.{Phrase, numeral, ratio, tree}
+use Rattle.sym_model.specs.Offence.{Mark, value, denominator, entry, marks, entry_marks, is_wide, rises}
 use Rattle.sym_model.specs.LeftToRight.{Symbol, digit, plus_sign, minus_sign, star, slash, opens, closes, opens_list, closes_list, comma, letter_of, other, symbol, BeforeTerm, no_term, negating, adding, subtracting, BeforeFactor, no_factor, multiplying, Opened, outermost, inside, Piece, awaited, in_number, after_slash, in_denominator, after_letter, in_list, in_entry, closed, State, at, dead, step, start, phrases, found, is_live, after_factor, before_factor, in_list_step, join}
 use Rattle.sym_model.proofs.PhraseRuns.{Reading, read_on, read-append, found-spelled}
 use Rattle.sym_model.proofs.PhrasePrefixes.{commas, read-dead, symbol-codes}
 use Rattle.sym_model.proofs.PhraseMarks.{depth_of, term_begin, factor_begin, piece_begin, opened_marks, term_marks, factor_marks, piece_marks, state_marks, new_mark, last_value, marks-step, marks-found, MarksAre, entry_marks-next}
 use Rattle.calc_language.specs.Offences.{first_kind}
-use Rattle.calc_language.specs.ScanSteps.{capped, is_high, IsSoundDigit}
-use Rattle.calc_language.specs.Building.{Built, builds, AreAtMost, AreEntries, IsFine, IsMild, AreMild, IsBuildable}
+use Rattle.calc_language.specs.ScanSteps.{capped, IsSoundDigit}
+use Rattle.calc_language.specs.Building.{Built, builds, AreAtMost, AreEntries, IsFine, AreMild, IsBuildable}
 use Rattle.calc_language.proofs.ScanFacts.{IsByte, value-next, value-first}
 use Rattle.calc_language.proofs.ScanRuns.{read-more, sound-digit, byte-symbol, at-end}
 
@@ -106,9 +106,9 @@ entry-is : (k : ℕ) (before : Option ℕ) (n : ℕ) → first_kind (entry k bef
 entry-is k before n h =
     let rest = rest_none (is_wide n) _ _ h in
     record {
-        small = not_wide n (first_false (is_wide n) _ _ h);
-        few = first_false (k == 64) _ _ rest;
-        falls = first_false (rises before n) _ _ (rest_none (k == 64) _ _ rest);
+      small = not_wide n (first_false (is_wide n) _ _ h);
+      few = first_false (k == 64) _ _ rest;
+      falls = first_false (rises before n) _ _ (rest_none (k == 64) _ _ rest);
     }
 
 -- mild lists
@@ -128,7 +128,7 @@ mild-piece : (p : Piece Phrase (List ℕ)) (t : BeforeTerm Phrase) (f : BeforeFa
     → AreMild (state_marks (at p t f o)) → AreMild (piece_marks (depth_of o) (piece_begin t f o) p)
 mild-piece p t f o h =
     mild-right (factor_marks (depth_of o) (factor_begin t o) f) _
-        (mild-right (term_marks (depth_of o) (term_begin o) t) _ (mild-right (opened_marks o) _ h))
+    (mild-right (term_marks (depth_of o) (term_begin o) t) _ (mild-right (opened_marks o) _ h))
 
 -- the numbers of an atom's list whose marks are mild
 abbrev FallsFrom : Option ℕ → List ℕ → Type 0
@@ -160,9 +160,9 @@ entries-mild b k before (w ∷ ws) h =
     let is = entry-is k before (decimal_value w) h.0.0 in
     let rest = entries-mild (b + length w + 1) (k + 1) (Some (decimal_value w)) ws h.1 in
     record {
-        falls = falls-next before (decimal_value w) (map decimal_value ws) is.falls rest.falls;
-        few = λ l. omega (arith, rest.few (count-next k is.few l));
-        low = (not_high (decimal_value w) h.0.1, rest.low);
+      falls = falls-next before (decimal_value w) (map decimal_value ws) is.falls rest.falls;
+      few = λ l. omega (arith, rest.few (count-next k is.few l));
+      low = (not_high (decimal_value w) h.0.1, rest.low);
     }
 
 -- what is built after a byte, where the marks are mild
@@ -267,10 +267,10 @@ build-step (digit c) (in_entry basis ws ds) t f o b h =
     ap (λ n. at (in_entry basis (map decimal_value ws) n) (terms_state t) (factors_state f) (opened_state o)) (value-next ds c)
 build-step comma (in_entry basis ws ds) t f o b h =
     ap (λ ns. at (in_list basis ns) (terms_state t) (factors_state f) (opened_state o))
-        (entries-next ws ds (entry-value ws ds (new-mild (at (in_entry basis ws ds) t f o) comma h).0.0))
+    (entries-next ws ds (entry-value ws ds (new-mild (at (in_entry basis ws ds) t f o) comma h).0.0))
 build-step closes_list (in_entry basis ws ds) t f o b h =
     ap (λ ns. at (closed (builds.label_of basis ns)) (terms_state t) (factors_state f) (opened_state o))
-        (entries-next ws ds (entry-value ws ds (new-mild (at (in_entry basis ws ds) t f o) closes_list h).0.0))
+    (entries-next ws ds (entry-value ws ds (new-mild (at (in_entry basis ws ds) t f o) closes_list h).0.0))
 build-step _ (in_entry basis ws ds) t f o b h = refl
 build-step s (closed x) t f o b h = after_factor-state s x t f o
 
@@ -282,10 +282,10 @@ entries-fine : (basis : Basis) (ws : List (List ℕ)) (ds : List ℕ) (t : Befor
 entries-fine basis ws ds t f o h k =
     let b = piece_begin t f o + 2 in
     let all : AreMild (entry_marks b 0 None (ws ++ ds ∷ [])) =
-        subst AreMild (sym (entry_marks-next b ws ds)) (mild-both (entry_marks b 0 None ws) _ (mild-piece (in_entry basis ws ds) t f o h) k) in
+    subst AreMild (sym (entry_marks-next b ws ds)) (mild-both (entry_marks b 0 None ws) _ (mild-piece (in_entry basis ws ds) t f o h) k) in
     let entries = entries-mild b 0 None (ws ++ ds ∷ []) all in
     subst AreEntries (sym (entries-next ws ds (entry-value ws ds k.0.0)))
-        (record { falls = entries.falls; few = omega (arith, entries.few (omega arith)); low = entries.low })
+    (record { falls = entries.falls; few = omega (arith, entries.few (omega arith)); low = entries.low })
 
 pub fine : (s : Symbol) (p : Piece Phrase (List ℕ)) (t : BeforeTerm Phrase) (f : BeforeFactor Phrase) (o : Opened Phrase)
     → IsSoundDigit s → is_live (step phrases (at p t f o) s) ≡ true → Mild (at p t f o) s → IsFine (piece_state p) s
@@ -318,7 +318,7 @@ grows : (v : List ℕ) (x : Reading) (e : Phrase) → found phrases (read_on v x
 grows [] x e h = (option_to_list (new_mark x other), marks-found x e h)
 grows (b ∷ v) x e h =
     grows-step (state_marks x) (option_to_list (new_mark x (symbol b))) (step phrases x (symbol b)) v e (marks-step (symbol b) x) h
-        (grows v (step phrases x (symbol b)) e h)
+    (grows v (step phrases x (symbol b)) e h)
 
 live-finds : (v : List ℕ) (y : Reading) (e : Phrase) → found phrases (read_on v y) ≡ Some e → is_live y ≡ true
 live-finds v dead e h = dead-finds v e h
@@ -347,8 +347,8 @@ step-is w i h b =
     let rest = rest-found w i b.0 h (found-spelled w b.0 b.1) in
     let live = live-finds (drop (i + 1) w) (step phrases x s) b.0 rest in
     record {
-        live = live;
-        mild = mild-step _ (step phrases x s) b.0 live (marks-step s x) (grows (drop (i + 1) w) (step phrases x s) b.0 rest) b.2;
+      live = live;
+      mild = mild-step _ (step phrases x s) b.0 live (marks-step s x) (grows (drop (i + 1) w) (step phrases x s) b.0 rest) b.2;
     }
 
 part-fine : (s : Symbol) (x : Reading) (q : Piece Built ℕ) (t : BeforeTerm Built) (f : BeforeFactor Built) (o : Opened Built)
@@ -362,7 +362,7 @@ pub takes-fine : (w : List ℕ) (i : ℕ) (s : Symbol) (q : Piece Built ℕ) (t 
 takes-fine w i s q t f o h b e k =
     let is = step-is w i h b in
     subst (IsFine q) (sym e)
-        (part-fine (symbol (get_or w i 0)) (read_on (take i w) start) q t f o k (sound-digit (get_or w i 0)) is.live is.mild)
+    (part-fine (symbol (get_or w i 0)) (read_on (take i w) start) q t f o k (sound-digit (get_or w i 0)) is.live is.mild)
 
 state-step : (s : Symbol) (x : Reading) → IsByte s → is_live (step phrases x s) ≡ true → AreMild (state_marks x ++ option_to_list (new_mark x s))
     → step builds (tree_state x) s ≡ tree_state (step phrases x s)
@@ -387,7 +387,7 @@ dead-live (at p t f o) e h = cc
 pub no-fault : (w : List ℕ) (i : ℕ) → i < length w → IsBuildable w → tree_state (read_on (take (i + 1) w) start) ≡ dead → ⊥
 no-fault w i h b e =
     dead-live (step phrases (read_on (take i w) start) (symbol (get_or w i 0)))
-        (ap tree_state (sym (read-more w i (get_or w i 0) h refl)) ∙ e) (step-is w i h b).live
+    (ap tree_state (sym (read-more w i (get_or w i 0) h refl)) ∙ e) (step-is w i h b).live
 
 -- the whole word
 whole-mild : (w : List ℕ) (b : IsBuildable w) → AreMild (state_marks (read_on w start) ++ option_to_list (new_mark (read_on w start) other))

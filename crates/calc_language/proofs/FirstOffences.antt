@@ -1,10 +1,9 @@
 -- The first of the offences at marks in a row, and numbers that are kept only up to 2^127.
-use Rattle.std.proofs.Common.{◌≡◌, ℕ, zero, suc, ◌+◌, ◌-◌, ◌*◌, ◌^◌, ◌<◌, ◌≤◌, ◌==◌, nat_le, nat_lt, nat_eq, min, Bool, true, false, ◌&&◌, ◌||◌, cond, List, [], ◌∷◌, ◌++◌, length, refl, sym, ap, ◌∙◌, subst, append_assoc, arith, Option, Some, None, option_map, ◌⊎◌, inl, inr, ⊎_elim}
-use Rattle.std.proofs.lemmas.List.{append-nil}
+use Rattle.std.proofs.Common.{◌≡◌, ℕ, ◌+◌, ◌*◌, ◌^◌, ◌<◌, ◌≤◌, ◌==◌, nat_le, nat_lt, Bool, true, false, ◌&&◌, ◌||◌, cond, List, [], ◌∷◌, ◌++◌, refl, sym, ap, ◌∙◌, append_assoc, arith, Option, Some, None, option_map}
 use Rattle.std.proofs.Math.Bool.{or_assoc}
 use Rattle.std.proofs.lemmas.Bool.Decides.{nat_tests}
 use Rattle.sym_model.specs.Sum.{each}
-use Rattle.sym_model.specs.Offence.{Kind, literal, range, shape, Mark, value, denominator, entry, opening, is_wide, rises, is_offence, Offence, offence_at, offences_at, rank, comes_first, earlier, first_of}
+use Rattle.sym_model.specs.Offence.{Kind, literal, range, shape, Mark, value, denominator, entry, opening, is_wide, rises, is_offence, Offence, offences_at, rank, comes_first, earlier, first_of}
 use Rattle.calc_language.specs.Offences.{first_kind}
 use Rattle.calc_language.specs.ScanSteps.{capped, is_high, any_high, first_at}
 
@@ -53,7 +52,7 @@ first_of_three o p q false true h k =
 first_of_three o p q false false h k =
     ap (λ x. earlier (cond x (Some o) (Some p)) (Some q)) h ∙ ap (λ x. cond x (Some p) (Some q)) k
     ∙ sym (ap (λ x. earlier (Some o) (cond x (Some p) (Some q))) k
-        ∙ ap (λ x. cond x (Some o) (Some q)) (not_first-all o p q h k))
+    ∙ ap (λ x. cond x (Some o) (Some q)) (not_first-all o p q h k))
 
 first_of_two : (o p : Offence) (x : Bool) → earlier (cond x (Some o) (Some p)) None ≡ cond x (Some o) (Some p)
 first_of_two o p true = refl

@@ -1,16 +1,13 @@
 -- How fast factorials and the growth of a conversion grow, and when a product of three is past 128 bits.
-use Rattle.std.proofs.Common.{◌≡◌, ℕ, zero, suc, ◌+◌, ◌-◌, ◌*◌, ◌/◌, ◌^◌, ◌<◌, ◌≤◌, refl, sym, ap, ◌∙◌, subst, arith, add-one, inl, inr, ⊎_elim, ◌⊎◌, Option, Some, None, IsTrue}
-use Rattle.std.specs.Prelude.{MatchOption, SomeIff}
-use Rattle.std.proofs.Math.Nat.{mul-le-mul, mul-le-mul_left, mul_comm, pow-suc, pow-zero}
-use Rattle.calc_base.specs.declared.words.Weight.{Weight}
+use Rattle.std.proofs.Common.{◌≡◌, ℕ, zero, suc, ◌+◌, ◌*◌, ◌^◌, ◌<◌, ◌≤◌, refl, ap, ◌∙◌, arith, add-one, inl, inr, ⊎_elim, ◌⊎◌}
+use Rattle.std.proofs.Math.Nat.{mul-le-mul, pow-suc, pow-zero}
 use Rattle.sym_model.specs.Expansion.{Basis, monomials, elementaries, completes, power_sums, schurs}
 use Rattle.sym_model.specs.Expression.{Tree, denominator, degree}
 use Rattle.sym_model.specs.Weight.{numerator, factorial, growth, weight}
-use Rattle.calc_language.specs.declared.expr.Expr.{Expr}
 use Rattle.calc_base.specs.declared.words.Basis.{Basis as Letter}
-use Rattle.calc_base.specs.declared.words.Basis.TheVariants.{M, E, H, P, S}
-use Rattle.calc_language.specs.Trees.{basis_of, tree_of, has_no_signs}
-use Rattle.calc_language.proofs.WeightFacts.{positive, Positive, Wide, times-grows, times-positive}
+use Rattle.calc_base.specs.declared.words.Basis.TheVariants.{E, H, P}
+use Rattle.calc_language.specs.Trees.{basis_of}
+use Rattle.calc_language.proofs.WeightFacts.{Positive, Wide, times-grows, times-positive}
 
 pub pow-positive : (n k : ℕ) → 0 < n → 0 < n ^ k
 pow-positive n zero h = rw pow-zero (omega arith)
@@ -49,11 +46,19 @@ growth-with_factorial b (inr (inr e)) (suc d) = ap (λ x. growth x (suc d)) e
 -- where one number is too great, so is the product of all three
 pub wide-weight : (b : Basis) (e : Tree) → Positive e → Wide e → 2 ^ 127 ≤ weight b e
 wide-weight b e h (inl w) =
-    omega (arith, w, times-grows (numerator e) (denominator e) h.1,
-        times-grows (numerator e * denominator e) (growth b (degree e)) (growth-positive b (degree e)))
+    omega (
+      arith,
+      w,
+      times-grows (numerator e) (denominator e) h.1,
+      times-grows (numerator e * denominator e) (growth b (degree e)) (growth-positive b (degree e)),
+    )
 wide-weight b e h (inr w) =
-    omega (arith, w, times-grows (denominator e) (numerator e) h.0,
-        times-grows (numerator e * denominator e) (growth b (degree e)) (growth-positive b (degree e)))
+    omega (
+      arith,
+      w,
+      times-grows (denominator e) (numerator e) h.0,
+      times-grows (numerator e * denominator e) (growth b (degree e)) (growth-positive b (degree e)),
+    )
 
 pub high-weight : (b : Basis) (e : Tree) → Positive e → 2 ^ 127 ≤ growth b (degree e) → 2 ^ 127 ≤ weight b e
 high-weight b e h w =
@@ -68,5 +73,9 @@ pub growth-past : (target : Letter) → (target ≡ P) ⊎ ((target ≡ H) ⊎ (
     → ((2 * b) ^ k < 2 ^ 128 → ⊥) → growth (basis_of target) d < 2 ^ 128 → ⊥
 growth-past target h d b k e f past small =
     let letters = ⊎_elim (λ p. inl (ap basis_of p)) (⊎_elim (λ p. inr (inl (ap basis_of p))) (λ p. inr (inr (ap basis_of p)))) h in
-    past (rw (e, f) (omega (arith, small, growth-with_factorial (basis_of target) letters d,
-        times-grows ((2 * d) ^ d) (factorial d) (factorial-positive d))))
+    past (rw (e, f) (omega (
+      arith,
+      small,
+      growth-with_factorial (basis_of target) letters d,
+      times-grows ((2 * d) ^ d) (factorial d) (factorial-positive d),
+    )))

@@ -1,5 +1,5 @@
 -- What the offences of an expression's word come to.
-use Rattle.std.proofs.Common.{◌≡◌, ℕ, zero, suc, ◌+◌, ◌-◌, ◌*◌, ◌^◌, ◌<◌, ◌≤◌, ◌==◌, nat_lt, nat_le, max, Bool, true, false, ◌||◌, ◌&&◌, cond, List, [], ◌∷◌, ◌++◌, length, length-append, map, refl, sym, ap, ◌∙◌, subst, append_assoc, arith, Option, Some, None, option_map, ◌⊎◌, inl, inr, ⊎_elim}
+use Rattle.std.proofs.Common.{◌≡◌, ℕ, zero, suc, ◌+◌, ◌<◌, ◌≤◌, nat_lt, Bool, true, false, ◌||◌, cond, List, [], ◌∷◌, ◌++◌, length, length-append, map, refl, sym, ap, ◌∙◌, arith, Option, Some, None, option_map, ◌⊎◌, inl, inr, ⊎_elim}
 use Rattle.std.proofs.lemmas.Bool.Decides.{nat_tests}
 use Rattle.std.proofs.lemmas.Bool.{cases_lt}
 use Rattle.std.specs.Prelude.{codes, Err}
@@ -7,11 +7,11 @@ use Rattle.std.specs.Bool.{then_some}
 use Rattle.sym_model.specs.Sum.{each}
 use Rattle.sym_model.specs.Expansion.{Basis, monomials}
 use Rattle.sym_model.specs.Partition.{size, without_last_zeros, in_front}
-use Rattle.sym_model.specs.Expression.{Tree, degree, nesting}
+use Rattle.sym_model.specs.Expression.{degree, nesting}
 use Rattle.sym_model.specs.PrintedBlock.{decimal_value}
-use Rattle.sym_model.specs.PowerSumCommand.{IsNumberWord, AreNumberWords, comma_separated}
-use Rattle.sym_model.specs.Words.{Phrase, numeral, ratio, label, brackets, times, minus_first, plus, minus, Level, expression, term, factor, Is, tree, spelling, letter, SpellsPhrase}
-use Rattle.sym_model.specs.Offence.{Kind, literal, range, shape, Mark, marks, entry_marks, offences_at, offences_of_whole, offences, Offence, earlier, first_of, comes_first, rank}
+use Rattle.sym_model.specs.PowerSumCommand.{AreNumberWords, comma_separated}
+use Rattle.sym_model.specs.Words.{Phrase, numeral, ratio, label, brackets, times, minus_first, plus, minus, Level, expression, term, factor, Is, tree, spelling, SpellsPhrase}
+use Rattle.sym_model.specs.Offence.{Kind, range, Mark, marks, entry_marks, offences_at, offences_of_whole, offences, Offence, earlier, first_of, comes_first}
 use Rattle.calc_base.specs.declared.words.WordsFault.{WordsFault}
 use Rattle.calc_base.specs.declared.words.WordsFault.TheVariants.{Syntax, Literal, Range as FRange, Shape, NoMemory}
 use Rattle.calc_language.specs.declared.offence.Offence.{Offence as ReaderOffence}
@@ -21,8 +21,8 @@ use Rattle.calc_language.specs.declared.expr.Expr.{Expr}
 use Rattle.calc_language.specs.Trees.{tree_of, IsFormula}
 use Rattle.calc_language.specs.Reading.{IsJudged, IsFaultOf}
 use Rattle.calc_language.specs.Offences.{first_kind, offence_in}
-use Rattle.calc_language.specs.ScanSteps.{any_high, is_high, first_at}
-use Rattle.calc_language.specs.Building.{Built, built_of, IsMild, AreMild, IsBuildable}
+use Rattle.calc_language.specs.ScanSteps.{any_high, is_high}
+use Rattle.calc_language.specs.Building.{Built, built_of, AreMild}
 use Rattle.calc_language.proofs.ScanFacts.{letter-length}
 use Rattle.calc_language.proofs.FirstOffences.{earlier-assoc, first_of-append, first-append, first-one, any_high-append}
 
@@ -56,9 +56,10 @@ or_right false b h = h
 pub mild-from : (ms : List (ℕ × Mark)) → first_of (each offences_at ms) ≡ None → any_high ms ≡ false → AreMild ms
 mild-from [] h k = tt
 mild-from (m ∷ ms) h k =
-    let both = sym (first-append (m ∷ []) ms) ∙ h in
-    ((kind_none m.0 (first_kind m.1) (sym (first-one m) ∙ none_left _ _ both), or_left (is_high m.1) (any_high ms) k),
-        mild-from ms (none_right (first_of (each offences_at (m ∷ []))) _ both) (or_right (is_high m.1) (any_high ms) k))
+    let both = sym (first-append (m ∷ []) ms) ∙ h in (
+      (kind_none m.0 (first_kind m.1) (sym (first-one m) ∙ none_left _ _ both), or_left (is_high m.1) (any_high ms) k),
+      mild-from ms (none_right (first_of (each offences_at (m ∷ []))) _ both) (or_right (is_high m.1) (any_high ms) k),
+    )
 
 -- a high number makes a high degree
 or_true : (a b : Bool) → (a || b) ≡ true → (a ≡ true) ⊎ (b ≡ true)
@@ -78,9 +79,9 @@ high-entries b k before [] h = cc
 high-entries b k before (w ∷ ws) h =
     let sized = size-in_front (decimal_value w) (without_last_zeros (map decimal_value ws)) in
     ⊎_elim
-        (λ here. omega (arith, above (decimal_value w) here, sized))
-        (λ later. omega (arith, high-entries (b + length w + 1) (k + 1) (Some (decimal_value w)) ws later, sized))
-        (or_true (nat_lt 20 (decimal_value w)) _ h)
+    (λ here. omega (arith, above (decimal_value w) here, sized))
+    (λ later. omega (arith, high-entries (b + length w + 1) (k + 1) (Some (decimal_value w)) ws later, sized))
+    (or_true (nat_lt 20 (decimal_value w)) _ h)
 
 pub high-degree : (d b : ℕ) (e : Phrase) → any_high (marks d b e) ≡ true → 20 < degree (tree e)
 high-degree d b (numeral ds) h = cc
@@ -89,14 +90,14 @@ high-degree d b (label basis ws) h = high-entries (b + 2) 0 None ws h
 high-degree d b (brackets e) h = high-degree (d + 1) (b + 1) e h
 high-degree d b (times l r) h =
     ⊎_elim (λ x. omega (arith, high-degree d b l x)) (λ y. omega (arith, high-degree d (b + length (spelling l) + 1) r y))
-        (or_true _ _ (sym (any_high-append (marks d b l) (marks d (b + length (spelling l) + 1) r)) ∙ h))
+    (or_true _ _ (sym (any_high-append (marks d b l) (marks d (b + length (spelling l) + 1) r)) ∙ h))
 high-degree d b (minus_first e) h = high-degree d (b + 1) e h
 high-degree d b (plus l r) h =
     ⊎_elim (λ x. omega (arith, high-degree d b l x)) (λ y. omega (arith, high-degree d (b + length (spelling l) + 1) r y))
-        (or_true _ _ (sym (any_high-append (marks d b l) (marks d (b + length (spelling l) + 1) r)) ∙ h))
+    (or_true _ _ (sym (any_high-append (marks d b l) (marks d (b + length (spelling l) + 1) r)) ∙ h))
 high-degree d b (minus l r) h =
     ⊎_elim (λ x. omega (arith, high-degree d b l x)) (λ y. omega (arith, high-degree d (b + length (spelling l) + 1) r y))
-        (or_true _ _ (sym (any_high-append (marks d b l) (marks d (b + length (spelling l) + 1) r)) ∙ h))
+    (or_true _ _ (sym (any_high-append (marks d b l) (marks d (b + length (spelling l) + 1) r)) ∙ h))
 
 -- a phrase is no longer than it is nested
 pub nesting-within : (level : Level) (e : Phrase) → Is level e → nesting (tree e) ≤ length (spelling e)
@@ -136,10 +137,12 @@ entries-below b k before (w ∷ []) h = (omega (arith, h.0.nonempty), tt)
 entries-below b k before (w ∷ v ∷ ws) h =
     let rest = comma_separated (v ∷ ws) in
     let more : b + length w + 1 + length rest ≤ b + length (w ++ (codes "," ++ rest)) = simp length-append (omega arith) in
-    let first : b < b + length (w ++ (codes "," ++ rest)) = simp length-append (omega (arith, h.0.nonempty)) in
-    (first, below-more (b + length w + 1 + length rest) (b + length (w ++ (codes "," ++ rest)))
-        (entry_marks (b + length w + 1) (k + 1) (Some (decimal_value w)) (v ∷ ws)) more
-        (entries-below (b + length w + 1) (k + 1) (Some (decimal_value w)) (v ∷ ws) h.1))
+    let first : b < b + length (w ++ (codes "," ++ rest)) = simp length-append (omega (arith, h.0.nonempty)) in (
+      first,
+      below-more (b + length w + 1 + length rest) (b + length (w ++ (codes "," ++ rest)))
+          (entry_marks (b + length w + 1) (k + 1) (Some (decimal_value w)) (v ∷ ws)) more
+          (entries-below (b + length w + 1) (k + 1) (Some (decimal_value w)) (v ∷ ws) h.1),
+    )
 
 two-times : (d b : ℕ) (l r : Phrase) → AreBelow (b + length (spelling l)) (marks d b l) → AreBelow (b + length (spelling l) + 1 + length (spelling r)) (marks d (b + length (spelling l) + 1) r)
     → AreBelow (b + length (spelling (times l r))) (marks d b (times l r))
@@ -147,8 +150,8 @@ two-times d b l r h k =
     let left : b + length (spelling l) ≤ b + length (spelling l ++ (codes "*" ++ spelling r)) = simp length-append (omega arith) in
     let right : b + length (spelling l) + 1 + length (spelling r) ≤ b + length (spelling l ++ (codes "*" ++ spelling r)) = simp length-append (omega arith) in
     below-append (b + length (spelling l ++ (codes "*" ++ spelling r))) (marks d b l) (marks d (b + length (spelling l) + 1) r)
-        (below-more (b + length (spelling l)) _ (marks d b l) left h)
-        (below-more (b + length (spelling l) + 1 + length (spelling r)) _ (marks d (b + length (spelling l) + 1) r) right k)
+    (below-more (b + length (spelling l)) _ (marks d b l) left h)
+    (below-more (b + length (spelling l) + 1 + length (spelling r)) _ (marks d (b + length (spelling l) + 1) r) right k)
 
 two-plus : (d b : ℕ) (l r : Phrase) → AreBelow (b + length (spelling l)) (marks d b l) → AreBelow (b + length (spelling l) + 1 + length (spelling r)) (marks d (b + length (spelling l) + 1) r)
     → AreBelow (b + length (spelling (plus l r))) (marks d b (plus l r))
@@ -156,8 +159,8 @@ two-plus d b l r h k =
     let left : b + length (spelling l) ≤ b + length (spelling l ++ (codes "+" ++ spelling r)) = simp length-append (omega arith) in
     let right : b + length (spelling l) + 1 + length (spelling r) ≤ b + length (spelling l ++ (codes "+" ++ spelling r)) = simp length-append (omega arith) in
     below-append (b + length (spelling l ++ (codes "+" ++ spelling r))) (marks d b l) (marks d (b + length (spelling l) + 1) r)
-        (below-more (b + length (spelling l)) _ (marks d b l) left h)
-        (below-more (b + length (spelling l) + 1 + length (spelling r)) _ (marks d (b + length (spelling l) + 1) r) right k)
+    (below-more (b + length (spelling l)) _ (marks d b l) left h)
+    (below-more (b + length (spelling l) + 1 + length (spelling r)) _ (marks d (b + length (spelling l) + 1) r) right k)
 
 two-minus : (d b : ℕ) (l r : Phrase) → AreBelow (b + length (spelling l)) (marks d b l) → AreBelow (b + length (spelling l) + 1 + length (spelling r)) (marks d (b + length (spelling l) + 1) r)
     → AreBelow (b + length (spelling (minus l r))) (marks d b (minus l r))
@@ -165,8 +168,8 @@ two-minus d b l r h k =
     let left : b + length (spelling l) ≤ b + length (spelling l ++ (codes "-" ++ spelling r)) = simp length-append (omega arith) in
     let right : b + length (spelling l) + 1 + length (spelling r) ≤ b + length (spelling l ++ (codes "-" ++ spelling r)) = simp length-append (omega arith) in
     below-append (b + length (spelling l ++ (codes "-" ++ spelling r))) (marks d b l) (marks d (b + length (spelling l) + 1) r)
-        (below-more (b + length (spelling l)) _ (marks d b l) left h)
-        (below-more (b + length (spelling l) + 1 + length (spelling r)) _ (marks d (b + length (spelling l) + 1) r) right k)
+    (below-more (b + length (spelling l)) _ (marks d b l) left h)
+    (below-more (b + length (spelling l) + 1 + length (spelling r)) _ (marks d (b + length (spelling l) + 1) r) right k)
 
 label-below : (b : ℕ) (basis : Basis) (ws : List (List ℕ)) → b + 2 + length (comma_separated ws) ≤ b + length (spelling (label basis ws))
 label-below b basis ws = simp length-append (omega (arith, letter-length basis))
@@ -180,11 +183,12 @@ marks-below level d b (ratio n k) h =
     (simp length-append (omega (arith, h.0.nonempty)), (simp length-append (omega (arith, h.1.nonempty)), tt))
 marks-below level d b (label basis ws) h =
     below-more (b + 2 + length (comma_separated ws)) (b + length (spelling (label basis ws))) (entry_marks (b + 2) 0 None ws) (label-below b basis ws)
-        (entries-below (b + 2) 0 None ws h.1)
-marks-below level d b (brackets e) h =
-    (omega (arith, brackets-below b e),
-        below-more (b + 1 + length (spelling e)) (b + length (spelling (brackets e))) (marks (d + 1) (b + 1) e) (brackets-below b e)
-            (marks-below expression (d + 1) (b + 1) e h))
+    (entries-below (b + 2) 0 None ws h.1)
+marks-below level d b (brackets e) h = (
+  omega (arith, brackets-below b e),
+  below-more (b + 1 + length (spelling e)) (b + length (spelling (brackets e))) (marks (d + 1) (b + 1) e) (brackets-below b e)
+      (marks-below expression (d + 1) (b + 1) e h),
+)
 marks-below factor d b (times l r) h = absurd h
 marks-below term d b (times l r) h =
     two-times d b l r (marks-below term d b l h.0) (marks-below factor d (b + length (spelling l) + 1) r h.1)
@@ -221,9 +225,9 @@ first-below : (n : ℕ) (ms : List (ℕ × Mark)) (o : Offence) → AreBelow n m
 first-below n [] o h k = cc
 first-below n (m ∷ ms) o h k =
     ⊎_elim
-        (λ here. omega (arith, h.0, some_at m.0 (first_kind m.1) o (sym (first-one m) ∙ here)))
-        (λ later. first-below n ms o h.1 later)
-        (first_is (first_of (each offences_at (m ∷ []))) (first_of (each offences_at ms)) o (sym (first-append (m ∷ []) ms) ∙ k))
+    (λ here. omega (arith, h.0, some_at m.0 (first_kind m.1) o (sym (first-one m) ∙ here)))
+    (λ later. first-below n ms o h.1 later)
+    (first_is (first_of (each offences_at (m ∷ []))) (first_of (each offences_at ms)) o (sym (first-append (m ∷ []) ms) ∙ k))
 
 -- the offence of too many bytes
 abbrev pub long_offence : ℕ → Option Offence
@@ -243,7 +247,7 @@ all_offences : (e : Phrase) → first_of (offences monomials e)
 all_offences e =
     first_of-append (each offences_at (marks 0 0 e)) (offences_of_whole monomials e)
     ∙ ap (earlier (first_of (each offences_at (marks 0 0 e))))
-        (first_of_whole (nat_lt 4096 (length (spelling e))) (nat_lt 20 (degree (tree e))) (4096, range) (length (spelling e), range))
+    (first_of_whole (nat_lt 4096 (length (spelling e))) (nat_lt 20 (degree (tree e))) (4096, range) (length (spelling e), range))
     ∙ sym (earlier-assoc (first_of (each offences_at (marks 0 0 e))) (long_offence (length (spelling e))) _)
 
 long_is : (n : ℕ) (o : Offence) (b : Bool) → nat_lt 4096 n ≡ b → cond b (Some (4096, range)) None ≡ Some o → o.0 < n
@@ -264,10 +268,10 @@ pub judge-some : (e : Phrase) (o : Offence) → Is expression e → first_before
 judge-some e o a h =
     let n = length (spelling e) in
     let below : o.0 < n =
-        ⊎_elim
-            (λ mark. first-below n (marks 0 0 e) o (below-more (0 + n) n (marks 0 0 e) (omega arith) (marks-below expression 0 0 e a)) mark)
-            (λ long. long_is n o (nat_lt 4096 n) refl long)
-            (first_is (first_of (each offences_at (marks 0 0 e))) (long_offence n) o h) in
+    ⊎_elim
+    (λ mark. first-below n (marks 0 0 e) o (below-more (0 + n) n (marks 0 0 e) (omega arith) (marks-below expression 0 0 e a)) mark)
+    (λ long. long_is n o (nat_lt 4096 n) refl long)
+    (first_is (first_of (each offences_at (marks 0 0 e))) (long_offence n) o h) in
     all_offences e ∙ ap (λ f. earlier f (cond (nat_lt 20 (degree (tree e))) (Some (n, range)) None)) h
     ∙ first_stays o n (nat_lt 20 (degree (tree e))) below
 
@@ -310,7 +314,7 @@ pub kept-first : (w : List ℕ) (e : Phrase) (s : Scan) (l r : Option ReaderOffe
 kept-first w e s l r h f k m =
     m ∙ ap (λ x. earlier x (option_map offence_in l)) f
     ∙ ap (earlier (first_of (each offences_at (marks 0 0 e))))
-        (ap (option_map offence_in) k ∙ long_kept (nat_lt 4096 (length w)) ∙ ap (λ v. long_offence (length v)) h.spelled)
+    (ap (option_map offence_in) k ∙ long_kept (nat_lt 4096 (length w)) ∙ ap (λ v. long_offence (length v)) h.spelled)
 
 pub fault-judged : (w : List ℕ) (e : Phrase) (o : Offence) (f : WordsFault) → SpellsPhrase w e → first_of (offences monomials e) ≡ Some o → IsFaultOf o f → IsJudged w (Err f)
 fault-judged w e o (Literal at) h k l = (e, h, k ∙ ap Some l.0, l.1)
@@ -328,18 +332,18 @@ formula-is : (x : Expr) (e : Phrase) → built_of x ≡ (tree e, true) → Is ex
 formula-is x e b a h d =
     let t : tree_of x ≡ tree e = ap (λ (y : Built). y.0) b in
     record {
-        numbers = ap (λ (y : Built). y.1) b;
-        nested = omega (arith, ap nesting t, nesting-within expression e a, h);
-        low = omega (arith, ap degree t, d);
+      numbers = ap (λ (y : Built). y.1) b;
+      nested = omega (arith, ap nesting t, nesting-within expression e a, h);
+      low = omega (arith, ap degree t, d);
     }
 
 pub refused-judged : (w : List ℕ) (e : Phrase) (x : Expr) (f : WordsFault) → SpellsPhrase w e → first_before_degree e ≡ None → built_of x ≡ (tree e, true)
     → (IsFormula x → ⊥) → IsFaultOf (length w, range) f → IsJudged w (Err f)
 refused-judged w e x f h k b n l =
     ⊎_elim
-        (λ d. high-judged w e f h k d l)
-        (λ d. absurd (n (formula-is x e b h.allowed (short e k) d)))
-        (cases_lt 20 (degree (tree e)))
+    (λ d. high-judged w e f h k d l)
+    (λ d. absurd (n (formula-is x e b h.allowed (short e k) d)))
+    (cases_lt 20 (degree (tree e)))
 
 pub formula-judged : (w : List ℕ) (e : Phrase) (x : Expr) → SpellsPhrase w e → first_before_degree e ≡ None → built_of x ≡ (tree e, true) → IsFormula x
     → (first_of (offences monomials e) ≡ None) × (tree_of x ≡ tree e)

@@ -1,15 +1,14 @@
 -- Words are read in one way: a reading that is right is the only one.
-use Rattle.std.proofs.Common.{◌≡◌, ℕ, ◌<◌, ◌≤◌, List, [], ◌∷◌, length, take, refl, sym, ap, ◌∙◌, subst, arith, Option, Some, None, Result, Ok, Err, ◌⊎◌, inl, inr}
-use Rattle.std.specs.Prelude.{codes}
+use Rattle.std.proofs.Common.{◌≡◌, ℕ, List, [], ◌∷◌, refl, sym, ap, ◌∙◌, subst, arith, Option, Some, None, Result, Ok, Err, inl, inr}
 use Rattle.sym_model.specs.Expansion.{Basis, monomials, elementaries, completes, power_sums, schurs}
-use Rattle.sym_model.specs.Words.{Phrase, SpellsPhrase, tree, letter, IsTarget, AreExpandWords, Command as PlainCommand, expand, SpellsCommand}
-use Rattle.sym_model.specs.Offence.{Kind, literal, range, shape, Offence, offences, first_of, BeginsExpression, BeginsCommand, IsLongestPrefix, AwaitsExpression, IsSyntaxByte, IsSyntaxPlace, HasFirstOffence, SpellsWithoutOffence}
+use Rattle.sym_model.specs.Words.{SpellsPhrase, tree, IsTarget, Command as PlainCommand, expand, SpellsCommand}
+use Rattle.sym_model.specs.Offence.{Offence, offences, first_of, BeginsExpression, BeginsCommand, IsLongestPrefix, IsSyntaxByte, IsSyntaxPlace, HasFirstOffence, SpellsWithoutOffence}
 use Rattle.sym_model.proofs.PhraseRuns.{one_phrase}
 use Rattle.calc_base.specs.declared.words.Place.{Place}
 use Rattle.calc_base.specs.declared.words.WordsFault.{WordsFault}
 use Rattle.calc_base.specs.declared.words.WordsFault.TheVariants.{Syntax, Literal, Range, Shape, NoMemory}
 use Rattle.calc_language.specs.declared.words.Command.{Command}
-use Rattle.calc_language.specs.Reading.{command_of, IsRead, IsFaultOf, Accepts, Refuses, GoesWrong}
+use Rattle.calc_language.specs.Reading.{command_of, IsRead, Accepts, Refuses, GoesWrong}
 
 abbrev Words : Type 0
 Words = List (List ℕ)

@@ -1,24 +1,24 @@
 -- What the reader keeps of a word is what the phrase that has been read in part says.
-use Rattle.std.proofs.Common.{◌≡◌, ℕ, zero, suc, ◌+◌, ◌-◌, ◌*◌, ◌^◌, ◌<◌, ◌≤◌, ◌==◌, Bool, true, false, ◌||◌, ◌&&◌, cond, List, [], ◌∷◌, ◌++◌, length, length-append, take, refl, sym, ap, ◌∙◌, subst, append_assoc, add-one, arith, Option, Some, None, option_map, Result, Ok, Err, ◌⊎◌, inl, inr, IsTrue}
-use Rattle.std.specs.Prelude.{option_to_list, codes}
+use Rattle.std.proofs.Common.{◌≡◌, ℕ, ◌+◌, ◌-◌, ◌*◌, ◌<◌, ◌==◌, Bool, true, false, ◌||◌, cond, List, [], ◌∷◌, ◌++◌, length, length-append, refl, sym, ap, ◌∙◌, subst, add-one, arith, Option, Some, None, option_map}
+use Rattle.std.specs.Prelude.{option_to_list}
 use Rattle.std.proofs.lemmas.List.{append-nil}
 use Rattle.std.proofs.Math.Dec.{eqb-suc-zero}
 use Rattle.sym_model.specs.Sum.{each}
 use Rattle.sym_model.specs.Expansion.{Basis, monomials, elementaries, completes, power_sums, schurs}
 use Rattle.sym_model.specs.PrintedBlock.{decimal_value, value_from}
-use Rattle.sym_model.specs.Words.{Phrase, numeral, ratio, letter, SpellsPhrase, spelling}
-use Rattle.sym_model.specs.Offence.{Mark as PlainMark, value, denominator, entry, opening, marks, offences_at, Offence as PlainOffence, earlier, first_of, BeginsExpression, IsLongestPrefix}
-use Rattle.sym_model.specs.LeftToRight.{Symbol, digit, plus_sign, minus_sign, star, slash, opens, closes, opens_list, closes_list, comma, letter_of, other, symbol, BeforeTerm, no_term, negating, adding, subtracting, BeforeFactor, no_factor, multiplying, Opened, outermost, inside, Piece, awaited, in_number, after_slash, in_denominator, after_letter, in_list, in_entry, closed, State, at, dead, step, run, start, phrases, found, is_live, after_factor, before_factor, in_list_step}
-use Rattle.sym_model.proofs.PhraseRuns.{Reading, read_on, read-append}
-use Rattle.sym_model.proofs.PhrasePrefixes.{written, written_opened, written_term, written_factor, written_piece, commas, Sound, Continues}
-use Rattle.sym_model.proofs.PhraseMarks.{depth_of, piece_begin, factor_begin, term_begin, state_marks, piece_mark, new_mark, last_value, marks-step, marks-found, MarksAre}
+use Rattle.sym_model.specs.Words.{Phrase, numeral, ratio, letter}
+use Rattle.sym_model.specs.Offence.{Mark as PlainMark, opening, offences_at, earlier, first_of}
+use Rattle.sym_model.specs.LeftToRight.{Symbol, digit, plus_sign, minus_sign, star, slash, opens, closes, opens_list, closes_list, comma, letter_of, BeforeTerm, no_term, negating, adding, subtracting, BeforeFactor, no_factor, multiplying, Opened, outermost, inside, Piece, awaited, in_number, after_slash, in_denominator, after_letter, in_list, in_entry, closed, at, dead, step, phrases, found, is_live, after_factor, before_factor, in_list_step}
+use Rattle.sym_model.proofs.PhraseRuns.{Reading}
+use Rattle.sym_model.proofs.PhrasePrefixes.{written, commas}
+use Rattle.sym_model.proofs.PhraseMarks.{depth_of, piece_begin, piece_mark, new_mark, last_value}
 use Rattle.calc_language.specs.declared.offence.Before.{Before}
 use Rattle.calc_language.specs.declared.offence.Mark.{Mark}
 use Rattle.calc_language.specs.declared.scan.Scan.{Scan}
 use Rattle.calc_language.specs.declared.scan.Mode.{Mode}
 use Rattle.calc_language.specs.declared.scan.Mode.TheVariants.{Start, Operand, Number, Slash, Denominator, Letter, List as Listing, Entry, Whole}
-use Rattle.calc_language.specs.Offences.{offence_in, mark_in, first_kind}
-use Rattle.calc_language.specs.ScanSteps.{capped, IsSoundDigit, HasRoom, mode_after, mode_after_factor, mode_before_factor, depth_after, number_mark, mark_before, is_high, any_high, first_at, Sees, StepsTo, scan_start, IsScanned}
+use Rattle.calc_language.specs.Offences.{offence_in, mark_in}
+use Rattle.calc_language.specs.ScanSteps.{capped, mode_after, mode_after_factor, mode_before_factor, depth_after, number_mark, mark_before, is_high, any_high, first_at, Sees}
 use Rattle.calc_language.proofs.FirstOffences.{first-append, first-one, capped_mark, kind-capped, high-capped, any_high-append, capped-next}
 
 -- what is kept of the numbers of an atom's list
@@ -157,9 +157,11 @@ no_close w ws = ap (λ b. cond b (Some Whole) None) (eqb-suc-zero (length ws))
 
 agrees-list : (s : Symbol) (basis : Basis) (ws : List (List ℕ)) (t : BeforeTerm Phrase) (f : BeforeFactor Phrase) (o : Opened Phrase) → IsByte s
     → Agrees (mode_after (Listing (before_of ws)) (length (written (at (in_list basis ws) t f o))) s) (depth_after (depth_of o) s) (in_list_step phrases basis ws t f o s)
-agrees-list (digit c) basis ws t f o h =
-    (ap (λ x. Entry (before_of ws) x (c - 48)) (in_list-length basis ws t f o)
-    ∙ ap (Entry (before_of ws) (piece_begin t f o + 2 + length (commas ws))) (value-first c h), refl)
+agrees-list (digit c) basis ws t f o h = (
+  ap (λ x. Entry (before_of ws) x (c - 48)) (in_list-length basis ws t f o)
+      ∙ ap (Entry (before_of ws) (piece_begin t f o + 2 + length (commas ws))) (value-first c h),
+  refl,
+)
 agrees-list closes_list basis [] t f o h = (refl, refl)
 agrees-list closes_list basis (w ∷ ws) t f o h =
     subst (λ m. Agrees m (Some (depth_of o)) dead) (sym (no_close w ws)) refl
@@ -172,9 +174,11 @@ agrees s awaited t f o h = agrees-awaited s _ t f o (awaited-length t f o) h
 agrees (digit c) (in_number ds) t f o h = (ap (Number (piece_begin t f o)) (value-next ds c), refl)
 agrees slash (in_number ds) t f o h = (refl, refl)
 agrees s (in_number ds) t f o h = agrees-after_factor s (numeral ds) t f o
-agrees (digit c) (after_slash n) t f o h =
-    (ap (λ x. Denominator x (c - 48)) (after_slash-length n t f o)
-    ∙ ap (Denominator (piece_begin t f o + length n + 1)) (value-first c h), refl)
+agrees (digit c) (after_slash n) t f o h = (
+  ap (λ x. Denominator x (c - 48)) (after_slash-length n t f o)
+      ∙ ap (Denominator (piece_begin t f o + length n + 1)) (value-first c h),
+  refl,
+)
 agrees _ (after_slash n) t f o h = refl
 agrees (digit c) (in_denominator n ds) t f o h = (ap (Denominator (piece_begin t f o + length n + 1)) (value-next ds c), refl)
 agrees s (in_denominator n ds) t f o h = agrees-after_factor s (ratio n ds) t f o
@@ -256,9 +260,10 @@ finds-next s u None None ms e h k =
 finds-next s u None (Some m) ms e h k = cc
 finds-next s u (Some x) None ms e h k = cc
 finds-next s u (Some x) (Some m) ms e h k =
-    let parts = some-parts x m e in
-    (k.0 ∙ ap (λ o. earlier o (first_at (x.0, mark_in x.1))) h.0
-        ∙ ap (earlier (first_of (each offences_at ms))) (first-same x m e) ∙ sym (first-append ms (m ∷ [])),
-        k.1 ∙ ap (λ b. b || is_high (mark_in x.1)) h.1
-        ∙ ap (λ y. any_high ms || is_high y) parts.1 ∙ ap (λ b. any_high ms || b) (high-capped m.1 ∙ sym (or-false (is_high m.1)))
-        ∙ sym (any_high-append ms (m ∷ [])))
+    let parts = some-parts x m e in (
+      k.0 ∙ ap (λ o. earlier o (first_at (x.0, mark_in x.1))) h.0
+          ∙ ap (earlier (first_of (each offences_at ms))) (first-same x m e) ∙ sym (first-append ms (m ∷ [])),
+      k.1 ∙ ap (λ b. b || is_high (mark_in x.1)) h.1
+          ∙ ap (λ y. any_high ms || is_high y) parts.1 ∙ ap (λ b. any_high ms || b) (high-capped m.1 ∙ sym (or-false (is_high m.1)))
+          ∙ sym (any_high-append ms (m ∷ [])),
+    )

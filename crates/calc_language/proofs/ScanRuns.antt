@@ -1,17 +1,16 @@
 -- A word read to its end or to its first byte at fault.
-use Rattle.std.proofs.Common.{◌≡◌, ℕ, zero, suc, ◌+◌, ◌-◌, ◌*◌, ◌^◌, ◌<◌, ◌≤◌, ◌==◌, Bool, true, false, ◌||◌, ◌&&◌, cond, List, [], ◌∷◌, ◌++◌, length, length-append, take, drop, get_or, refl, sym, ap, ◌∙◌, subst, append_assoc, add-one, arith, Option, Some, None, option_map, Result, Ok, Err, ◌⊎◌, inl, inr, ⊎_elim, IsTrue}
-use Rattle.std.specs.Prelude.{option_to_list, codes, is_some}
+use Rattle.std.proofs.Common.{◌≡◌, ℕ, ◌+◌, ◌^◌, ◌<◌, ◌≤◌, ◌==◌, Bool, true, false, ◌&&◌, List, [], ◌∷◌, ◌++◌, length, length-append, take, drop, get_or, refl, sym, ap, ◌∙◌, subst, add-one, arith, Option, Some, None, option_map, Ok, Err, ◌⊎◌, inl, inr, ⊎_elim}
+use Rattle.std.specs.Prelude.{option_to_list, is_some}
 use Rattle.std.proofs.Math.Dec.{eqb-suc-zero}
-use Rattle.std.proofs.lemmas.List.{append-nil, take_more, length-take, take-append-drop, take-take}
+use Rattle.std.proofs.lemmas.List.{take_more, length-take, take-append-drop, take-take}
 use Rattle.std.proofs.Math.Seq.{take-length}
-use Rattle.std.proofs.lemmas.Bool.{cases_lt, false≢true}
-use Rattle.sym_model.specs.Sum.{each}
-use Rattle.sym_model.specs.Words.{Phrase, SpellsPhrase, spelling}
-use Rattle.sym_model.specs.Offence.{BeginsExpression, IsLongestPrefix, marks, offences_at, first_of}
-use Rattle.sym_model.specs.LeftToRight.{Symbol, digit, other, symbol, BeforeTerm, no_term, negating, adding, subtracting, BeforeFactor, no_factor, multiplying, Opened, outermost, inside, Piece, awaited, in_number, after_slash, in_denominator, after_letter, in_list, in_entry, closed, State, at, dead, step, start, phrases, found, is_live}
+use Rattle.std.proofs.lemmas.Bool.{cases_lt}
+use Rattle.sym_model.specs.Words.{Phrase, SpellsPhrase}
+use Rattle.sym_model.specs.Offence.{BeginsExpression, marks}
+use Rattle.sym_model.specs.LeftToRight.{Symbol, digit, other, symbol, BeforeTerm, no_term, negating, adding, subtracting, BeforeFactor, no_factor, multiplying, Opened, outermost, inside, Piece, awaited, in_number, after_slash, in_denominator, after_letter, in_list, in_entry, closed, at, dead, step, start, phrases, found, is_live}
 use Rattle.sym_model.proofs.PhraseRuns.{Reading, read_on, read-append, found-spelled}
-use Rattle.sym_model.proofs.PhrasePrefixes.{written, written_opened, commas, Sound, Continues, read-written, read-dead, symbol-codes, Codes, begins-from_live, live-from_begins, spells-from_found}
-use Rattle.sym_model.proofs.PhraseMarks.{depth_of, piece_begin, state_marks, new_mark, marks-step, marks-found, MarksAre}
+use Rattle.sym_model.proofs.PhrasePrefixes.{written, written_opened, commas, Continues, read-written, read-dead, symbol-codes, Codes, begins-from_live, live-from_begins, spells-from_found}
+use Rattle.sym_model.proofs.PhraseMarks.{depth_of, state_marks, new_mark, marks-step, marks-found, MarksAre}
 use Rattle.sym_model.specs.Expansion.{Basis}
 use Rattle.calc_language.specs.declared.scan.Scan.{Scan}
 use Rattle.calc_language.specs.declared.scan.Mode.{Mode}
@@ -57,18 +56,18 @@ agrees-kept : (s u : Scan) (k : ℕ) (y : Symbol) (p : Piece Phrase (List ℕ)) 
 agrees-kept s u k y p t f o h b keep steps =
     let z = step phrases (at p t f o) y in
     let modes : mode_after (mode_of p t f o) (length (written (at p t f o))) y ≡ Some u.mode =
-        ap (λ m. mode_after m (length (written (at p t f o))) y) (sym keep.0) ∙ ap (λ n. mode_after s.mode n y) h ∙ steps.0 in
+    ap (λ m. mode_after m (length (written (at p t f o))) y) (sym keep.0) ∙ ap (λ n. mode_after s.mode n y) h ∙ steps.0 in
     let depths : depth_after (depth_of o) y ≡ Some u.depth = ap (λ d. depth_after d y) (sym keep.1) ∙ steps.1 in
     subst (λ m. Agrees m (Some u.depth) z) modes
-        (subst (λ d. Agrees (mode_after (mode_of p t f o) (length (written (at p t f o))) y) d z) depths (agrees y p t f o b))
+    (subst (λ d. Agrees (mode_after (mode_of p t f o) (length (written (at p t f o))) y) d z) depths (agrees y p t f o b))
 
 same-kept : (s : Scan) (k : ℕ) (y : Symbol) (p : Piece Phrase (List ℕ)) (t : BeforeTerm Phrase) (f : BeforeFactor Phrase) (o : Opened Phrase)
     → length (written (at p t f o)) ≡ k → Keeps s (at p t f o) → is_live (step phrases (at p t f o) y) ≡ true
     → SameMark (mark_before s.mode s.depth k y) (new_mark (at p t f o) y)
 same-kept s k y p t f o h keep live =
     let m : mark_before s.mode s.depth k y ≡ mark_before (mode_of p t f o) (depth_of o) (length (written (at p t f o))) y =
-        ap (λ x. mark_before x s.depth k y) keep.0 ∙ ap (λ d. mark_before (mode_of p t f o) d k y) keep.1
-        ∙ ap (λ n. mark_before (mode_of p t f o) (depth_of o) n y) (sym h) in
+    ap (λ x. mark_before x s.depth k y) keep.0 ∙ ap (λ d. mark_before (mode_of p t f o) d k y) keep.1
+    ∙ ap (λ n. mark_before (mode_of p t f o) (depth_of o) n y) (sym h) in
     ap (option_map plain) m ∙ same-mark y p t f o live
 
 -- the steps of what is kept and of what has been read, after k bytes
@@ -81,10 +80,13 @@ stepped s u k y p t f o (at p' t' f' o') e h b keep steps =
     let agree = subst (λ x. Agrees (Some u.mode) (Some u.depth) x) e (agrees-kept s u k y p t f o h b keep steps) in
     let ms = state_marks (at p t f o) ++ option_to_list (new_mark (at p t f o) y) in
     let is : state_marks (at p' t' f' o') ≡ ms = subst (MarksAre ms) e (marks-step y (at p t f o)) in
-    let live : is_live (step phrases (at p t f o) y) ≡ true = ap is_live e in
-    (agree.0, agree.1, subst (Finds u) (sym is)
-        (finds-next s u (mark_before s.mode s.depth k y) (new_mark (at p t f o) y) (state_marks (at p t f o))
-            (same-kept s k y p t f o h keep live) keep.2 steps.2))
+    let live : is_live (step phrases (at p t f o) y) ≡ true = ap is_live e in (
+      agree.0,
+      agree.1,
+      subst (Finds u) (sym is)
+          (finds-next s u (mark_before s.mode s.depth k y) (new_mark (at p t f o) y) (state_marks (at p t f o))
+          (same-kept s k y p t f o h keep live) keep.2 steps.2),
+    )
 
 length-so_far : (w : List ℕ) (i : ℕ) (x : Reading) → i < length w → Continues (take i w) x → is_live x ≡ true → length (written x) ≡ i
 length-so_far w i dead h c l = cc
@@ -95,13 +97,13 @@ kept-step : (w : List ℕ) (i b : ℕ) (s u : Scan) (x : Reading) → i < length
 kept-step w i b s u dead h small c keep steps = absurd keep
 kept-step w i b s u (at p t f o) h small c keep steps =
     stepped s u i (symbol b) p t f o (step phrases (at p t f o) (symbol b)) refl
-        (length-so_far w i (at p t f o) h c refl) (byte-symbol b (symbol b) small (symbol-codes b)) keep steps
+    (length-so_far w i (at p t f o) h c refl) (byte-symbol b (symbol b) small (symbol-codes b)) keep steps
 
 pub keeps-step : (w : List ℕ) (i b : ℕ) (s u : Scan) → i < length w → b ≡ get_or w i 0 → b < 256 → Keeps s (read_on (take i w) start) → StepsTo s i (symbol b) (Some u)
     → Keeps u (read_on (take (i + 1) w) start)
 keeps-step w i b s u h e small keep steps =
     subst (Keeps u) (sym (read-more w i b h e))
-        (kept-step w i b s u (read_on (take i w) start) h small (written-so_far (take i w)) keep steps)
+    (kept-step w i b s u (read_on (take i w) start) h small (written-so_far (take i w)) keep steps)
 
 -- a byte at fault
 agrees-fault : (m : Option Mode) (d : Option ℕ) (z : Reading) → (m ≡ None) ⊎ (d ≡ None) → Agrees m d z → z ≡ dead
@@ -117,11 +119,11 @@ fault w i b s (at p t f o) h small c keep steps =
     let l = length-so_far w i (at p t f o) h c refl in
     let y = symbol b in
     agrees-fault (mode_after (mode_of p t f o) (length (written (at p t f o))) y) (depth_after (depth_of o) y) (step phrases (at p t f o) y)
-        (⊎_elim
-            (λ e. inl (ap (λ m. mode_after m (length (written (at p t f o))) y) (sym keep.0) ∙ ap (λ n. mode_after s.mode n y) l ∙ e))
-            (λ e. inr (ap (λ d. depth_after d y) (sym keep.1) ∙ e))
-            steps)
-        (agrees y p t f o (byte-symbol b y small (symbol-codes b)))
+    (⊎_elim
+    (λ e. inl (ap (λ m. mode_after m (length (written (at p t f o))) y) (sym keep.0) ∙ ap (λ n. mode_after s.mode n y) l ∙ e))
+    (λ e. inr (ap (λ d. depth_after d y) (sym keep.1) ∙ e))
+    steps)
+    (agrees y p t f o (byte-symbol b y small (symbol-codes b)))
 
 -- what is kept fits: no more parentheses and numbers than bytes
 depth-within : (o : Opened Phrase) → depth_of o ≤ length (written_opened o)
@@ -189,19 +191,20 @@ pub fault-scanned : (w : List ℕ) (i b : ℕ) (s : Scan) → i < length w → b
     → IsScanned w (Err i)
 fault-scanned w i b s h e small keep steps =
     let d : read_on (take (i + 1) w) start ≡ dead =
-        read-more w i b h e ∙ fault w i b s (read_on (take i w) start) h small (written-so_far (take i w)) keep steps in
+    read-more w i b h e ∙ fault w i b s (read_on (take i w) start) h small (written-so_far (take i w)) keep steps in
     let all : read_on w start ≡ dead =
-        ap (λ v. read_on v start) (sym (whole-take w)) ∙ dead-after w i (length w) d h (omega arith) in
-    ((λ phrase k. none-spelled w phrase all k),
-        record {
-            within = omega arith;
-            begins = begins-from_live (take i w) (live-kept s (read_on (take i w) start) keep);
-            longest = λ j k begins.
-                ⊎_elim
-                    (λ after. absurd (not_live (read_on (take j w) start) (dead-after w i j d after k) (live-from_begins (take j w) begins)))
-                    (λ before. before)
-                    (either i j);
-        })
+    ap (λ v. read_on v start) (sym (whole-take w)) ∙ dead-after w i (length w) d h (omega arith) in (
+      (λ phrase k. none-spelled w phrase all k),
+      record {
+        within = omega arith;
+        begins = begins-from_live (take i w) (live-kept s (read_on (take i w) start) keep);
+        longest = λ j k begins.
+            ⊎_elim
+            (λ after. absurd (not_live (read_on (take j w) start) (dead-after w i j d after k) (live-from_begins (take j w) begins)))
+            (λ before. before)
+            (either i j);
+      },
+    )
 
 -- an expression is there exactly where what is kept says so
 no_depth : (n : ℕ) → (n + 1 == 0) ≡ false
@@ -240,8 +243,8 @@ finds-whole : (s u : Scan) (x : Reading) (e : Phrase) → Keeps s x → found ph
 finds-whole s u dead e keep h sees = absurd keep
 finds-whole s u (at p t f o) e keep h sees =
     subst (Finds u) (sym (marks-found (at p t f o) e h))
-        (finds-next s u (number_mark s.mode) (new_mark (at p t f o) other) (state_marks (at p t f o))
-            (ap (λ m. option_map plain (number_mark m)) keep.0 ∙ piece-mark p t f o) keep.2 sees)
+    (finds-next s u (number_mark s.mode) (new_mark (at p t f o) other) (state_marks (at p t f o))
+    (ap (λ m. option_map plain (number_mark m)) keep.0 ∙ piece-mark p t f o) keep.2 sees)
 
 pub at-end : (w : List ℕ) (i : ℕ) → i ≡ length w → read_on (take i w) start ≡ read_on w start
 at-end w i h = ap (λ n. read_on (take n w) start) h ∙ ap (λ v. read_on v start) (take-length w)
@@ -260,10 +263,11 @@ no_phrase w phrase h k = let e = ap is_some (found-spelled w phrase k) in cc
 pub part-scanned : (w : List ℕ) (i : ℕ) (s : Scan) → i ≡ length w → Keeps s (read_on (take i w) start) → is_whole s ≡ false → IsScanned w (Err (length w))
 part-scanned w i s h keep open_end =
     let x = read_on w start in
-    let kept = subst (Keeps s) (at-end w i h) keep in
-    (λ phrase k. no_phrase w phrase (sym (kept-whole s x kept) ∙ open_end) k,
-        record {
-            within = omega arith;
-            begins = subst BeginsExpression (sym (take-length w)) (begins-from_live w (live-kept s x kept));
-            longest = λ j k begins. k;
-        })
+    let kept = subst (Keeps s) (at-end w i h) keep in (
+      λ phrase k. no_phrase w phrase (sym (kept-whole s x kept) ∙ open_end) k,
+      record {
+        within = omega arith;
+        begins = subst BeginsExpression (sym (take-length w)) (begins-from_live w (live-kept s x kept));
+        longest = λ j k begins. k;
+      },
+    )

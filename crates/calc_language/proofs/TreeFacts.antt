@@ -1,6 +1,6 @@
 -- What every expression has: a nesting of at least 1.
-use Rattle.std.proofs.Common.{ℕ, ◌+◌, ◌≤◌, ◌<◌, max, arith}
-use Rattle.sym_model.specs.Expression.{Tree, number, fraction, atom, negation, sum, difference, product, degree, nesting}
+use Rattle.std.proofs.Common.{◌≤◌, arith}
+use Rattle.sym_model.specs.Expression.{Tree, number, fraction, atom, negation, sum, difference, product, nesting}
 
 pub nesting-positive : (e : Tree) → 1 ≤ nesting e
 nesting-positive (number a) = omega arith

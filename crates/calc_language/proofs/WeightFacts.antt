@@ -1,13 +1,12 @@
 -- The numbers of a weight are positive, and no part of an expression has a greater one than the whole.
-use Rattle.std.proofs.Common.{◌≡◌, ℕ, zero, suc, ◌+◌, ◌-◌, ◌*◌, ◌/◌, ◌^◌, ◌<◌, ◌≤◌, ◌⊎◌, inl, inr, ⊎_elim, max, Bool, true, false, ◌&&◌, IsTrue, Option, None, refl, sym, ap, ◌∙◌, subst, arith, pos, ℤ, negsuc}
+use Rattle.std.proofs.Common.{◌≡◌, ℕ, zero, suc, ◌+◌, ◌*◌, ◌/◌, ◌^◌, ◌<◌, ◌≤◌, ◌⊎◌, inl, inr, max, Bool, ◌&&◌, IsTrue, Option, None, refl, sym, ap, ◌∙◌, subst, arith, pos, ℤ, negsuc}
 use Rattle.std.specs.Prelude.{nat_abs}
 use lib.Signed.{le_z, lt_z}
-
 use Rattle.std.proofs.lemmas.Bool.{and_parts, false≢true, ltb-true}
-use Rattle.std.proofs.Math.Nat.{div-mul_cancel, mul-div_cancel, mul-le-mul_left, mul-pos}
+use Rattle.std.proofs.Math.Nat.{div-mul_cancel, mul-div_cancel, mul-le-mul_left}
 use Rattle.calc_base.specs.declared.words.Weight.{Weight}
 use Rattle.sym_model.specs.Canonical.{gcd}
-use Rattle.sym_model.specs.Expression.{Tree, number, fraction, atom, negation, sum, difference, product, denominator, lcm}
+use Rattle.sym_model.specs.Expression.{Tree, sum, product, denominator, lcm}
 use Rattle.sym_model.specs.Weight.{numerator}
 use Rattle.sym_model.proofs.GreatestCommonDivisors.{IsGcd-gcd, gcd-positive}
 use Rattle.calc_language.specs.declared.expr.Expr.{Expr, Number, Fraction, Atom, Negation', Sum', Difference', Product'}
@@ -37,11 +36,11 @@ parts_of d k hd hk =
     let a = div-mul_cancel (gcd d k) (IsGcd-gcd d k).0 in
     let b = div-mul_cancel (gcd d k) (IsGcd-gcd d k).1 in
     record {
-        first = a;
-        second = b;
-        positive = gcd-positive d k hd;
-        first_positive = quotient-positive _ _ _ a hd;
-        second_positive = quotient-positive _ _ _ b hk;
+      first = a;
+      second = b;
+      positive = gcd-positive d k hd;
+      first_positive = quotient-positive _ _ _ a hd;
+      second_positive = quotient-positive _ _ _ b hk;
     }
 
 cross : (a b g d k : ℕ) → a * g ≡ d → b * g ≡ k → d * b ≡ a * k
@@ -112,9 +111,10 @@ JoinedPositive e f =
     (0 < joined (numerator e) (numerator f) (denominator e) (denominator f)) × (0 < lcm (denominator e) (denominator f))
 
 joined-positive : (e f : Tree) → Positive e → Positive f → JoinedPositive e f
-joined-positive e f h k =
-    (omega (arith, h.0, joined-at_least_first (numerator e) (numerator f) (denominator e) (denominator f) h.1 k.1),
-        omega (arith, h.1, lcm-at_least_first (denominator e) (denominator f) h.1 k.1))
+joined-positive e f h k = (
+  omega (arith, h.0, joined-at_least_first (numerator e) (numerator f) (denominator e) (denominator f) h.1 k.1),
+  omega (arith, h.1, lcm-at_least_first (denominator e) (denominator f) h.1 k.1),
+)
 
 -- an expression without signs has positive numbers
 pub positive : (e : Expr) → IsTrue (has_no_signs e) → Positive (tree_of e)
@@ -164,28 +164,28 @@ pub none-product_right : (answer : Option Weight) (l r : Expr) → Signless l r 
 none-product_right answer l r h e w =
     let s = one_of (has_no_signs l) (has_no_signs r) h in
     subst (λ a. IsWeighed a (numerator (product (tree_of l) (tree_of r))) (denominator (product (tree_of l) (tree_of r)))) (sym e)
-        (wide-product_right (tree_of l) (tree_of r) (positive l s.0) w)
+    (wide-product_right (tree_of l) (tree_of r) (positive l s.0) w)
 
 pub none-product_left : (answer : Option Weight) (l r : Expr) → Signless l r → answer ≡ None → Wide (tree_of l)
     → IsWeighed answer (numerator (product (tree_of l) (tree_of r))) (denominator (product (tree_of l) (tree_of r)))
 none-product_left answer l r h e w =
     let s = one_of (has_no_signs l) (has_no_signs r) h in
     subst (λ a. IsWeighed a (numerator (product (tree_of l) (tree_of r))) (denominator (product (tree_of l) (tree_of r)))) (sym e)
-        (wide-product_left (tree_of l) (tree_of r) (positive r s.1) w)
+    (wide-product_left (tree_of l) (tree_of r) (positive r s.1) w)
 
 pub none-joined_left : (answer : Option Weight) (l r : Expr) → Signless l r → answer ≡ None → Wide (tree_of l)
     → IsWeighed answer (numerator (sum (tree_of l) (tree_of r))) (denominator (sum (tree_of l) (tree_of r)))
 none-joined_left answer l r h e w =
     let s = one_of (has_no_signs l) (has_no_signs r) h in
     subst (λ a. IsWeighed a (numerator (sum (tree_of l) (tree_of r))) (denominator (sum (tree_of l) (tree_of r)))) (sym e)
-        (wide-joined_left (tree_of l) (tree_of r) (positive l s.0) (positive r s.1) w)
+    (wide-joined_left (tree_of l) (tree_of r) (positive l s.0) (positive r s.1) w)
 
 pub none-joined_right : (answer : Option Weight) (l r : Expr) → Signless l r → answer ≡ None → Wide (tree_of r)
     → IsWeighed answer (numerator (sum (tree_of l) (tree_of r))) (denominator (sum (tree_of l) (tree_of r)))
 none-joined_right answer l r h e w =
     let s = one_of (has_no_signs l) (has_no_signs r) h in
     subst (λ a. IsWeighed a (numerator (sum (tree_of l) (tree_of r))) (denominator (sum (tree_of l) (tree_of r)))) (sym e)
-        (wide-joined_right (tree_of l) (tree_of r) (positive l s.0) (positive r s.1) w)
+    (wide-joined_right (tree_of l) (tree_of r) (positive l s.0) (positive r s.1) w)
 
 -- a part that was weighed
 abbrev pub Gives : Expr → Weight → Type 0
@@ -204,4 +204,4 @@ some-joined answer l r v w h a b k =
     let s = one_of (has_no_signs l) (has_no_signs r) h in
     let same = joined-by_parts (numerator (tree_of l)) (numerator (tree_of r)) (denominator (tree_of l)) (denominator (tree_of r)) (positive l s.0).1 (positive r s.1).1 in
     subst (λ n. IsWeighed answer n (denominator (sum (tree_of l) (tree_of r)))) (sym same)
-        (rw (a.0, a.1, b.0, b.1) at k)
+    (rw (a.0, a.1, b.0, b.1) at k)

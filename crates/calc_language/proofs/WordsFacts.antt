@@ -1,12 +1,11 @@
 -- Where words go wrong, word by word, and what they are otherwise.
-use Rattle.std.proofs.Common.{◌≡◌, ℕ, zero, suc, ◌+◌, ◌<◌, ◌≤◌, Bool, List, [], ◌∷◌, ◌++◌, length, take, map, refl, sym, ap, ◌∙◌, subst, arith, Option, Some, None, Result, Ok, Err, inl, inr}
+use Rattle.std.proofs.Common.{◌≡◌, ℕ, zero, suc, ◌<◌, ◌≤◌, List, [], ◌∷◌, ◌++◌, length, take, map, refl, sym, ap, ◌∙◌, subst, arith, Option, None, Result, Ok, Err, inl, inr}
 use Rattle.std.specs.Prelude.{codes}
 use Rattle.std.proofs.lemmas.List.{append-nil}
 use Rattle.sym_model.specs.Expansion.{Basis, monomials, elementaries, completes, power_sums, schurs}
 use Rattle.sym_model.specs.Expression.{Tree, number}
-use Rattle.sym_model.specs.PrintedBlock.{decimal_value}
 use Rattle.sym_model.specs.Words.{Phrase, numeral, SpellsPhrase, SpellsTree, tree, letter, IsTarget, Command as PlainCommand, expand, SpellsCommand}
-use Rattle.sym_model.specs.Offence.{Kind, Offence, offences, first_of, BeginsExpression, BeginsCommand, IsLongestPrefix, AwaitsExpression, IsSyntaxByte, IsSyntaxPlace, HasFirstOffence, literal, range, shape}
+use Rattle.sym_model.specs.Offence.{Offence, offences, first_of, BeginsExpression, BeginsCommand, IsLongestPrefix, AwaitsExpression, IsSyntaxPlace, HasFirstOffence}
 use Rattle.calc_base.specs.declared.words.WordsFault.{WordsFault}
 use Rattle.calc_base.specs.declared.words.WordsFault.TheVariants.{Syntax, Literal, Range, Shape, NoMemory}
 use Rattle.calc_language.specs.declared.words.Command.{Command}
@@ -31,10 +30,10 @@ record CommandIs (words : Words) : Type 0 where
 
 command_is : (words : Words) (c : PlainCommand) → SpellsCommand words c → CommandIs words
 command_is words (expand t e) h = record {
-    word = h.0;
-    e = e;
-    words_are = h.1.1 ∙ ap (λ l. codes "expand" ∷ l ∷ h.0 ∷ []) (letter-target t h.1.0);
-    spelled = h.2;
+  word = h.0;
+  e = e;
+  words_are = h.1.1 ∙ ap (λ l. codes "expand" ∷ l ∷ h.0 ∷ []) (letter-target t h.1.0);
+  spelled = h.2;
 }
 
 begins_is : (words : Words) → BeginsCommand words → (rest : Words) × CommandIs (words ++ rest)
@@ -79,16 +78,16 @@ awaits_two words h = ap length h.2
 
 pub place-empty : IsSyntaxPlace [] 0 0
 place-empty = record {
-    no_command = λ c h. let w = (command_is [] c h).words_are in cc;
-    word_is = record { within = omega arith; begins = begins_none; longest = λ j k b. k };
-    byte_is = inr ((λ h. absurd (omega (arith, awaits_two [] h.0))), refl);
+  no_command = λ c h. let w = (command_is [] c h).words_are in cc;
+  word_is = record { within = omega arith; begins = begins_none; longest = λ j k b. k };
+  byte_is = inr ((λ h. absurd (omega (arith, awaits_two [] h.0))), refl);
 }
 
 pub place-first : (x : List ℕ) (xs : Words) → (x ≡ codes "expand" → ⊥) → IsSyntaxPlace (x ∷ xs) 0 0
 place-first x xs n = record {
-    no_command = λ c h. n (first_word x xs (begins_all (x ∷ xs) c h));
-    word_is = record { within = omega arith; begins = begins_none; longest = longest };
-    byte_is = inr ((λ h. absurd (omega (arith, awaits_two [] h.0))), refl);
+  no_command = λ c h. n (first_word x xs (begins_all (x ∷ xs) c h));
+  word_is = record { within = omega arith; begins = begins_none; longest = longest };
+  byte_is = inr ((λ h. absurd (omega (arith, awaits_two [] h.0))), refl);
 }
   where
     longest : (j : ℕ) → j ≤ length (x ∷ xs) → BeginsCommand (take j (x ∷ xs)) → j ≤ 0
@@ -97,16 +96,16 @@ place-first x xs n = record {
 
 pub place-one : IsSyntaxPlace (codes "expand" ∷ []) 1 0
 place-one = record {
-    no_command = λ c h. let w = (command_is (codes "expand" ∷ []) c h).words_are in cc;
-    word_is = record { within = omega arith; begins = begins_one; longest = λ j k b. k };
-    byte_is = inr ((λ h. absurd (omega (arith, awaits_two (codes "expand" ∷ []) h.0))), refl);
+  no_command = λ c h. let w = (command_is (codes "expand" ∷ []) c h).words_are in cc;
+  word_is = record { within = omega arith; begins = begins_one; longest = λ j k b. k };
+  byte_is = inr ((λ h. absurd (omega (arith, awaits_two (codes "expand" ∷ []) h.0))), refl);
 }
 
 pub place-second : (y : List ℕ) (xs : Words) → (y ≡ codes "m" → ⊥) → IsSyntaxPlace (codes "expand" ∷ y ∷ xs) 1 0
 place-second y xs n = record {
-    no_command = λ c h. n (second_word (codes "expand") y xs (begins_all (codes "expand" ∷ y ∷ xs) c h));
-    word_is = record { within = omega arith; begins = begins_one; longest = longest };
-    byte_is = inr ((λ h. absurd (omega (arith, awaits_two (codes "expand" ∷ []) h.0))), refl);
+  no_command = λ c h. n (second_word (codes "expand") y xs (begins_all (codes "expand" ∷ y ∷ xs) c h));
+  word_is = record { within = omega arith; begins = begins_one; longest = longest };
+  byte_is = inr ((λ h. absurd (omega (arith, awaits_two (codes "expand" ∷ []) h.0))), refl);
 }
   where
     longest : (j : ℕ) → j ≤ length (codes "expand" ∷ y ∷ xs) → BeginsCommand (take j (codes "expand" ∷ y ∷ xs)) → j ≤ 1
@@ -116,9 +115,9 @@ place-second y xs n = record {
 
 pub place-two : IsSyntaxPlace (codes "expand" ∷ codes "m" ∷ []) 2 0
 place-two = record {
-    no_command = λ c h. let w = (command_is (codes "expand" ∷ codes "m" ∷ []) c h).words_are in cc;
-    word_is = record { within = omega arith; begins = begins_two; longest = λ j k b. k };
-    byte_is = inr ((λ h. absurd (omega (arith, h.1))), refl);
+  no_command = λ c h. let w = (command_is (codes "expand" ∷ codes "m" ∷ []) c h).words_are in cc;
+  word_is = record { within = omega arith; begins = begins_two; longest = λ j k b. k };
+  byte_is = inr ((λ h. absurd (omega (arith, h.1))), refl);
 }
 
 no_tree : (z : List ℕ) → ((e : Phrase) → SpellsPhrase z e → ⊥) → (e : Tree) → SpellsTree z e → ⊥
@@ -127,9 +126,9 @@ no_tree z n e h = n h.0 h.1
 pub place-word : (z : List ℕ) (xs : Words) (byte : ℕ) → ((e : Phrase) → SpellsPhrase z e → ⊥) → IsLongestPrefix BeginsExpression z byte
     → IsSyntaxPlace (codes "expand" ∷ codes "m" ∷ z ∷ xs) 2 byte
 place-word z xs byte n p = record {
-    no_command = λ c h. let t = third_word (codes "expand") (codes "m") z xs (begins_all (codes "expand" ∷ codes "m" ∷ z ∷ xs) c h) in no_tree z n t.0 t.1;
-    word_is = record { within = omega arith; begins = begins_two; longest = longest };
-    byte_is = inl ((monomials, tt, refl), omega arith, p);
+  no_command = λ c h. let t = third_word (codes "expand") (codes "m") z xs (begins_all (codes "expand" ∷ codes "m" ∷ z ∷ xs) c h) in no_tree z n t.0 t.1;
+  word_is = record { within = omega arith; begins = begins_two; longest = longest };
+  byte_is = inl ((monomials, tt, refl), omega arith, p);
 }
   where
     longest : (j : ℕ) → j ≤ length (codes "expand" ∷ codes "m" ∷ z ∷ xs) → BeginsCommand (take j (codes "expand" ∷ codes "m" ∷ z ∷ xs)) → j ≤ 2
@@ -141,9 +140,9 @@ place-word z xs byte n p = record {
 
 pub place-fourth : (z v : List ℕ) (xs : Words) (e : Phrase) → SpellsPhrase z e → IsSyntaxPlace (codes "expand" ∷ codes "m" ∷ z ∷ v ∷ xs) 3 0
 place-fourth z v xs e s = record {
-    no_command = λ c h. no_fourth (codes "expand") (codes "m") z v xs (begins_all (codes "expand" ∷ codes "m" ∷ z ∷ v ∷ xs) c h);
-    word_is = record { within = omega arith; begins = begins_three z (tree e) (e, s, refl); longest = longest };
-    byte_is = inr ((λ h. absurd (omega (arith, awaits_two (codes "expand" ∷ codes "m" ∷ z ∷ []) h.0))), refl);
+  no_command = λ c h. no_fourth (codes "expand") (codes "m") z v xs (begins_all (codes "expand" ∷ codes "m" ∷ z ∷ v ∷ xs) c h);
+  word_is = record { within = omega arith; begins = begins_three z (tree e) (e, s, refl); longest = longest };
+  byte_is = inr ((λ h. absurd (omega (arith, awaits_two (codes "expand" ∷ codes "m" ∷ z ∷ []) h.0))), refl);
 }
   where
     longest : (j : ℕ) → j ≤ length (codes "expand" ∷ codes "m" ∷ z ∷ v ∷ xs) → BeginsCommand (take j (codes "expand" ∷ codes "m" ∷ z ∷ v ∷ xs)) → j ≤ 3
@@ -157,12 +156,12 @@ place-fourth z v xs e s = record {
 offends : (z : List ℕ) (e : Phrase) (first : Option Offence) → SpellsPhrase z e → first_of (offences monomials e) ≡ first
     → HasFirstOffence (codes "expand" ∷ codes "m" ∷ z ∷ []) first
 offends z e first s h = record {
-    target = monomials;
-    word = z;
-    phrase = e;
-    words_are = (tt, refl);
-    spelled = s;
-    first_is = sym h;
+  target = monomials;
+  word = z;
+  phrase = e;
+  words_are = (tt, refl);
+  spelled = s;
+  first_is = sym h;
 }
 
 accepted : (z : List ℕ) (e : Phrase) (c : PlainCommand) → SpellsPhrase z e → c ≡ expand monomials (tree e) → SpellsCommand (codes "expand" ∷ codes "m" ∷ z ∷ []) c

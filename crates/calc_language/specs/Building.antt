@@ -1,6 +1,5 @@
 -- What the reader builds of an expression: its tree, and whether no number in it has a sign (this project's own).
-use Rattle.std.specs.Prelude.{◌≡◌, ℕ, ◌+◌, ◌-◌, ◌*◌, ◌^◌, ◌<◌, ◌≤◌, nat_lt, nat_abs, Bool, true, false, ◌&&◌, List, [], ◌∷◌, ◌++◌, length, Option, Some, None}
-use Rattle.sym_model.specs.Expansion.{Basis}
+use Rattle.std.specs.Prelude.{◌≡◌, ℕ, ◌+◌, ◌-◌, ◌*◌, ◌^◌, ◌<◌, ◌≤◌, nat_lt, Bool, true, false, ◌&&◌, List, [], ◌∷◌, ◌++◌, length, Option, Some, None}
 use Rattle.sym_model.specs.Partition.{Falls, without_last_zeros}
 use Rattle.sym_model.specs.Expression.{Tree, number, fraction, atom, negation, sum, difference, product}
 use Rattle.sym_model.specs.LeftToRight.{Symbol, digit, BeforeTerm, no_term, negating, adding, subtracting, BeforeFactor, no_factor, multiplying, Opened, outermost, inside, Piece, awaited, in_number, after_slash, in_denominator, after_letter, in_list, in_entry, closed, State, at, dead, Makes}

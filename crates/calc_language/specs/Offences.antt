@@ -1,5 +1,5 @@
 -- The plain offences and marks that those of the reader stand for (this project's own).
-use Rattle.std.specs.Prelude.{ℕ, cond, Option, Some, None}
+use Rattle.std.specs.Prelude.{cond, Option, Some, None}
 use Rattle.sym_model.specs.Offence.{Kind as PlainKind, literal, range, shape, Mark as PlainMark, value, denominator, entry, opening, is_offence, Offence as PlainOffence}
 use Rattle.calc_language.specs.declared.offence.Kind.{Kind}
 use Rattle.calc_language.specs.declared.offence.Kind.TheVariants.{Literal, Range, Shape}

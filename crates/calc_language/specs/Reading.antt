@@ -1,6 +1,6 @@
 -- What the words of a command are read as (this project's own).
-use Rattle.std.specs.Prelude.{◌≡◌, ℕ, List, Option, Some, None, Result, Ok, Err, ◌⊎◌}
-use Rattle.sym_model.specs.Expansion.{Basis, monomials}
+use Rattle.std.specs.Prelude.{◌≡◌, ℕ, List, Some, None, Result, Ok, Err, ◌⊎◌}
+use Rattle.sym_model.specs.Expansion.{monomials}
 use Rattle.sym_model.specs.Words.{Phrase, SpellsPhrase, tree, Command as PlainCommand, expand}
 use Rattle.sym_model.specs.Offence.{Kind, literal, range, shape, Offence, first_of, offences, HasFirstOffence, SpellsWithoutOffence, IsSyntaxPlace}
 use Rattle.calc_base.specs.declared.words.WordsFault.{WordsFault}

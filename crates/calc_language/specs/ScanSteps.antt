@@ -1,10 +1,9 @@
 -- What one byte changes of what the reader keeps of a word (this project's own).
-use Rattle.std.specs.Prelude.{◌≡◌, ℕ, zero, suc, ◌+◌, ◌-◌, ◌*◌, ◌^◌, ◌==◌, ◌≤◌, ◌<◌, nat_le, nat_lt, min, Bool, true, false, ◌||◌, ◌&&◌, cond, Option, Some, None, option_map, List, [], ◌∷◌, ◌⊎◌, Result, Ok, Err}
+use Rattle.std.specs.Prelude.{◌≡◌, ℕ, zero, suc, ◌+◌, ◌-◌, ◌*◌, ◌^◌, ◌==◌, ◌≤◌, ◌<◌, nat_lt, min, Bool, true, false, ◌||◌, ◌&&◌, cond, Option, Some, None, option_map, List, [], ◌∷◌, ◌⊎◌, Result, Ok, Err}
 use Rattle.sym_model.specs.Sum.{each}
 use Rattle.sym_model.specs.Words.{Phrase, SpellsPhrase}
 use Rattle.sym_model.specs.Offence.{marks, offences_at, first_of, BeginsExpression, IsLongestPrefix}
-use Rattle.sym_model.specs.LeftToRight.{Symbol, digit, plus_sign, minus_sign, star, slash, opens, closes, opens_list, closes_list, comma, letter_of, other}
-use Rattle.calc_language.specs.declared.offence.Before.{Before}
+use Rattle.sym_model.specs.LeftToRight.{Symbol, digit, plus_sign, minus_sign, star, slash, opens, closes, opens_list, closes_list, comma, letter_of}
 use Rattle.calc_language.specs.declared.offence.Mark.{Mark}
 use Rattle.calc_language.specs.declared.offence.Mark.TheVariants.{Value, Denominator as Zeroable, Entry as Listed, Opening}
 use Rattle.calc_language.specs.Offences.{offence_in, mark_in, first_kind}

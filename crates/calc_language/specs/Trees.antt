@@ -1,5 +1,5 @@
 -- The expression that an `Expr` stands for, and what a `Formula` holds (this project's own).
-use Rattle.std.specs.Prelude.{ℕ, ℤ, pos, ◌≤◌, nat_abs, List, Bool, true, ◌&&◌, IsTrue}
+use Rattle.std.specs.Prelude.{pos, ◌≤◌, nat_abs, Bool, true, ◌&&◌, IsTrue}
 use lib.Signed.{le_z, lt_z}
 use Rattle.calc_base.specs.declared.words.Basis.{Basis as Letter}
 use Rattle.calc_base.specs.declared.words.Basis.TheVariants.{M, E, H, P, S}

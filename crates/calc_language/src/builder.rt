@@ -64,7 +64,12 @@ fn expression_of(alloc: Global, before: LeadingTerms, term: Expr) -> Result<Expr
 }
 
 // The expression that a factor ends.
-fn joined(alloc: Global, terms: LeadingTerms, factors: LeadingFactors, factor: Expr) -> Result<Expr, NoMemory>
+fn joined(
+    alloc: Global,
+    terms: LeadingTerms,
+    factors: LeadingFactors,
+    factor: Expr,
+) -> Result<Expr, NoMemory>
     ensures { IfOk result (λ e. built_of e ≡ join builds (terms_in terms) (factors_in factors) (built_of factor)) }
 {
     expression_of(alloc, terms, term_of(alloc, factors, factor)?)
@@ -202,7 +207,11 @@ fn after_factor(
 }
 
 // After a byte where a factor is awaited; none where it is at fault.
-fn before_factor(frame: Frame, opened: Vec<Frame>, symbol: Symbol) -> Result<Option<Builder>, NoMemory>
+fn before_factor(
+    frame: Frame,
+    opened: Vec<Frame>,
+    symbol: Symbol,
+) -> Result<Option<Builder>, NoMemory>
     requires { IsSoundDigit (symbol_in symbol) }
     ensures { IfOk result (λ b. state_in b
         ≡ before_factor builds (terms_in frame.terms) (factors_in frame.factors) (opened_in opened.items) (symbol_in symbol)) }
@@ -338,7 +347,11 @@ impl Builder {
         requires fine { IsFine (part_in self.part) (symbol_in symbol) }
         ensures { IfOk result (λ b. state_in b ≡ step builds (state_of self) (symbol_in symbol)) }
     {
-        let Builder { part, frame, opened } = self;
+        let Builder {
+            part,
+            frame,
+            opened,
+        } = self;
         match part {
             Part::Awaited => before_factor(frame, opened, symbol),
             Part::Number(value) => after_number(alloc, value, frame, opened, symbol),
@@ -367,7 +380,9 @@ impl Builder {
                 _ => Ok(None),
             },
             Part::List(basis, numbers) => in_list(alloc, basis, numbers, frame, opened, symbol),
-            Part::Entry(basis, numbers, value) => in_entry(alloc, basis, numbers, value, frame, opened, symbol),
+            Part::Entry(basis, numbers, value) => in_entry(
+                alloc, basis, numbers, value, frame, opened, symbol,
+            ),
             Part::Closed(factor) => after_factor(alloc, factor, frame, opened, symbol),
         }
     }
@@ -377,14 +392,23 @@ impl Builder {
         requires { IsFine (part_in self.part) other }
         ensures { IfOk result (λ e. option_map built_of e ≡ found builds (state_of self)) }
     {
-        let Builder { part, frame, opened } = self;
+        let Builder {
+            part,
+            frame,
+            opened,
+        } = self;
         if !opened.is_empty() {
             return Ok(None);
         }
         let Frame { terms, factors } = frame;
         match part {
             Part::Number(value) => Ok(Some(joined(alloc, terms, factors, number(value))?)),
-            Part::Denominator(num, den) => Ok(Some(joined(alloc, terms, factors, fraction(num, den))?)),
+            Part::Denominator(num, den) => Ok(Some(joined(
+                alloc,
+                terms,
+                factors,
+                fraction(num, den),
+            )?)),
             Part::Closed(factor) => Ok(Some(joined(alloc, terms, factors, factor)?)),
             _ => Ok(None),
         }

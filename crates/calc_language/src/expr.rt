@@ -34,7 +34,9 @@ impl Expr {
             Expr::Fraction { num, den } => *num >= 0 && *den > 0,
             Expr::Atom { .. } => true,
             Expr::Negation { inner } => inner.is_plain_within(limit - 1),
-            Expr::Sum { left, right } | Expr::Difference { left, right } | Expr::Product { left, right } => {
+            Expr::Sum { left, right }
+            | Expr::Difference { left, right }
+            | Expr::Product { left, right } => {
                 left.is_plain_within(limit - 1) && right.is_plain_within(limit - 1)
             }
         }
@@ -51,7 +53,9 @@ impl Expr {
             Expr::Sum { left, right } | Expr::Difference { left, right } => {
                 left.capped_degree().max(right.capped_degree())
             }
-            Expr::Product { left, right } => (left.capped_degree() + right.capped_degree()).min(HIGH),
+            Expr::Product { left, right } => (left.capped_degree() + right.capped_degree()).min(
+                HIGH,
+            ),
         }
     }
 }

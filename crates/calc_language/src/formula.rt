@@ -5,8 +5,8 @@ ghost use Rattle.sym_model.specs.Weight.{numerator, weight};
 ghost use Rattle.calc_language.specs.Trees.{basis_of, tree_of, IsFormula};
 ghost use Rattle.calc_language.specs.Weights.{IsWeighed};
 
-use crate::weigh::checked_weight;
 use crate::Expr;
+use crate::weigh::checked_weight;
 use calc_base::{Basis, Weight};
 
 // The greatest nesting, and the greatest degree, of a formula.

@@ -14,3 +14,6 @@ pub use calc_base::{Basis, Weight};
 pub use expr::Expr;
 pub use formula::Formula;
 pub use words::{Command, read_words};
+
+#[cfg(test)]
+mod tests;

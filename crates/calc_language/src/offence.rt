@@ -55,7 +55,10 @@ pub(crate) fn kind_at(mark: Mark) -> Option<Kind>
             } else if before.count == 64 {
                 Some(Kind::Range)
             } else {
-                before.last.is_some_and(|last| last < value).then_some(Kind::Shape)
+                before
+                    .last
+                    .is_some_and(|last| last < value)
+                    .then_some(Kind::Shape)
             }
         }
         Mark::Opening { depth } => (depth == 65).then_some(Kind::Range),

@@ -16,12 +16,24 @@ const MAX_DEGREE: u128 = 20;
 pub(crate) enum Mode {
     Start,
     Operand,
-    Number { start: u64, value: u128 },
+    Number {
+        start: u64,
+        value: u128,
+    },
     Slash,
-    Denominator { start: u64, value: u128 },
+    Denominator {
+        start: u64,
+        value: u128,
+    },
     Letter,
-    List { before: Before },
-    Entry { before: Before, start: u64, value: u128 },
+    List {
+        before: Before,
+    },
+    Entry {
+        before: Before,
+        start: u64,
+        value: u128,
+    },
     Whole,
 }
 
@@ -157,7 +169,11 @@ impl Mode {
                 _ => None,
             },
             Mode::List { before } => in_list(before, at, symbol),
-            Mode::Entry { before, start, value } => in_entry(before, start, value, symbol),
+            Mode::Entry {
+                before,
+                start,
+                value,
+            } => in_entry(before, start, value, symbol),
             Mode::Whole => after_factor(symbol),
         }
     }
@@ -182,7 +198,11 @@ fn number_mark(mode: Mode) -> Option<(u64, Mark)>
     match mode {
         Mode::Number { start, value } => Some((start, Mark::Value { value })),
         Mode::Denominator { start, value } => Some((start, Mark::Denominator { value })),
-        Mode::Entry { before, start, value } => Some((start, Mark::Entry { before, value })),
+        Mode::Entry {
+            before,
+            start,
+            value,
+        } => Some((start, Mark::Entry { before, value })),
         _ => None,
     }
 }

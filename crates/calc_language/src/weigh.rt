@@ -68,7 +68,10 @@ impl Expr {
             Expr::Fraction { num, den } => weight_of((*num as u128).max(1), *den as u128),
             Expr::Atom { .. } => weight_of(1, 1),
             Expr::Negation { inner } => inner.weigh(),
-            Expr::Sum { left, right } | Expr::Difference { left, right } => sum_weight(left.weigh()?, right.weigh()?),
+            Expr::Sum { left, right } | Expr::Difference { left, right } => sum_weight(
+                left.weigh()?,
+                right.weigh()?,
+            ),
             Expr::Product { left, right } => product_weight(left.weigh()?, right.weigh()?),
         }
     }

@@ -96,15 +96,9 @@ fn is_word(word: &String, name: &str) -> bool
 /// 20 at the word's end; as `Shape` a number of an atom that is greater than the one before it, and a denominator 0.
 pub fn read_words(alloc: Global, words: &[String]) -> Result<Command, WordsFault>
     ensures read { IsRead (map string_bytes words.now) result }
-    ensures accepts {
-        (command : PlainCommand) → SpellsWithoutOffence (map string_bytes words.now) command → Accepts command result
-    }
-    ensures refuses {
-        (offence : PlainOffence) → HasFirstOffence (map string_bytes words.now) (Some offence) → Refuses offence result
-    }
-    ensures goes_wrong {
-        (word byte : ℕ) → IsSyntaxPlace (map string_bytes words.now) word byte → GoesWrong word byte result
-    }
+    ensures accepts { (command : PlainCommand) → SpellsWithoutOffence (map string_bytes words.now) command → Accepts command result }
+    ensures refuses { (offence : PlainOffence) → HasFirstOffence (map string_bytes words.now) (Some offence) → Refuses offence result }
+    ensures goes_wrong { (word byte : ℕ) → IsSyntaxPlace (map string_bytes words.now) word byte → GoesWrong word byte result }
 {
     read(alloc, words)
 }

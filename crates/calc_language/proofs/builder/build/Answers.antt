@@ -1,5 +1,5 @@
-use Rattle.std.proofs.Common.{◌≡◌, ◌<◌, ◌∙◌, arith, refl, sym, ap, subst, take, get_or, Some, None, option_map}
-use Rattle.sym_model.specs.LeftToRight.{at, step, found}
+use Rattle.std.proofs.Common.{◌≡◌, ◌∙◌, arith, sym, ap, option_map}
+use Rattle.sym_model.specs.LeftToRight.{step, found}
 use Rattle.sym_model.proofs.PhraseRuns.{one_phrase}
 use Rattle.calc_language.specs.Building.{builds, built_of, part_in, terms_in, factors_in, opened_in, state_of, state_in}
 use Rattle.calc_language.specs.Symbols.{symbol_in}
@@ -10,7 +10,7 @@ pub after-requires-clause-fine : goal.after-requires-clause-fine
 after-requires-clause-fine c =
     let b = c.loop-byte.builder in
     takes-fine c.args.word.now c.loop-byte.byte-index _ (part_in b.part) (terms_in b.frame.terms) (factors_in b.frame.factors) (opened_in b.opened.items)
-        c.loop-byte-test.true c.requires c.symbol_of.ensures c.loop-byte.invariant
+    c.loop-byte-test.true c.requires c.symbol_of.ensures c.loop-byte.invariant
 
 pub unreachable-requires : goal.unreachable-requires
 unreachable-requires c =
@@ -18,9 +18,9 @@ unreachable-requires c =
     let i = c.loop-byte.byte-index in
     let stepped : state_in c.in_ok-after.field-0 ≡ step builds (state_of c.loop-byte.builder) (symbol_in c.symbol_of.result) = c.in_ok-after.ensures in
     no-fault w i c.loop-byte-test.true c.requires
-        (sym (stepped ∙ ap (step builds (state_of c.loop-byte.builder)) c.symbol_of.ensures
-            ∙ next-state w i (state_of c.loop-byte.builder) c.loop-byte-test.true (omega (arith, c.type_inv.word i)) c.requires c.loop-byte.invariant)
-        ∙ ap state_in c.in-None.is)
+    (sym (stepped ∙ ap (step builds (state_of c.loop-byte.builder)) c.symbol_of.ensures
+    ∙ next-state w i (state_of c.loop-byte.builder) c.loop-byte-test.true (omega (arith, c.type_inv.word i)) c.requires c.loop-byte.invariant)
+    ∙ ap state_in c.in-None.is)
 
 pub loop-byte-preserved : goal.loop-byte-preserved
 loop-byte-preserved c =
@@ -34,7 +34,7 @@ pub finish-requires : goal.finish-requires
 finish-requires c =
     let b = c.loop-byte.builder in
     ends-fine c.args.word.now c.loop-byte.byte-index (part_in b.part) (terms_in b.frame.terms) (factors_in b.frame.factors) (opened_in b.opened.items)
-        (omega arith) c.requires c.loop-byte.invariant
+    (omega arith) c.requires c.loop-byte.invariant
 
 pub unreachable-requires-in-None-2 : goal.unreachable-requires-in-None-2
 unreachable-requires-in-None-2 c =

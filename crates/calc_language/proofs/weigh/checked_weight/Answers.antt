@@ -13,7 +13,7 @@ pub returns-in_err-growth : goal.returns-in_err-growth
 returns-in_err-growth c =
     rw c.from_residual-in_err-growth.ensures
     (high-weight (basis_of c.args.target) (tree_of c.args.tree.now) (positive c.args.tree.now c.requires.plain)
-        (omega (arith, rw c.requires.degree at c.in_err-growth.ensures)))
+    (omega (arith, rw c.requires.degree at c.in_err-growth.ensures)))
 
 pub returns-in_err-checked_mul : goal.returns-in_err-checked_mul
 returns-in_err-checked_mul c =

@@ -1,4 +1,3 @@
-use Rattle.std.proofs.Common.{arith}
 use Rattle.calc_language.proofs.GrowthFacts.{growth-past}
 use Rattle.calc_language.proofs.weigh.growth.Goals as goal
 

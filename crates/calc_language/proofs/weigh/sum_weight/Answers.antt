@@ -1,4 +1,4 @@
-use Rattle.std.proofs.Common.{arith, ◌<◌, subst, sym}
+use Rattle.std.proofs.Common.{◌<◌, subst, sym}
 use Rattle.sym_model.proofs.GreatestCommonDivisors.{gcd-positive}
 use Rattle.calc_language.proofs.weigh.sum_weight.Goals as goal
 

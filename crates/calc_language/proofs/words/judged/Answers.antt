@@ -1,8 +1,7 @@
-use Rattle.std.proofs.Common.{◌≡◌, arith, refl, sym, ap, ◌∙◌, None, Some, option_map}
-use Rattle.sym_model.specs.Offence.{marks, range}
+use Rattle.std.proofs.Common.{◌≡◌, sym, ap, ◌∙◌, None, Some, option_map}
+use Rattle.sym_model.specs.Offence.{marks}
 use Rattle.calc_language.specs.Offences.{offence_in}
-use Rattle.calc_language.specs.Building.{built_of}
-use Rattle.calc_language.proofs.JudgeFacts.{first_before_degree, kept-first, judge-some, fault-judged, high-judged, refused-judged, formula-judged, no_mark-offence, mild-from, high-degree}
+use Rattle.calc_language.proofs.JudgeFacts.{first_before_degree, kept-first, judge-some, fault-judged, high-judged, refused-judged, no_mark-offence, mild-from, high-degree}
 use Rattle.calc_language.proofs.words.judged.Goals as goal
 
 pub returns-in-Some : goal.returns-in-Some

@@ -1,4 +1,3 @@
-use Rattle.std.proofs.Common.{sym}
 use Rattle.calc_language.proofs.scan.Mode.after.Goals as goal
 
 pub returns-in-Entry : goal.returns-in-Entry
