@@ -68,7 +68,12 @@ pub record IsKept (terms : List Term) (p : List ℕ × Fraction) : Type 0 where
 
 kept_later : (t : Term) (terms : List Term) (p : List ℕ × Fraction) → IsKept terms p → IsKept (t ∷ terms) p
 kept_later t terms p k = record {
-  term = k.term; is = k.is; positive = k.positive; label = inr k.label; small = omega (arith, k.small) }
+  term = k.term;
+  is = k.is;
+  positive = k.positive;
+  label = inr k.label;
+  small = omega (arith, k.small);
+}
 
 kept_member : (terms : List Term) (p : List ℕ × Fraction) → Among p (plain (kept terms)) → IsKept terms p
 kept_member [] p m = absurd m
@@ -77,7 +82,12 @@ kept_member (t ∷ terms) p m = by (counts t) refl m (λ k. kept_member terms p 
     by : (b : Bool) → counts t ≡ b → Among p (plain (cond b (t ∷ kept terms) (kept terms)))
         → (Among p (plain (kept terms)) → IsKept terms p) → IsKept (t ∷ terms) p
     by true e (inl is) rest = record {
-      term = t; is = is; positive = ltb-true 0 t.coefficient e; label = inl refl; small = omega arith }
+      term = t;
+      is = is;
+      positive = ltb-true 0 t.coefficient e;
+      label = inl refl;
+      small = omega arith;
+    }
     by true e (inr k) rest = kept_later t terms p (rest k)
     by false e k rest = kept_later t terms p (rest k)
 
@@ -141,15 +151,16 @@ pub canonical-kept : (d : ℕ) (terms : List Term) → d ≤ 15 → labels_of te
 canonical-kept d terms small labels =
     let P : List (List ℕ) → Type 0 = λ l. FallsLexicographically l in
     let falls : FallsLexicographically (labels_of terms) =
-        subst P (sym labels) (FallsLexicographically-partitions_within d d d) in
+    subst P (sym labels) (FallsLexicographically-partitions_within d d d) in
     is_canonical-from (plain (kept terms))
-        (is_ordered-from printed_order (plain (kept terms))
-            (ordered_kept d terms falls (λ y m. (labels_tell d terms labels y m).1)))
-        (λ p m.
-          let k = kept_member terms p m in
-          (ap (λ (q : List ℕ × Fraction). is_reduced q.1) k.is ∙ reduced_whole k.term.coefficient k.positive,
-           ap (λ (q : List ℕ × Fraction). is_label q.0) k.is
-            ∙ label_test d k.term.label small (labels_tell d terms labels k.term.label k.label)))
+    (is_ordered-from printed_order (plain (kept terms))
+    (ordered_kept d terms falls (λ y m. (labels_tell d terms labels y m).1)))
+    (λ p m.
+    let k = kept_member terms p m in (
+      ap (λ (q : List ℕ × Fraction). is_reduced q.1) k.is ∙ reduced_whole k.term.coefficient k.positive,
+      ap (λ (q : List ℕ × Fraction). is_label q.0) k.is
+          ∙ label_test d k.term.label small (labels_tell d terms labels k.term.label k.label),
+    ))
 
 fits_small : (c : ℕ) → c ≤ 437893890380859375 → fits_128_bits (pos c) ≡ true
 fits_small c h = lt-ltb c (2 ^ 127) (omega arith)
@@ -158,11 +169,11 @@ pub printable-kept : (terms : List Term) → greatest terms ≤ fifteens 15 → 
 printable-kept terms small =
     let top : greatest terms ≤ 437893890380859375 = omega (arith, fifteens-small 15 (omega arith), small) in
     each_term-from (λ (t : List ℕ × Fraction). fits_128_bits t.1.0 && fits_128_bits (pos t.1.1)) (plain (kept terms))
-        (λ p m.
-          let k = kept_member terms p m in
-          ap (λ (q : List ℕ × Fraction). fits_128_bits q.1.0 && fits_128_bits (pos q.1.1)) k.is
-          ∙ and_from (fits_128_bits (pos k.term.coefficient)) (fits_128_bits (pos 1))
-              (fits_small k.term.coefficient (omega (arith, k.small, top))) (fits_small 1 (omega arith)))
+    (λ p m.
+    let k = kept_member terms p m in
+    ap (λ (q : List ℕ × Fraction). fits_128_bits q.1.0 && fits_128_bits (pos q.1.1)) k.is
+    ∙ and_from (fits_128_bits (pos k.term.coefficient)) (fits_128_bits (pos 1))
+    (fits_small k.term.coefficient (omega (arith, k.small, top))) (fits_small 1 (omega arith)))
 
 -- ---- whole terms written as fractions
 
@@ -179,4 +190,4 @@ pub meets-kept : (parts : List ℕ) (terms : List Term) → ArePositive parts �
 meets-kept parts terms positive same n =
     let W : WholeTerms → Type 0 = λ w. Same w (power_sum_terms parts) in
     power_sum-expansion parts (plain (kept terms)) positive (AreWhole-as_fractions (whole_terms (kept terms)))
-        (subst W (sym (numerators-as_fractions (whole_terms (kept terms)))) (λ label. same-kept terms label ∙ same label)) n
+    (subst W (sym (numerators-as_fractions (whole_terms (kept terms)))) (λ label. same-kept terms label ∙ same label)) n

@@ -11,8 +11,12 @@ use Rattle.calc_app.proofs.Numbers.{Falls-at}
 
 pub few_rows : (numbers : List ℕ) → Falls numbers → size numbers ≤ 15 → length (without_last_zeros numbers) ≤ 15
 few_rows numbers falls small =
-    omega (arith, rows_within_size (without_last_zeros numbers) (IsPartition-without_last_zeros numbers falls).positive,
-        size-without_last_zeros numbers, small)
+    omega (
+      arith,
+      rows_within_size (without_last_zeros numbers) (IsPartition-without_last_zeros numbers falls).positive,
+      size-without_last_zeros numbers,
+      small,
+    )
 
 pub small_size : (numbers : List ℕ) → size numbers ≤ 15 → size (without_last_zeros numbers) ≤ 15
 small_size numbers small = omega (arith, size-without_last_zeros numbers, small)

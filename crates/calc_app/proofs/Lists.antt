@@ -33,12 +33,12 @@ coefficient-product terms k [] label once all m = absurd m
 coefficient-product terms k (t ∷ next) label once all (inl e) =
     let P : List ℕ → Type 0 = λ l. coefficient (whole_terms (t ∷ next)) l ≡ product_at terms k l in
     subst P (sym e) (rw (same_refl t.label)
-        (ap (λ z. pos t.coefficient +ℤ z) (coefficient-absent next t.label once.0) ∙ +ℤ_idr (pos t.coefficient) ∙ all.0))
+    (ap (λ z. pos t.coefficient +ℤ z) (coefficient-absent next t.label once.0) ∙ +ℤ_idr (pos t.coefficient) ∙ all.0))
 coefficient-product terms k (t ∷ next) label once all (inr m) =
     let apart : t.label ≡ label → ⊥ = λ e.
-        let P : List ℕ → Type 0 = λ l. Among l (labels_of next) in once.0 (subst P (sym e) m) in
+    let P : List ℕ → Type 0 = λ l. Among l (labels_of next) in once.0 (subst P (sym e) m) in
     rw (same_apart t.label label apart)
-        (+ℤ_idl (coefficient (whole_terms next) label) ∙ coefficient-product terms k next label once.1 all.1 m)
+    (+ℤ_idl (coefficient (whole_terms next) label) ∙ coefficient-product terms k next label once.1 all.1 m)
 
 -- ---- the labels, as they are listed
 
@@ -75,10 +75,10 @@ pub next_listed : (terms : List Term) (k : ℕ) (next pushed : List Term) (t : T
     → t.coefficient ≤ 15 * greatest terms → labels_of next ++ (label ∷ new) ≡ all → HaveProduct terms k next
     → greatest next ≤ 15 * greatest terms
     → record {
-        labels : labels_of pushed ++ new ≡ all;
-        values : HaveProduct terms k pushed;
-        small : greatest pushed ≤ 15 * greatest terms;
-      }
+      labels : labels_of pushed ++ new ≡ all;
+      values : HaveProduct terms k pushed;
+      small : greatest pushed ≤ 15 * greatest terms;
+    }
 next_listed terms k next pushed t label new all is same value small on values least =
     let P : List Term → Type 0 = λ l. HaveProduct terms k l in
     let G : List Term → Type 0 = λ l. greatest l ≤ 15 * greatest terms in

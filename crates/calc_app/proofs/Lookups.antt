@@ -15,7 +15,7 @@ pub coefficient-absent : (terms : List Term) (label : List ℕ) → (Among label
 coefficient-absent [] label none = refl
 coefficient-absent (t ∷ terms) label none =
     rw (same_apart t.label label (λ e. none (inl (sym e))))
-        (+ℤ_idl (coefficient (whole_terms terms) label) ∙ coefficient-absent terms label (λ m. none (inr m)))
+    (+ℤ_idl (coefficient (whole_terms terms) label) ∙ coefficient-absent terms label (λ m. none (inr m)))
 
 label_among : (terms : List Term) (i : ℕ) (d : Term) → i < length terms → Among (get_or terms i d).label (labels_of terms)
 label_among [] i d h = absurd (omega arith)
@@ -27,13 +27,13 @@ coefficient_here : (terms : List Term) (i : ℕ) (d : Term) → Once (labels_of 
 coefficient_here [] i d once h = absurd (omega arith)
 coefficient_here (t ∷ terms) zero d once h =
     rw (same_refl t.label)
-        (ap (λ z. pos t.coefficient +ℤ z) (coefficient-absent terms t.label once.0) ∙ +ℤ_idr (pos t.coefficient))
+    (ap (λ z. pos t.coefficient +ℤ z) (coefficient-absent terms t.label once.0) ∙ +ℤ_idr (pos t.coefficient))
 coefficient_here (t ∷ terms) (suc i) d once h =
     let apart : t.label ≡ (get_or terms i d).label → ⊥ = λ e.
-        let P : List ℕ → Type 0 = λ l. Among l (labels_of terms) in
-        once.0 (subst P (sym e) (label_among terms i d (omega arith))) in
+    let P : List ℕ → Type 0 = λ l. Among l (labels_of terms) in
+    once.0 (subst P (sym e) (label_among terms i d (omega arith))) in
     rw (same_apart t.label (get_or terms i d).label apart)
-        (+ℤ_idl (coefficient (whole_terms terms) (get_or terms i d).label) ∙ coefficient_here terms i d once.1 (omega arith))
+    (+ℤ_idl (coefficient (whole_terms terms) (get_or terms i d).label) ∙ coefficient_here terms i d once.1 (omega arith))
 
 -- the term at a place has the coefficient of its label
 pub coefficient_at_place : (terms : List Term) (i : ℕ) (t : Term) (label : List ℕ) → Once (labels_of terms)

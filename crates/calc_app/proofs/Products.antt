@@ -45,7 +45,7 @@ pub same-product : (k : ℕ) (parts : List ℕ) (terms next : List Term) → 0 <
     → Same (whole_terms terms) (power_sum_terms parts)
     → labels_of next ≡ partitions_of (k + size parts)
     → ((label : List ℕ) → IsPartition label → size label ≡ k + size parts
-        → coefficient (whole_terms next) label ≡ product_at terms k label)
+    → coefficient (whole_terms next) label ≡ product_at terms k label)
     → Same (whole_terms next) (power_sum_terms (k ∷ parts))
 same-product k parts terms next positive same labels values label = by (partition_or_not (k + size parts) label)
   where
@@ -54,15 +54,15 @@ same-product k parts terms next positive same labels values label = by (partitio
     by (inl p) =
         values label p.0 p.1
         ∙ total_ext
-            (λ (lower : List ℕ). coefficient (whole_terms terms) (sorted_parts lower))
-            (λ (lower : List ℕ). coefficient (power_sum_terms parts) (sorted_parts lower))
-            (λ lower. same (sorted_parts lower)) (lowered k label)
+        (λ (lower : List ℕ). coefficient (whole_terms terms) (sorted_parts lower))
+        (λ (lower : List ℕ). coefficient (power_sum_terms parts) (sorted_parts lower))
+        (λ lower. same (sorted_parts lower)) (lowered k label)
         ∙ sym (coefficient-power_sum_terms k parts label positive p.0)
     by (inr none) =
         let P : List (List ℕ) → Type 0 = λ l. Among label l in
         coefficient-absent next label (λ m. none (partitions_of-tells (k + size parts) label (subst P labels m)))
         ∙ sym (coefficient-outside (IsPartitionOf (k + size parts)) (power_sum_terms (k ∷ parts)) label
-            (IsPartitionOf-power_sum_terms (k ∷ parts)) (λ q. none (q.partition, q.of_size)))
+        (IsPartitionOf-power_sum_terms (k ∷ parts)) (λ q. none (q.partition, q.of_size)))
 
 -- ---- the parts from a row on
 
@@ -132,18 +132,18 @@ fifteens-whole top rows row before few = omega (arith, fifteens-le (rows - row) 
 pub starts : (parts : List ℕ) (items old : List Term) (label : List ℕ) → old ≡ [] → label ≡ []
     → items ≡ old ++ (record { label = label; coefficient = 1 }) ∷ []
     → record {
-        rows : length parts ≤ length parts;
-        degree : 0 ≡ size (drop (length parts) parts);
-        labels : labels_of items ≡ partitions_of 0;
-        value : Same (whole_terms items) (power_sum_terms (drop (length parts) parts));
-        small : greatest items ≤ fifteens (length parts - length parts);
-      }
+      rows : length parts ≤ length parts;
+      degree : 0 ≡ size (drop (length parts) parts);
+      labels : labels_of items ≡ partitions_of 0;
+      value : Same (whole_terms items) (power_sum_terms (drop (length parts) parts));
+      small : greatest items ≤ fifteens (length parts - length parts);
+    }
 unfolding partitions_within
 starts parts items old label none empty is =
     let none_left : drop (length parts) parts ≡ [] = drop-length parts in
     let start : List Term = (record { label = []; coefficient = 1 }) ∷ [] in
     let now : items ≡ start = is ∙ ap (λ (o : List Term). o ++ (record { label = label; coefficient = 1 }) ∷ []) none
-        ∙ ap (λ (l : List ℕ). (record { label = l; coefficient = 1 }) ∷ []) empty in
+    ∙ ap (λ (l : List ℕ). (record { label = l; coefficient = 1 }) ∷ []) empty in
     let zero_rows : length parts - length parts ≡ 0 = omega arith in
     let S : List Term → Type 0 = λ l. Same (whole_terms l) (power_sum_terms (drop (length parts) parts)) in
     let R : List ℕ → Type 0 = λ l. Same (whole_terms start) (power_sum_terms l) in
@@ -162,15 +162,15 @@ pub continues : (parts : List ℕ) (row so_far : ℕ) (seen terms next : List Te
     → Same (whole_terms terms) (power_sum_terms (drop row parts)) → greatest terms ≤ fifteens (length parts - row)
     → labels_of next ≡ partitions_of (so_far + get_or parts (row - 1) 0)
     → ((label : List ℕ) → IsPartition label → size label ≡ so_far + get_or parts (row - 1) 0
-        → coefficient (whole_terms next) label ≡ product_at seen (get_or parts (row - 1) 0) label)
+    → coefficient (whole_terms next) label ≡ product_at seen (get_or parts (row - 1) 0) label)
     → greatest next ≤ 15 * greatest seen
     → record {
-        rows : row - 1 ≤ length parts;
-        degree : so_far + get_or parts (row - 1) 0 ≡ size (drop (row - 1) parts);
-        labels : labels_of next ≡ partitions_of (so_far + get_or parts (row - 1) 0);
-        value : Same (whole_terms next) (power_sum_terms (drop (row - 1) parts));
-        small : greatest next ≤ fifteens (length parts - (row - 1));
-      }
+      rows : row - 1 ≤ length parts;
+      degree : so_far + get_or parts (row - 1) 0 ≡ size (drop (row - 1) parts);
+      labels : labels_of next ≡ partitions_of (so_far + get_or parts (row - 1) 0);
+      value : Same (whole_terms next) (power_sum_terms (drop (row - 1) parts));
+      small : greatest next ≤ fifteens (length parts - (row - 1));
+    }
 continues parts row so_far seen terms next positive above within same of_degree value small labels values least =
     let k = get_or parts (row - 1) 0 in
     let before = drop-before parts row above within in

@@ -71,7 +71,7 @@ pub rows_total-taken : (f : List ℕ → ℤ) (k : ℕ) (parts : List ℕ) (row 
 unfolding rows_total
 rows_total-taken f k parts row sum here new before enough value added =
     rw (add-one row, le-leb k (get_or parts row 0) enough)
-        (ap pos added ∙ ap (λ z. z +ℤ pos here) before ∙ ap (λ z. rows_total f k parts row +ℤ z) value)
+    (ap pos added ∙ ap (λ z. z +ℤ pos here) before ∙ ap (λ z. rows_total f k parts row +ℤ z) value)
 
 pub rows_total-passed : (f : List ℕ → ℤ) (k : ℕ) (parts : List ℕ) (row sum new : ℕ) → pos sum ≡ rows_total f k parts row
     → get_or parts row 0 < k → new ≡ sum → pos new ≡ rows_total f k parts (row + 1)

@@ -65,14 +65,19 @@ fn power_sum_of_parts(alloc: Global, parts: &[u16]) -> Result<Vec<Term>, NoMemor
 }
 
 /// p_k times a list that has the coefficients of all partitions of a degree.
-fn times_power_sum(alloc: Global, terms: &[Term], degree: u16, k: u16) -> Result<Vec<Term>, NoMemory>
+fn times_power_sum(
+    alloc: Global,
+    terms: &[Term],
+    degree: u16,
+    k: u16,
+) -> Result<Vec<Term>, NoMemory>
     requires degree { degree + k ≤ 15 }
     requires labels { labels_of terms.now ≡ partitions_of degree }
     requires room { 15 * greatest terms.now < 2 ^ 64 }
     ensures labels { IfOk result (λ next. labels_of next.items ≡ partitions_of (degree + k)) }
     ensures value { IfOk result (λ next. (label : List ℕ) → IsPartition label → size label ≡ degree + k
         → coefficient (whole_terms next.items) label
-          ≡ product_at terms.now k label) }
+        ≡ product_at terms.now k label) }
     ensures small { IfOk result (λ next. greatest next.items ≤ 15 * greatest terms.now) }
 {
     let mut labels = PartitionsOf::new(alloc, degree + k)?;

@@ -16,15 +16,15 @@ pub loop-row-preserved : goal.loop-row-preserved
 loop-row-preserved c =
     let f : List ℕ → ℤ = λ (lower : List ℕ). coefficient (whole_terms c.args.terms.now) (sorted_parts lower) in
     elim c.if-part-k.branch [
-      then-part-k+in_ok-left w ↦ record {
+      | then-part-k+in_ok-left w ↦ record {
         value = rows_total-taken f c.args.k c.args.label.now c.loop-row.row c.loop-row.sum w.coefficient_of-sum.result _
             c.loop-row.invariant.value w.if-part-k.true
             (w.coefficient_of-sum.ensures.value
-              ∙ ap (coefficient (whole_terms c.args.terms.now)) (w.deref.ensures.value ∙ w.in_ok-left.ensures))
+            ∙ ap (coefficient (whole_terms c.args.terms.now)) (w.deref.ensures.value ∙ w.in_ok-left.ensures))
             w.sum-is;
         small = step_small c.loop-row.row (greatest c.args.terms.now) _ _ _ c.loop-row.invariant.small w.coefficient_of-sum.ensures.small w.sum-is;
       }
-    | else-part-k w ↦ record {
+      | else-part-k w ↦ record {
         value = rows_total-passed f c.args.k c.args.label.now c.loop-row.row c.loop-row.sum _
             c.loop-row.invariant.value w.if-part-k.false w.sum-is;
         small = passed_small c.loop-row.row (greatest c.args.terms.now) c.loop-row.sum _ c.loop-row.invariant.small w.sum-is;

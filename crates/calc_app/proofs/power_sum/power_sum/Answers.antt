@@ -19,8 +19,8 @@ pub returns-clause-canonical : goal.returns-clause-canonical
 returns-clause-canonical c =
     ap (λ (t : List Term). is_canonical (plain t)) c.without_zeros.ensures
     ∙ canonical-kept (size c.parts-2.result.now) c.in_ok-terms.terms.items
-        (omega (arith, ap size (c.parts-2.ensures.value ∙ c.label_of-parts.ensures), small_size c.args.numbers.now c.requires.degree))
-        c.in_ok-terms.ensures.labels
+    (omega (arith, ap size (c.parts-2.ensures.value ∙ c.label_of-parts.ensures), small_size c.args.numbers.now c.requires.degree))
+    c.in_ok-terms.ensures.labels
 
 pub returns-clause-printable : goal.returns-clause-printable
 returns-clause-printable c =
@@ -33,6 +33,6 @@ returns-clause-meets c =
     let R : List ℕ → Type 0 = λ l. Same (whole_terms c.in_ok-terms.terms.items) (power_sum_terms l) in
     let M : List Term → Type 0 = λ t. IsPowerSumInMonomials c.args.numbers.now (plain t) in
     subst M (sym c.without_zeros.ensures)
-        (meets-kept (without_last_zeros c.args.numbers.now) c.in_ok-terms.terms.items
-            (IsPartition-without_last_zeros c.args.numbers.now c.requires.falls).positive
-            (subst R parts c.in_ok-terms.ensures.value))
+    (meets-kept (without_last_zeros c.args.numbers.now) c.in_ok-terms.terms.items
+    (IsPartition-without_last_zeros c.args.numbers.now c.requires.falls).positive
+    (subst R parts c.in_ok-terms.ensures.value))

@@ -21,8 +21,11 @@ times_power_sum-requires-clause-degree c =
 pub times_power_sum-requires-clause-room : goal.times_power_sum-requires-clause-room
 times_power_sum-requires-clause-room c =
     let few : length c.args.parts.now ≤ 15 = omega (arith, rows_within_size c.args.parts.now c.requires.positive, c.requires.degree) in
-    omega (arith, ap greatest c.deref.ensures.value,
-        fifteens-room (greatest c.loop-row.terms.items) (length c.args.parts.now) c.loop-row.row c.loop-row.invariant.small c.loop-row-test.true few)
+    omega (
+      arith,
+      ap greatest c.deref.ensures.value,
+      fifteens-room (greatest c.loop-row.terms.items) (length c.args.parts.now) c.loop-row.row c.loop-row.invariant.small c.loop-row-test.true few,
+    )
 
 pub overflow_add-degree : goal.overflow_add-degree
 overflow_add-degree c =
@@ -32,11 +35,11 @@ overflow_add-degree c =
 pub loop-row-preserved : goal.loop-row-preserved
 loop-row-preserved c =
     continues c.args.parts.now c.loop-row.row c.loop-row.degree c.deref.result.now c.loop-row.terms.items c.in_ok-terms.terms.items
-        c.requires.positive c.loop-row-test.true c.loop-row.invariant.rows c.deref.ensures.value c.loop-row.invariant.degree
-        c.loop-row.invariant.value c.loop-row.invariant.small c.in_ok-terms.ensures.labels c.in_ok-terms.ensures.value
-        c.in_ok-terms.ensures.small
+    c.requires.positive c.loop-row-test.true c.loop-row.invariant.rows c.deref.ensures.value c.loop-row.invariant.degree
+    c.loop-row.invariant.value c.loop-row.invariant.small c.in_ok-terms.ensures.labels c.in_ok-terms.ensures.value
+    c.in_ok-terms.ensures.small
 
 pub returns-clause-small : goal.returns-clause-small
 returns-clause-small c =
     fifteens-whole (greatest c.loop-row.terms.items) (length c.args.parts.now) c.loop-row.row c.loop-row.invariant.small
-        (omega (arith, rows_within_size c.args.parts.now c.requires.positive, c.requires.degree))
+    (omega (arith, rows_within_size c.args.parts.now c.requires.positive, c.requires.degree))

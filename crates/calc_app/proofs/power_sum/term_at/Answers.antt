@@ -12,5 +12,8 @@ returns-clause-label c = c.label_of.ensures ∙ without_last_zeros-partition c.a
 
 pub returns-clause-small : goal.returns-clause-small
 returns-clause-small c =
-    omega (arith, rows_times c.args.label.now (greatest c.args.terms.now) c.requires.partition.positive c.requires.degree,
-        c.in_ok-coefficient.ensures.small)
+    omega (
+      arith,
+      rows_times c.args.label.now (greatest c.args.terms.now) c.requires.partition.positive c.requires.degree,
+      c.in_ok-coefficient.ensures.small,
+    )
