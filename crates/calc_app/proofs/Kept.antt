@@ -1,12 +1,11 @@
 -- The terms with a coefficient that is not 0, of a list with the coefficients of all partitions of a degree: a
 -- canonical list of the same value.
-use Rattle.std.proofs.Common.{◌≡◌, ◌⊎◌, ℕ, suc, zero, ◌+◌, ◌*◌, ◌%◌, ◌^◌, ◌<◌, ◌≤◌, max, Bool, true, false, ◌&&◌, cond, ltb, List, [], ◌∷◌, length, map, refl, sym, ◌∙◌, ap, ap₂, subst, inl, inr, arith, ℤ, pos, ◌+ℤ◌}
+use Rattle.std.proofs.Common.{◌≡◌, ℕ, ◌%◌, ◌^◌, ◌<◌, ◌≤◌, Bool, true, false, ◌&&◌, cond, List, [], ◌∷◌, refl, sym, ◌∙◌, ap, subst, inl, inr, arith, pos, ◌+ℤ◌}
 use Rattle.std.specs.Prelude.{filter, nat_lt}
 use Rattle.std.specs.Ordering.{nat_cmp, ordering_then}
-use Rattle.std.specs.declared.cmp.Ordering.{Ordering}
 use Rattle.std.specs.declared.cmp.Ordering.TheVariants.{Less, Equal}
 use Rattle.std.proofs.lemmas.Bool.{ltb-true, ltb-false, lt-ltb, le-ltb, eq-eqb, and_from}
-use Rattle.sym_model.specs.Sum.{Among, total}
+use Rattle.sym_model.specs.Sum.{Among}
 use Rattle.sym_model.specs.Polynomial.{Same, same, coefficient}
 use Rattle.sym_model.specs.Partition.{IsPartition, ArePositive, size}
 use Rattle.sym_model.specs.PartitionList.{partitions_of, FallsLexicographically}
@@ -15,10 +14,10 @@ use Rattle.sym_model.specs.Bases.{power_sum}
 use Rattle.sym_model.specs.Expansion.{Terms, Fraction, monomials, IsExpansionOf}
 use Rattle.sym_model.specs.PowerSumProduct.{power_sum_terms}
 use Rattle.sym_model.proofs.PowerSumLists.{power_sum-expansion}
-use Rattle.sym_model.specs.Canonical.{gcd, gcd_within, is_canonical, is_printable, is_reduced, is_label, fits_128_bits, each_term}
+use Rattle.sym_model.specs.Canonical.{gcd, gcd_within, is_canonical, is_printable, is_reduced, is_label, fits_128_bits}
 use Rattle.sym_model.specs.WholeTerms.{WholeTerms, as_fractions, AreWhole, numerators}
 use Rattle.sym_model.proofs.CanonicalLists.{StandsBefore, IsOrdered, is_ordered-from, is_canonical-from, each_term-from}
-use Rattle.sym_model.proofs.Orders.{is_label-from, is_reduced-from}
+use Rattle.sym_model.proofs.Orders.{is_label-from}
 use Rattle.sym_model.proofs.SortedParts.{rows_within_size}
 use Rattle.sym_model.proofs.PartitionLists.{partitions_of-tells, FallsLexicographically-partitions_within}
 use Rattle.calc_app.specs.declared.terms.Term.{Term}

@@ -1,11 +1,11 @@
 -- Labels of a small degree are never refused.
-use Rattle.std.proofs.Common.{◌≡◌, ℕ, zero, suc, ◌+◌, ◌-◌, ◌*◌, ◌≤◌, ◌<◌, List, [], ◌∷◌, length, get_or, refl, sym, ◌∙◌, ap, subst, arith}
-use Rattle.std.specs.Prelude.{Result, Ok, Err, IsErrOf, slice_index}
+use Rattle.std.proofs.Common.{◌≡◌, ℕ, zero, suc, ◌-◌, ◌*◌, ◌≤◌, List, [], ◌∷◌, length, get_or, refl, ap, arith}
+use Rattle.std.specs.Prelude.{Err, IsErrOf}
 use Rattle.std.proofs.Math.Nat.{mul-le-mul_right}
 use Rattle.partitions.specs.declared.fault.PartFault.{PartFault}
 use Rattle.partitions.specs.declared.fault.PartFault.TheVariants.{TooMany, Rising, TooBig, NoMemory}
 use Rattle.partitions.specs.Limits.{RisesFirstAt}
-use Rattle.sym_model.specs.Partition.{Falls, ArePositive, IsPartition, size, without_last_zeros, in_front}
+use Rattle.sym_model.specs.Partition.{Falls, ArePositive, size, without_last_zeros}
 use Rattle.sym_model.proofs.SortedParts.{IsPartition-without_last_zeros, size-without_last_zeros, rows_within_size}
 use Rattle.calc_app.proofs.Numbers.{Falls-at}
 

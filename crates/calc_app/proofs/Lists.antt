@@ -1,16 +1,14 @@
 -- The list of a product with a power sum, term by term, and what it comes to.
-use Rattle.std.proofs.Common.{◌≡◌, ◌⊎◌, ℕ, suc, zero, ◌+◌, ◌*◌, ◌<◌, ◌≤◌, max, Bool, true, false, cond, List, [], ◌∷◌, ◌++◌, length, map, refl, sym, ◌∙◌, ap, ap₂, subst, inl, inr, arith, append_assoc, append-nil, ℤ, pos, ◌+ℤ◌}
+use Rattle.std.proofs.Common.{◌≡◌, ℕ, ◌*◌, ◌≤◌, List, [], ◌∷◌, ◌++◌, refl, sym, ◌∙◌, ap, subst, inl, inr, arith, append_assoc, pos, ◌+ℤ◌}
 use Rattle.std.proofs.lemmas.List.{map-append}
-use Rattle.std.specs.Prelude.{Option, Some, None}
+use Rattle.std.specs.Prelude.{Option, Some}
 use Rattle.std.specs.Option.{option_to_list}
-use Rattle.sym_model.specs.Sum.{total, Among, Once}
-use Rattle.sym_model.specs.Polynomial.{Same, same, coefficient}
-use Rattle.sym_model.specs.Partition.{IsPartition, ArePositive, size, sorted_parts}
+use Rattle.sym_model.specs.Sum.{Among, Once}
+use Rattle.sym_model.specs.Polynomial.{same, coefficient}
+use Rattle.sym_model.specs.Partition.{IsPartition, size}
 use Rattle.sym_model.specs.PartitionList.{partitions_of}
-use Rattle.sym_model.specs.WholeTerms.{WholeTerms}
 use Rattle.sym_model.proofs.Exponents.{same_refl, same_apart}
-use Rattle.sym_model.proofs.PowerSums.{lowered}
-use Rattle.sym_model.proofs.PartitionLists.{partitions_of-tells, Among-partitions_of, FallsLexicographically-partitions_within, Once-FallsLexicographically}
+use Rattle.sym_model.proofs.PartitionLists.{partitions_of-tells, FallsLexicographically-partitions_within, Once-FallsLexicographically}
 use Rattle.calc_app.specs.declared.terms.Term.{Term}
 use Rattle.calc_app.specs.Terms.{whole_terms, labels_of, greatest, product_at, HaveProduct}
 use Rattle.calc_app.proofs.Lookups.{coefficient-absent}

@@ -1,8 +1,7 @@
 -- The coefficient of a label in the list of terms that the program keeps, where no label stands twice.
-use Rattle.std.proofs.Common.{◌≡◌, ◌⊎◌, ℕ, suc, zero, ◌+◌, ◌<◌, ◌≤◌, Bool, true, false, cond, List, [], ◌∷◌, ◌++◌, length, get_or, take, map, refl, sym, ◌∙◌, ap, ap₂, subst, inl, inr, arith, ℤ, pos, ◌+ℤ◌}
-use Rattle.std.proofs.lemmas.List.{take_more}
+use Rattle.std.proofs.Common.{◌≡◌, ◌⊎◌, ℕ, suc, zero, ◌+◌, ◌<◌, ◌≤◌, List, [], ◌∷◌, length, get_or, take, map, refl, sym, ◌∙◌, ap, subst, inl, inr, arith, pos, ◌+ℤ◌}
 use Rattle.sym_model.specs.Sum.{Among, Once}
-use Rattle.sym_model.specs.Polynomial.{same, coefficient}
+use Rattle.sym_model.specs.Polynomial.{coefficient}
 use Rattle.sym_model.proofs.Exponents.{same_refl, same_apart}
 use Rattle.sym_model.proofs.Sums.{Among_from_append}
 use Rattle.calc_app.specs.declared.terms.Term.{Term}

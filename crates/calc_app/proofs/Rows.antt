@@ -1,10 +1,10 @@
 -- The rows of a partition, one of them lowered, and the sum over the rows.
-use Rattle.std.proofs.Common.{◌≡◌, ◌⊎◌, ℕ, suc, zero, ◌+◌, ◌-◌, ◌*◌, ◌<◌, ◌≤◌, Bool, true, false, cond, leb, List, [], ◌∷◌, ◌++◌, length, get_or, take, drop, set, map, refl, sym, ◌∙◌, ap, subst, inl, inr, arith, add-one, ℤ, pos, ◌+ℤ◌}
+use Rattle.std.proofs.Common.{◌≡◌, ◌⊎◌, ℕ, suc, zero, ◌+◌, ◌-◌, ◌*◌, ◌<◌, ◌≤◌, Bool, true, false, cond, leb, List, [], ◌∷◌, length, get_or, set, map, refl, sym, ◌∙◌, ap, inl, inr, arith, add-one, ℤ, pos, ◌+ℤ◌}
 use Rattle.std.specs.Prelude.{insert, remove}
 use Rattle.std.proofs.lemmas.Int.{ints}
 use Rattle.std.proofs.lemmas.Bool.{le-leb, lt-leb}
 use Rattle.sym_model.specs.Sum.{total}
-use Rattle.sym_model.specs.Partition.{Falls, ArePositive, IsPartition, insert_part, sorted_parts}
+use Rattle.sym_model.specs.Partition.{Falls, IsPartition, insert_part, sorted_parts}
 use Rattle.sym_model.proofs.Sums.{total_append, total_map}
 use Rattle.sym_model.proofs.SortedParts.{insert_part_above, insert_part_below, insert_part_comm, insert_part-front, Falls_tail, sorted_parts-partition}
 use Rattle.sym_model.proofs.PowerSums.{lowered}

@@ -1,4 +1,4 @@
-use Rattle.std.proofs.Common.{◌≡◌, ℕ, List, ap, sym, ◌∙◌, subst, length, arith, ◌≤◌, ◌*◌, ◌+◌, ℤ, pos}
+use Rattle.std.proofs.Common.{◌≡◌, ℕ, List, ap, ◌∙◌, length, arith, ℤ}
 use Rattle.sym_model.specs.Polynomial.{coefficient}
 use Rattle.sym_model.specs.Partition.{sorted_parts}
 use Rattle.calc_app.specs.Terms.{whole_terms, greatest}

@@ -1,4 +1,4 @@
-use Rattle.std.proofs.Common.{◌≡◌, ℕ, ◌≤◌, take_all, subst, sym, ◌∙◌, ap, List, rules, arith}
+use Rattle.std.proofs.Common.{◌≡◌, take_all, subst, sym, ◌∙◌, ap, List, rules, arith}
 use Rattle.sym_model.specs.Sum.{Among}
 use Rattle.calc_app.specs.declared.terms.Term.{Term}
 use Rattle.calc_app.specs.Terms.{labels_of}

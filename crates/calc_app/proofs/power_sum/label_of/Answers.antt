@@ -1,5 +1,4 @@
-use Rattle.std.proofs.Common.{arith, ◌≤◌, ◌≡◌}
-use Rattle.sym_model.specs.Partition.{size, without_last_zeros}
+use Rattle.std.proofs.Common.{arith}
 use Rattle.calc_app.proofs.Labels.{few_rows, small_size, never_rises, refused_by}
 use Rattle.calc_app.proofs.power_sum.label_of.Goals as goal
 

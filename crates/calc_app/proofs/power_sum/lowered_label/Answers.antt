@@ -1,4 +1,4 @@
-use Rattle.std.proofs.Common.{ap, ◌∙◌, arith}
+use Rattle.std.proofs.Common.{ap, ◌∙◌}
 use Rattle.calc_app.proofs.Rows.{lowered_put, lowered_out}
 use Rattle.calc_app.proofs.power_sum.lowered_label.Goals.{then-low-gt0+in_ok-insert, else-low-gt0}
 use Rattle.calc_app.proofs.power_sum.lowered_label.Goals as goal

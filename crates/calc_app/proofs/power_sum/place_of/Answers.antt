@@ -1,4 +1,4 @@
-use Rattle.std.proofs.Common.{◌≡◌, ℕ, ◌<◌, length, inl, inr, refl, arith}
+use Rattle.std.proofs.Common.{length, inl, inr, refl, arith}
 use Rattle.calc_app.proofs.Rows.{insert_in_place}
 use Rattle.calc_app.proofs.power_sum.place_of.Goals as goal
 

@@ -1,6 +1,6 @@
-use Rattle.std.proofs.Common.{◌≡◌, List, ℕ, Bool, true, subst, sym, ap, ◌∙◌, arith, ◌≤◌}
+use Rattle.std.proofs.Common.{◌≡◌, List, ℕ, subst, sym, ap, ◌∙◌, arith}
 use Rattle.sym_model.specs.Polynomial.{Same}
-use Rattle.sym_model.specs.Partition.{ArePositive, size, without_last_zeros}
+use Rattle.sym_model.specs.Partition.{size, without_last_zeros}
 use Rattle.sym_model.specs.Canonical.{is_canonical, is_printable}
 use Rattle.sym_model.specs.PowerSumCommand.{IsPowerSumInMonomials}
 use Rattle.sym_model.specs.PowerSumProduct.{power_sum_terms}

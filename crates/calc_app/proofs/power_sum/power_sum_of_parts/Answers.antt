@@ -1,11 +1,7 @@
-use Rattle.std.proofs.Common.{◌≡◌, ℕ, List, [], ◌∷◌, ◌+◌, ◌-◌, ◌≤◌, length, drop, get_or, arith, subst, sym, ap, ◌∙◌, refl}
-use Rattle.sym_model.specs.Polynomial.{Same}
+use Rattle.std.proofs.Common.{◌-◌, ◌≤◌, length, arith, ap}
 use Rattle.sym_model.specs.Partition.{size}
-use Rattle.sym_model.specs.PartitionList.{partitions_of}
-use Rattle.sym_model.specs.PowerSumProduct.{power_sum_terms}
 use Rattle.sym_model.proofs.SortedParts.{rows_within_size}
-use Rattle.calc_app.specs.declared.terms.Term.{Term}
-use Rattle.calc_app.specs.Terms.{whole_terms, labels_of, greatest}
+use Rattle.calc_app.specs.Terms.{greatest}
 use Rattle.calc_app.proofs.Products.{starts, continues, drop-before, size-drop, fifteens-room, fifteens-whole}
 use Rattle.calc_app.proofs.power_sum.power_sum_of_parts.Goals as goal
 

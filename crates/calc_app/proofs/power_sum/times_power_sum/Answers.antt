@@ -1,9 +1,9 @@
-use Rattle.std.proofs.Common.{◌≡◌, List, ℕ, ◌+◌, ◌++◌, [], ◌∷◌, arith, subst, sym, ap, ◌∙◌, rules}
+use Rattle.std.proofs.Common.{◌≡◌, List, ℕ, ◌+◌, arith, subst, sym, rules}
 use Rattle.sym_model.specs.Sum.{Among, Once}
 use Rattle.sym_model.specs.PartitionList.{partitions_of}
 use Rattle.sym_model.proofs.PartitionLists.{Among-partitions_of}
 use Rattle.calc_app.specs.Terms.{labels_of}
-use Rattle.calc_app.proofs.Lists.{Once-partitions_of, listed_on, listed_partition, labels-push, next_listed, coefficient-product}
+use Rattle.calc_app.proofs.Lists.{Once-partitions_of, listed_on, listed_partition, next_listed, coefficient-product}
 use Rattle.calc_app.proofs.power_sum.times_power_sum.Goals as goal
 
 pub term_at-requires-clause-once : goal.term_at-requires-clause-once
