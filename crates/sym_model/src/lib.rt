@@ -11,7 +11,7 @@ mod plain_blocks;
 mod partition_lists;
 mod plain_order;
 mod printing;
-
+mod restriction;
 mod ring_laws;
 mod sum_laws;
 
@@ -21,6 +21,6 @@ pub use plain_blocks::{PlainTerm, plain_block};
 pub use partition_lists::partitions_of_law;
 pub use plain_order::{plain_falling_lexicographic, plain_printed_order, plain_size};
 pub use printing::printed_block_law;
-
+pub use restriction::restriction_law;
 pub use ring_laws::poly_ring_law;
 pub use sum_laws::sum_law;
