@@ -2,6 +2,7 @@
 use Rattle.std.proofs.Common.{◌≡◌, ℕ, zero, suc, ◌+◌, ◌≤◌, max, ◌⊎◌, Bool, true, false, ◌&&◌, ◌==◌, List, [], ◌∷◌, length, replicate, sym, ◌∙◌, ap, ap₂, subst, refl, inl, inr, arith, eqb-true, eq-eqb, add-zero, add_comm, add_assoc}
 use Rattle.std.proofs.lemmas.Bool.{and_parts, and_from, cases_Bool, false_from_ne_true, both_ways}
 use Rattle.sym_model.specs.Polynomial.{same, join, resize, all_zero, fits_in}
+use Rattle.sym_model.specs.Partition.{size}
 
 -- two tests that are true together are one test
 pub tests_agree : (x y : Bool) → (x ≡ true → y ≡ true) → (y ≡ true → x ≡ true) → x ≡ y
@@ -54,9 +55,6 @@ join_assoc (a ∷ α) [] γ = refl
 join_assoc (a ∷ α) (b ∷ β) [] = refl
 join_assoc (a ∷ α) (b ∷ β) (c ∷ γ) = ap₂ ◌∷◌ (add_assoc a b c) (join_assoc α β γ)
 
-pub join_left_comm : (α β γ : List ℕ) → join α (join β γ) ≡ join β (join α γ)
-join_left_comm α β γ = sym (join_assoc α β γ) ∙ ap (λ δ. join δ γ) (join_comm α β) ∙ join_assoc β α γ
-
 pub length-join : (α β : List ℕ) → length (join α β) ≡ max (length α) (length β)
 length-join [] β = omega arith
 length-join (a ∷ α) [] = omega arith
@@ -81,8 +79,11 @@ join_cancel_left (a ∷ α) (b ∷ β) (c ∷ γ) l e =
     let t : join α β ≡ join α γ = cc in
     ap₂ ◌∷◌ (omega arith) (join_cancel_left α β γ (omega arith) t)
 
-pub join_cancel_right : (α β γ : List ℕ) → length α ≡ length β → join α γ ≡ join β γ → α ≡ β
-join_cancel_right α β γ l e = join_cancel_left γ α β l (join_comm γ α ∙ e ∙ join_comm β γ)
+-- the degree of a product of monomials
+pub size-join : (α β : List ℕ) → size (join α β) ≡ size α + size β
+size-join [] β = omega arith
+size-join (a ∷ α) [] = omega arith
+size-join (a ∷ α) (b ∷ β) = let h = size-join α β in omega arith
 
 -- ---- resize, all_zero and fits_in
 

@@ -1,7 +1,7 @@
 -- Euclid's rule gives the greatest common divisor, and its next step gives the same.
-use Rattle.std.proofs.Common.{◌≡◌, ℕ, zero, suc, ◌+◌, ◌*◌, ◌/◌, ◌%◌, ◌<◌, refl, ap, ◌∙◌, arith, add-one}
-use Rattle.std.specs.Int.{IsGcd}
-use Rattle.std.proofs.lemmas.Nat.Gcd.{IsGcd-from_zero, IsGcd-from_mod}
+use Rattle.std.proofs.Common.{◌≡◌, ℕ, zero, suc, ◌+◌, ◌*◌, ◌/◌, ◌%◌, ◌<◌, ◌≤◌, refl, sym, subst, ap, ◌∙◌, arith, add-one}
+use Rattle.std.specs.Int.{IsGcd, ◌∣◌}
+use Rattle.std.proofs.lemmas.Nat.Gcd.{IsGcd-from_zero, IsGcd-from_mod, same_from_IsGcd, le_from_IsGcd, dvd_refl, dvd-zero}
 use Rattle.std.proofs.Math.Nat.{div-mul_cancel}
 use Rattle.sym_model.specs.Canonical.{gcd_within, gcd}
 
@@ -27,9 +27,6 @@ pub gcd-step : (a b : ℕ) → 0 < b → gcd a b ≡ gcd b (a % b)
 gcd-step a zero h = absurd (omega arith)
 gcd-step a (suc b) h = gcd-step_suc a b
 
-pub gcd-zero : (a : ℕ) → gcd a 0 ≡ a
-gcd-zero a = refl
-
 IsGcd-within : (k a b : ℕ) → b < k → IsGcd a b (gcd_within k a b)
 IsGcd-within zero a b h = absurd (omega arith)
 IsGcd-within (suc k) a zero h = IsGcd-from_zero a 0 refl
@@ -39,13 +36,23 @@ IsGcd-within (suc k) a (suc b) h =
 pub IsGcd-gcd : (a b : ℕ) → IsGcd a b (gcd a b)
 IsGcd-gcd a b = IsGcd-within (b + 1) a b (omega arith)
 
+-- it is the only one
+pub gcd-only : (a b g : ℕ) → IsGcd a b g → gcd a b ≡ g
+gcd-only a b g h = same_from_IsGcd a b (gcd a b) g (IsGcd-gcd a b) h
+
 mul-zero_at : (n g : ℕ) → g ≡ 0 → n * g ≡ 0
 mul-zero_at n g e = ap (λ x. n * x) e ∙ omega arith
 
--- a divisor of a positive number is positive
+-- it is positive where the first number is
 pub gcd-positive : (a b : ℕ) → 0 < a → 0 < gcd a b
 gcd-positive a b h = by (gcd a b) refl
   where
     by : (g : ℕ) → gcd a b ≡ g → 0 < gcd a b
     by zero e = absurd (omega (arith, div-mul_cancel (gcd a b) (IsGcd-gcd a b).0, e, h, mul-zero_at (a / gcd a b) (gcd a b) e))
     by (suc g) e = omega arith
+
+-- no number that divides both is greater, where one of them is not 0
+pub gcd-greatest : (a b d : ℕ) → 0 < a + b → d ∣ a → d ∣ b → d ≤ gcd a b
+gcd-greatest zero b d h p q =
+    le_from_IsGcd zero b (gcd zero b) d (IsGcd-gcd zero b) (subst (λ g. 0 < g) (sym (gcd-only zero b b (dvd-zero b, dvd_refl b, λ c x y. y))) (omega arith)) p q
+gcd-greatest (suc a) b d h p q = le_from_IsGcd (suc a) b (gcd (suc a) b) d (IsGcd-gcd (suc a) b) (gcd-positive (suc a) b (omega arith)) p q

@@ -1,12 +1,12 @@
 -- The orders of the places: each list that has every place, and no other entry, once.
 --     orders_members      what the orders of a list without repeats are
 --     orders_once         each of them once
-use Rattle.std.proofs.Common.{◌≡◌, ℕ, zero, suc, ◌+◌, ◌<◌, ◌⊎◌, ◌==◌, true, false, cond, List, [], ◌∷◌, map, length, sym, ◌∙◌, ap, subst, refl, inl, inr, arith}
+use Rattle.std.proofs.Common.{◌≡◌, ℕ, suc, ◌⊎◌, ◌==◌, true, false, cond, List, [], ◌∷◌, map, length, sym, ◌∙◌, ap, subst, refl, inl, inr, arith}
 use Rattle.std.proofs.lemmas.Bool.Decides.{nat_tests}
 use Rattle.sym_model.specs.Sum.{Among, Once, Within}
-use Rattle.sym_model.specs.Partition.{after}
 use Rattle.sym_model.specs.PlaceOrders.{insertions, orders, places}
 use Rattle.sym_model.proofs.Sums.{Among-map, Among_from_map, Among-each, Among_from_each, Once-map, Once-each, without, length-without, Among-without, Within_tail}
+use Rattle.sym_model.proofs.AfterLists.{length_after, once_after}
 
 -- ---- every order is listed
 
@@ -144,24 +144,11 @@ orders_once (x ∷ xs) o =
 
 -- ---- the places
 
-after_among : (a k z : ℕ) → Among z (after a k) → a < z
-after_among a zero z m = absurd m
-after_among a (suc k) z (inl e) = omega arith
-after_among a (suc k) z (inr m) = let h = after_among (a + 1) k z m in omega arith
-
-after_once : (a k : ℕ) → Once (after a k)
-after_once a zero = tt
-after_once a (suc k) = ((λ m. let h = after_among (a + 1) k (a + 1) m in absurd (omega arith)), after_once (a + 1) k)
-
-length_after : (a k : ℕ) → length (after a k) ≡ k
-length_after a zero = refl
-length_after a (suc k) = ap suc (length_after (a + 1) k)
-
 pub place_orders_once : (n : ℕ) → Once (orders (places n))
-place_orders_once n = orders_once (places n) (after_once 0 n)
+place_orders_once n = orders_once (places n) (once_after 0 n)
 
 pub place_orders_members : (n : ℕ) (w : List ℕ) → (Among w (orders (places n)) → (length w ≡ n) × Within (places n) w) × ((length w ≡ n) × Within (places n) w → Among w (orders (places n)))
 place_orders_members n w = (
   (λ m. (order_length (places n) w m ∙ length_after 0 n, order_has (places n) w m)),
-  (λ h. listed (places n) w (after_once 0 n) (h.0 ∙ sym (length_after 0 n)) h.1),
+  (λ h. listed (places n) w (once_after 0 n) (h.0 ∙ sym (length_after 0 n)) h.1),
 )

@@ -1,22 +1,20 @@
 -- The printed order and the tests of a canonical list, as facts: the order is total and ties only equal
--- partitions, the tests decide what they are named for, and the gcd is the greatest common divisor.
-use Rattle.std.proofs.Common.{◌≡◌, ℕ, zero, suc, ◌+◌, ◌^◌, ◌<◌, ◌≤◌, ◌%◌, true, ◌&&◌, List, [], ◌∷◌, length, eqb, leb, ltb, ℤ, pos, negsuc, nat_abs, refl, sym, ap, ◌∙◌, subst, mod-lt, arith}
+-- partitions, and the tests decide what they are named for.
+use Rattle.std.proofs.Common.{◌≡◌, ℕ, zero, suc, ◌+◌, ◌<◌, ◌≤◌, true, ◌&&◌, List, [], ◌∷◌, length, eqb, leb, ltb, nat_abs, refl, sym, ap, ◌∙◌, subst, arith}
 use Rattle.std.specs.Int.{IsGcd}
-use Rattle.std.specs.Int.RustNames.{FitsSigned}
-use mir.Syntax.{w128}
 use Rattle.std.specs.Cmp.{IsTotalOrder}
 use Rattle.std.specs.Cmp.Lexicographic.{slice_cmp}
 use Rattle.std.specs.Ordering.{nat_cmp, ordering_then, ordering_reverse, flip_args, MatchOrdering}
 use Rattle.std.specs.declared.cmp.Ordering.{Ordering}
 use Rattle.std.specs.declared.cmp.Ordering.TheVariants.{Less, Equal, Greater}
-use Rattle.std.proofs.lemmas.Cmp.{ranked, nat_cmp_total, back_total, lists_total, on_total, then_total, tied_itself}
+use Rattle.std.proofs.lemmas.Cmp.{ranked, nat_cmp_total, back_total, lists_total, on_total, then_total}
 use Rattle.std.proofs.lemmas.Bool.{eq-eqb, eqb-true, leb-true, ltb-true, lt-ltb, le-leb, and_parts, and_from}
-use Rattle.std.proofs.lemmas.Nat.Gcd.{IsGcd-from_zero, IsGcd-from_mod, same_from_IsGcd}
 use Rattle.sym_model.specs.Polynomial.{resize}
 use Rattle.sym_model.specs.Partition.{ArePositive, IsPartition, size, rows}
 use Rattle.sym_model.specs.PrintedOrder.{falling_lexicographic, printed_order}
 use Rattle.sym_model.specs.Expansion.{Fraction}
-use Rattle.sym_model.specs.Canonical.{gcd_within, gcd, is_reduced, is_partition, is_label, fits_128_bits}
+use Rattle.sym_model.specs.Canonical.{gcd, is_reduced, is_partition, is_label}
+use Rattle.sym_model.proofs.GreatestCommonDivisors.{IsGcd-gcd, gcd-only}
 
 -- numbers compared the other way round
 abbrev falling : ℕ → ℕ → Ordering
@@ -62,9 +60,6 @@ falling_lexicographic-total = record { antisymm = antisymm; trans = trans; congr
 -- the printed order is a total order: turned round it gives the reverse, it is transitive, and what ties compares alike
 pub printed_order-total : IsTotalOrder printed_order
 printed_order-total = then_total (on_total size (back_total nat_cmp_total)) falling_lexicographic-total
-
-pub printed_order-itself : (x : List ℕ) → printed_order x x ≡ Equal
-printed_order-itself x = tied_itself printed_order-total x
 
 -- what ties in two orders one after the other ties in both
 then-equal : (o p : Ordering) → ordering_then o p ≡ Equal → (o ≡ Equal) × (p ≡ Equal)
@@ -133,21 +128,6 @@ pub is_label-from : (parts : List ℕ) → IsLabel parts → is_label parts ≡ 
 is_label-from parts h =
     and_from (is_partition parts && leb (rows parts) 512) (leb (size parts) 4096) (and_from (is_partition parts) (leb (rows parts) 512) (is_partition-from parts h.partition) (le-leb _ _ h.rows)) (le-leb _ _ h.size)
 
--- Euclid's rule in enough steps gives the greatest common divisor
-gcd_within-is : (steps a b : ℕ) → b < steps → IsGcd a b (gcd_within steps a b)
-gcd_within-is zero a b h = absurd (omega arith)
-gcd_within-is (suc steps) a zero h = IsGcd-from_zero a 0 refl
-gcd_within-is (suc steps) a (suc b) h =
-    let low : a % suc b < suc b = mod-lt a (omega arith) in
-    IsGcd-from_mod a (suc b) _ (gcd_within-is steps (suc b) (a % suc b) (omega arith))
-
--- the gcd is the greatest common divisor, and the only one
-pub gcd-is : (a b : ℕ) → IsGcd a b (gcd a b)
-gcd-is a b = gcd_within-is (b + 1) a b (omega arith)
-
-pub gcd-only : (a b g : ℕ) → IsGcd a b g → gcd a b ≡ g
-gcd-only a b g h = same_from_IsGcd a b (gcd a b) g (gcd-is a b) h
-
 -- a fraction that is not 0, in lowest terms, with a positive denominator
 pub record IsReduced (c : Fraction) : Type 0 where
   pub denominator : 0 < c.1
@@ -158,17 +138,8 @@ pub is_reduced-tells : (c : Fraction) → is_reduced c ≡ true → IsReduced c
 is_reduced-tells c h =
     let p = and_parts (ltb 0 c.1 && ltb 0 (nat_abs c.0)) (eqb (gcd (nat_abs c.0) c.1) 1) h in
     let q = and_parts (ltb 0 c.1) (ltb 0 (nat_abs c.0)) p.0 in
-    record { denominator = ltb-true _ _ q.0; nonzero = ltb-true _ _ q.1; lowest = subst (IsGcd (nat_abs c.0) c.1) (eqb-true _ _ p.1) (gcd-is (nat_abs c.0) c.1) }
+    record { denominator = ltb-true _ _ q.0; nonzero = ltb-true _ _ q.1; lowest = subst (IsGcd (nat_abs c.0) c.1) (eqb-true _ _ p.1) (IsGcd-gcd (nat_abs c.0) c.1) }
 
 pub is_reduced-from : (c : Fraction) → IsReduced c → is_reduced c ≡ true
 is_reduced-from c h =
     and_from (ltb 0 c.1 && ltb 0 (nat_abs c.0)) (eqb (gcd (nat_abs c.0) c.1) 1) (and_from (ltb 0 c.1) (ltb 0 (nat_abs c.0)) (lt-ltb 0 c.1 h.denominator) (lt-ltb 0 (nat_abs c.0) h.nonzero)) (eq-eqb _ _ (gcd-only (nat_abs c.0) c.1 1 h.lowest))
-
--- a number of 128 bits with a sign, as the program's integers are
-pub fits_128_bits-from : (z : ℤ) → FitsSigned w128 z → fits_128_bits z ≡ true
-fits_128_bits-from (pos n) h = lt-ltb n (2 ^ 127) h.sfits
-fits_128_bits-from (negsuc n) h = lt-ltb n (2 ^ 127) h.sfits
-
-pub fits_128_bits-tells : (z : ℤ) → fits_128_bits z ≡ true → FitsSigned w128 z
-fits_128_bits-tells (pos n) h = record { sfits = ltb-true n (2 ^ 127) h }
-fits_128_bits-tells (negsuc n) h = record { sfits = ltb-true n (2 ^ 127) h }

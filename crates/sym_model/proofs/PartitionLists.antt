@@ -8,22 +8,22 @@ use Rattle.std.specs.declared.cmp.Ordering.TheVariants.{Less}
 use Rattle.sym_model.specs.Sum.{each, Among, Once}
 use Rattle.sym_model.specs.Partition.{IsPartition, Falls, ArePositive, size, columns}
 use Rattle.sym_model.specs.PrintedOrder.{falling_lexicographic}
-use Rattle.sym_model.specs.PartitionList.{down_from, partitions_within, partitions_of, FallsLexicographically}
+use Rattle.sym_model.specs.PartitionList.{down_to_one, partitions_within, partitions_of, FallsLexicographically}
 use Rattle.sym_model.proofs.Sums.{Among-map, Among_from_map, Among-each, Among_from_each, Among_from_append}
 use Rattle.sym_model.proofs.Orders.{falling_lexicographic-total}
 use Rattle.sym_model.proofs.SortedParts.{rows_within_size}
 
 -- ---- the numbers from k down to 1
 
-pub down_from-tells : (k a : ℕ) → Among a (down_from k) → (0 < a) × (a ≤ k)
-down_from-tells zero a m = absurd m
-down_from-tells (suc k) a (inl e) = (omega arith, omega arith)
-down_from-tells (suc k) a (inr m) = let h = down_from-tells k a m in (h.0, omega (arith, h.1))
+pub down_to_one-tells : (k a : ℕ) → Among a (down_to_one k) → (0 < a) × (a ≤ k)
+down_to_one-tells zero a m = absurd m
+down_to_one-tells (suc k) a (inl e) = (omega arith, omega arith)
+down_to_one-tells (suc k) a (inr m) = let h = down_to_one-tells k a m in (h.0, omega (arith, h.1))
 
-pub Among-down_from : (k a : ℕ) → 0 < a → a ≤ k → Among a (down_from k)
-Among-down_from zero a p h = absurd (omega arith)
-Among-down_from (suc k) a p h =
-    ⊎_elim (λ e. inl e) (λ l. inr (Among-down_from k a p (omega arith))) (eq-or-lt_of_le {n = a} {m = suc k} h)
+pub Among-down_to_one : (k a : ℕ) → 0 < a → a ≤ k → Among a (down_to_one k)
+Among-down_to_one zero a p h = absurd (omega arith)
+Among-down_to_one (suc k) a p h =
+    ⊎_elim (λ e. inl e) (λ l. inr (Among-down_to_one k a p (omega arith))) (eq-or-lt_of_le {n = a} {m = suc k} h)
 
 -- ---- exactly the partitions
 
@@ -49,9 +49,9 @@ partitions_within-tells rows zero most parts (inr m) = absurd m
 partitions_within-tells zero (suc d) most parts m = absurd m
 partitions_within-tells (suc rows) (suc d) most parts m =
     let top = min most (suc d) in
-    let found = Among_from_each (λ a. map (λ rest. a ∷ rest) (partitions_within (suc d - a) a rows)) parts (down_from top) m in
+    let found = Among_from_each (λ a. map (λ rest. a ∷ rest) (partitions_within (suc d - a) a rows)) parts (down_to_one top) m in
     let a : ℕ = found.0 in
-    let range = down_from-tells top a found.1 in
+    let range = down_to_one-tells top a found.1 in
     let tail = Among_from_map (λ rest. a ∷ rest) parts (partitions_within (suc d - a) a rows) found.2 in
     let within = partitions_within-tells rows (suc d - a) a tail.0 tail.1 in
     let low : a ≤ most = omega (arith, range.1, min-le_left most (suc d)) in
@@ -81,7 +81,7 @@ Among-partitions_within (suc rows) (suc d) most [] w h = absurd (omega (arith, w
 Among-partitions_within (suc rows) (suc d) most (a ∷ parts) w h =
     let top = min most (suc d) in
     let few : a ≤ suc d = omega (arith, w.sum) in
-    let here : Among a (down_from top) = Among-down_from top a w.positive.0 (le-min w.first few) in
+    let here : Among a (down_to_one top) = Among-down_to_one top a w.positive.0 (le-min w.first few) in
     let rest : IsWithin (suc d - a) a parts = record {
       falls = Falls-rest a parts w.falls;
       positive = w.positive.1;
@@ -89,7 +89,7 @@ Among-partitions_within (suc rows) (suc d) most (a ∷ parts) w h =
       first = Falls-first a parts w.falls;
     } in
     let tail = Among-partitions_within rows (suc d - a) a parts rest (omega arith) in
-    Among-each (λ b. map (λ rest. b ∷ rest) (partitions_within (suc d - b) b rows)) a (a ∷ parts) (down_from top) here
+    Among-each (λ b. map (λ rest. b ∷ rest) (partitions_within (suc d - b) b rows)) a (a ∷ parts) (down_to_one top) here
     (Among-map (λ rest. a ∷ rest) parts (partitions_within (suc d - a) a rows) tail)
 
 columns_few : (parts : List ℕ) → columns parts ≤ size parts
@@ -145,19 +145,19 @@ FallsLexicographically-map a (x ∷ xs) f = (
 FallsLexicographically-each :
     (rest : ℕ → List (List ℕ)) (k : ℕ)
     → ((a : ℕ) → 0 < a → FallsLexicographically (rest a))
-    → FallsLexicographically (each (λ a. map (λ x. a ∷ x) (rest a)) (down_from k))
+    → FallsLexicographically (each (λ a. map (λ x. a ∷ x) (rest a)) (down_to_one k))
 FallsLexicographically-each rest zero f = tt
 FallsLexicographically-each rest (suc k) f =
     FallsLexicographically-append (map (λ x. suc k ∷ x) (rest (suc k)))
-    (each (λ a. map (λ x. a ∷ x) (rest a)) (down_from k))
+    (each (λ a. map (λ x. a ∷ x) (rest a)) (down_to_one k))
     (FallsLexicographically-map (suc k) (rest (suc k)) (f (suc k) (omega arith)))
     (FallsLexicographically-each rest k f)
     (λ x y m n.
     let left = Among_from_map (λ z. suc k ∷ z) x (rest (suc k)) m in
-    let found = Among_from_each (λ a. map (λ z. a ∷ z) (rest a)) y (down_from k) n in
+    let found = Among_from_each (λ a. map (λ z. a ∷ z) (rest a)) y (down_to_one k) n in
     let b : ℕ = found.0 in
     let right = Among_from_map (λ z. b ∷ z) y (rest b) found.2 in
-    let below = down_from-tells k b found.1 in
+    let below = down_to_one-tells k b found.1 in
     let less = greater_first (suc k) b left.0 right.0 (omega (arith, below.1)) in
     subst (λ z. falling_lexicographic z y ≡ Less) (sym left.2)
     (subst (λ z. falling_lexicographic (suc k ∷ left.0) z ≡ Less) (sym right.2) less))
@@ -194,7 +194,7 @@ partitions_within-rows zero s (suc d) most h g = absurd (omega arith)
 partitions_within-rows (suc r) zero (suc d) most h g = absurd (omega arith)
 partitions_within-rows (suc r) (suc s) (suc d) most h g =
     each-among (λ a. map (λ x. a ∷ x) (partitions_within (suc d - a) a r))
-    (λ a. map (λ x. a ∷ x) (partitions_within (suc d - a) a s)) (down_from (min most (suc d)))
+    (λ a. map (λ x. a ∷ x) (partitions_within (suc d - a) a s)) (down_to_one (min most (suc d)))
     (λ a m.
-    let positive = (down_from-tells (min most (suc d)) a m).0 in
+    let positive = (down_to_one-tells (min most (suc d)) a m).0 in
     ap (map (λ x. a ∷ x)) (partitions_within-rows r s (suc d - a) a (omega arith) (omega arith)))

@@ -1,11 +1,9 @@
 -- The laws of the ring of polynomials, and of restriction to fewer variables, by pairings.
-use Rattle.std.proofs.Common.{◌≡◌, ℕ, ◌≤◌, Bool, true, false, ◌&&◌, cond, List, sym, ◌∙◌, ap, ap₂, refl, arith, ℤ, pos, ◌+ℤ◌, ◌*ℤ◌, neg_ℤ, append_assoc, [], ◌∷◌, length}
-use Rattle.std.proofs.lemmas.Bool.{both_ways}
+use Rattle.std.proofs.Common.{◌≡◌, ℕ, ◌≤◌, Bool, true, false, ◌&&◌, cond, List, sym, ◌∙◌, ap, ap₂, refl, arith, ℤ, pos, ◌+ℤ◌, ◌*ℤ◌, neg_ℤ, append_assoc}
 use Rattle.std.proofs.lemmas.Int.{ints}
-use Rattle.sym_model.specs.Polynomial.{Term, Poly, same, coefficient, Same, In, nothing, no_exponents, one, join, plus, scale, negate, times, pair, resize, fits_in, restrict}
-use Rattle.sym_model.proofs.Exponents.{tests_agree, same_true, same_from, same_apart, join_cancel_left, resize_back, fits_in_resized, join_comm, join_assoc, join_zeros, resize_same, resize_zeros, resize-join, resize-resize, fits_in-join, fits_in_zeros, fits_in_length, fits_in-resize}
-use Rattle.sym_model.proofs.Polynomials.{at_only, coefficient_pair, pair_ext, pair_in, pair_add, pair_factor, pair_opposite, pair_zero, pair_exchange, pair_plus, pair_scale, pair_negate, pair_times, pair_one, pair_restrict, same_from_pair, same_of_equal, Same_trans}
-use lib.IntN.{+ℤ_idr}
+use Rattle.sym_model.specs.Polynomial.{Poly, Same, In, nothing, no_exponents, one, join, plus, scale, negate, times, pair, resize, fits_in, restrict}
+use Rattle.sym_model.proofs.Exponents.{join_comm, join_assoc, join_zeros, resize_zeros, resize-join, resize-resize, fits_in-join, fits_in_zeros, fits_in-resize}
+use Rattle.sym_model.proofs.Polynomials.{pair_ext, pair_in, pair_add, pair_factor, pair_opposite, pair_zero, pair_exchange, pair_plus, pair_scale, pair_negate, pair_times, pair_one, pair_restrict, same_from_pair, same_of_equal, Same_trans}
 
 -- ---- sums
 
@@ -87,9 +85,6 @@ times-negate f g =
     ∙ pair_opposite f (λ α. pair g (λ β. φ (join α β)))
     ∙ sym (pair_negate (times f g) φ ∙ ap neg_ℤ (pair_times f g φ)))
 
-pub times-nothing : (f : Poly) → Same (times f nothing) nothing
-times-nothing f = same_from_pair (times f nothing) nothing (λ φ. pair_times f nothing φ ∙ pair_zero f)
-
 -- ---- restriction
 
 -- the test function of a restriction
@@ -151,41 +146,3 @@ restrict-restrict k n f h =
     both : (a b : Bool) (x : ℤ) → cond a (cond b x (pos 0)) (pos 0) ≡ cond (a && b) x (pos 0)
     both true b x = refl
     both false b x = refl
-
--- a polynomial in n variables restricted to n variables
-pub restrict_all : (n : ℕ) (f : Poly) → In n f → Same (restrict n f) f
-restrict_all n f i =
-    same_from_pair (restrict n f) f (λ φ.
-    pair_restrict n f φ
-    ∙ pair_in n f (kept n φ) φ i (λ α e. ap₂ (λ b γ. cond b (φ γ) (pos 0)) (fits_in_length n α (omega arith)) (resize_same n α e)))
-
--- in k variables a restriction has the coefficients of the polynomial at lists padded with zeros
-pub coefficient_restrict_in : (k n : ℕ) (f : Poly) (α : List ℕ) → k ≤ n → In n f → length α ≡ k → coefficient (restrict k f) α ≡ coefficient f (resize n α)
-coefficient_restrict_in k n f α h i l =
-    coefficient_pair (restrict k f) α
-    ∙ pair_restrict k f (at_only α)
-    ∙ pair_in n f (kept k (at_only α)) (at_only (resize n α)) i (λ β e. agree β e (fits_in k β) refl)
-    ∙ sym (coefficient_pair f (resize n α))
-  where
-    back : resize k (resize n α) ≡ α
-    back = resize-resize k n α h ∙ resize_same k α l
-
-    agree : (β : List ℕ) → length β ≡ n → (b : Bool) → fits_in k β ≡ b → cond b (at_only α (resize k β)) (pos 0) ≡ at_only (resize n α) β
-    agree β e true t =
-        ap (λ b. cond b (pos 1) (pos 0)) (tests_agree (same (resize k β) α) (same β (resize n α))
-        (λ s. same_from β (resize n α) (sym (resize_back k n β h e t) ∙ ap (resize n) (same_true (resize k β) α s)))
-        (λ s. same_from (resize k β) α (ap (resize k) (same_true β (resize n α) s) ∙ back)))
-    agree β e false t =
-        ap (λ b. cond b (pos 1) (pos 0)) (sym (same_apart β (resize n α) (λ d. both_ways (fits_in k β) t (ap (fits_in k) d ∙ fits_in_resized k n α l))))
-
--- the coefficient of a product with one term
-pub coefficient_times_term : (n : ℕ) (s : Term) (g : Poly) (β : List ℕ) → In n g → length β ≡ n → coefficient (times (s ∷ []) g) (join s.0 β) ≡ s.1 *ℤ coefficient g β
-coefficient_times_term n s g β i l =
-    coefficient_pair (times (s ∷ []) g) (join s.0 β)
-    ∙ pair_times (s ∷ []) g (at_only (join s.0 β))
-    ∙ +ℤ_idr _
-    ∙ ap (λ c. s.1 *ℤ c) (pair_in n g (λ δ. at_only (join s.0 β) (join s.0 δ)) (at_only β) i (λ δ e.
-    ap (λ b. cond b (pos 1) (pos 0)) (tests_agree (same (join s.0 δ) (join s.0 β)) (same δ β)
-    (λ t. same_from δ β (join_cancel_left s.0 δ β (e ∙ sym l) (same_true (join s.0 δ) (join s.0 β) t)))
-    (λ t. same_from (join s.0 δ) (join s.0 β) (ap (join s.0) (same_true δ β t)))))
-    ∙ sym (coefficient_pair g β))

@@ -6,10 +6,10 @@ use Rattle.std.proofs.lemmas.Int.{ints}
 use Rattle.std.proofs.lemmas.Bool.{cases_eq}
 use Rattle.std.proofs.lemmas.List.{length-replicate}
 use Rattle.sym_model.specs.Sum.{total, each, select, Among}
-use Rattle.sym_model.specs.Polynomial.{Term, Poly, same, coefficient, Same, In, nothing, no_exponents, one, join, plus, scale, negate, times, pair, resize, fits_in, restrict}
+use Rattle.sym_model.specs.Polynomial.{Term, Poly, same, coefficient, Same, In, no_exponents, one, join, plus, scale, negate, times, pair, resize, fits_in, restrict}
 use Rattle.sym_model.proofs.Ring.{distributes_left, product_assoc, product_left_comm, negation-product, product-negation, product-one, one-product}
 use Rattle.sym_model.proofs.Sums.{total_ext, total_among, total_append, total_none, total_add, total_neg, total_scale, total_map, total_each, total_select, total_exchange, Among_from_append, Among_from_map, Among_from_each, Among_from_select}
-use Rattle.sym_model.proofs.Exponents.{same_refl, same_true, same_apart, same_or_not, length-join_same, length-resize}
+use Rattle.sym_model.proofs.Exponents.{same_refl, same_true, same_apart, same_or_not, length-join_same}
 use lib.IntN.{+ℤ_idl, *ℤ-zero, *ℤ_comm}
 
 -- ---- pairing with changed test functions
@@ -262,15 +262,9 @@ restrict_respects n f g e =
 
 -- ---- polynomials in n variables
 
-pub In_nothing : (n : ℕ) → In n nothing
-In_nothing n t m = absurd m
-
 pub In_one : (n : ℕ) → In n (one n)
 In_one n t (inl e) = ap (λ (s : Term). length s.0) e ∙ length-replicate n 0
 In_one n t (inr m) = absurd m
-
-pub In_tail : (n : ℕ) (t : Term) (f : Poly) → In n (t ∷ f) → In n f
-In_tail n t f i s m = i s (inr m)
 
 pub In_plus : (n : ℕ) (f g : Poly) → In n f → In n g → In n (plus f g)
 In_plus n f g i j t m = elim (Among_from_append t f g m) [ inl l ↦ i t l | inr r ↦ j t r ]
@@ -295,9 +289,6 @@ pub In_times : (n : ℕ) (f g : Poly) → In n f → In n g → In n (times f g)
 In_times n f g i j =
     In_each n (λ (s : Term). map (λ (t : Term). (join s.0 t.0, s.1 *ℤ t.1)) g) f (λ s m.
     In_map n (λ (t : Term). (join s.0 t.0, s.1 *ℤ t.1)) g (λ t k. length-join_same n s.0 t.0 (i s m) (j t k)))
-
-pub In_restrict : (n : ℕ) (f : Poly) → In n (restrict n f)
-In_restrict n f = In_map n (λ (t : Term). (resize n t.0, t.1)) (select (λ (t : Term). fits_in n t.0) f) (λ t m. length-resize n t.0)
 
 -- a polynomial in n variables has no coefficient at a list of another length
 pub coefficient_outside : (n : ℕ) (f : Poly) (α : List ℕ) → In n f → (length α ≡ n → ⊥) → coefficient f α ≡ pos 0

@@ -1,25 +1,32 @@
 -- Lists of terms with whole coefficients (specs/WholeTerms): what they stand for depends on the summed coefficient of
--- each label alone.
-use Rattle.std.proofs.Common.{◌≡◌, ℕ, cond, List, [], ◌∷◌, sym, ◌∙◌, ap, ap₂, refl, arith, ℤ, pos, ◌+ℤ◌, ◌*ℤ◌}
+-- each label alone. Labels of any type are told apart by a key, a list of numbers from which the label can be had back.
+use Rattle.std.proofs.Common.{◌≡◌, ℕ, Bool, cond, List, [], ◌∷◌, map, sym, ◌∙◌, ap, ap₂, subst, refl, arith, ℤ, pos, ◌+ℤ◌, ◌*ℤ◌}
 use Rattle.std.proofs.lemmas.Int.{ints}
+use Rattle.sym_model.specs.Sum.{total}
 use Rattle.sym_model.specs.Polynomial.{Poly, same, coefficient, Same, pair, plus, scale}
-use Rattle.sym_model.specs.Expansion.{Terms, Basis, basis_polynomial, denominators, cleared, value}
-use Rattle.sym_model.specs.WholeTerms.{WholeTerms, combined, as_fractions, AreWhole, numerators}
+use Rattle.sym_model.specs.Expansion.{Terms, Basis, basis_polynomial, denominators, cleared, value_by, value, Represents}
+use Rattle.sym_model.specs.WholeTerms.{WholeTermsOf, WholeTerms, coefficient_by, combined, as_fractions, AreWhole, numerators}
 use Rattle.sym_model.proofs.Ring.{product-one}
-use Rattle.sym_model.proofs.Sums.{total_ext}
-use Rattle.sym_model.proofs.Polynomials.{at_only, coefficient_pair, pair_ext, pair_each, pair_scale, pair_determined, coefficient_plus}
+use Rattle.sym_model.proofs.Sums.{total_ext, total_map}
+use Rattle.sym_model.proofs.Polynomials.{at_only, coefficient_pair, pair_each, pair_scale, pair_determined, coefficient_plus, scale_respects}
 
 -- the pairing of a combination
+pub pair_of_combined : {Label : Type 0} (polynomial : Label → Poly) (terms : WholeTermsOf Label) (φ : List ℕ → ℤ) → pair (combined polynomial terms) φ ≡ total (λ (t : Label × ℤ). t.1 *ℤ pair (polynomial t.0) φ) terms
+pair_of_combined {Label = Label} polynomial terms φ =
+    pair_each (λ (t : Label × ℤ). scale t.1 (polynomial t.0)) terms φ
+    ∙ total_ext (λ (t : Label × ℤ). pair (scale t.1 (polynomial t.0)) φ) (λ (t : Label × ℤ). t.1 *ℤ pair (polynomial t.0) φ) (λ t. pair_scale t.1 (polynomial t.0) φ) terms
+
 pub pair-combined : (polynomial : List ℕ → Poly) (terms : WholeTerms) (φ : List ℕ → ℤ) → pair (combined polynomial terms) φ ≡ pair terms (λ label. pair (polynomial label) φ)
-pair-combined polynomial terms φ =
-    pair_each (λ (t : List ℕ × ℤ). scale t.1 (polynomial t.0)) terms φ
-    ∙ total_ext (λ (t : List ℕ × ℤ). pair (scale t.1 (polynomial t.0)) φ) (λ (t : List ℕ × ℤ). t.1 *ℤ pair (polynomial t.0) φ) (λ t. pair_scale t.1 (polynomial t.0) φ) terms
+pair-combined polynomial terms φ = pair_of_combined polynomial terms φ
+
+pub coefficient_of_combined : {Label : Type 0} (polynomial : Label → Poly) (terms : WholeTermsOf Label) (α : List ℕ) → coefficient (combined polynomial terms) α ≡ total (λ (t : Label × ℤ). t.1 *ℤ coefficient (polynomial t.0) α) terms
+coefficient_of_combined {Label = Label} polynomial terms α =
+    coefficient_pair (combined polynomial terms) α
+    ∙ pair_of_combined polynomial terms (at_only α)
+    ∙ total_ext (λ (t : Label × ℤ). t.1 *ℤ pair (polynomial t.0) (at_only α)) (λ (t : Label × ℤ). t.1 *ℤ coefficient (polynomial t.0) α) (λ t. ap (λ n. t.1 *ℤ n) (sym (coefficient_pair (polynomial t.0) α))) terms
 
 pub coefficient-combined : (polynomial : List ℕ → Poly) (terms : WholeTerms) (α : List ℕ) → coefficient (combined polynomial terms) α ≡ pair terms (λ label. coefficient (polynomial label) α)
-coefficient-combined polynomial terms α =
-    coefficient_pair (combined polynomial terms) α
-    ∙ pair-combined polynomial terms (at_only α)
-    ∙ total_ext (λ (t : List ℕ × ℤ). t.1 *ℤ pair (polynomial t.0) (at_only α)) (λ (t : List ℕ × ℤ). t.1 *ℤ coefficient (polynomial t.0) α) (λ t. ap (λ n. t.1 *ℤ n) (sym (coefficient_pair (polynomial t.0) α))) terms
+coefficient-combined polynomial terms α = coefficient_of_combined polynomial terms α
 
 -- ---- collecting
 
@@ -29,40 +36,86 @@ combined_respects polynomial terms others e α =
     coefficient-combined polynomial terms α ∙ pair_determined terms others (λ label. coefficient (polynomial label) α) e ∙ sym (coefficient-combined polynomial others α)
 
 -- only the coefficients of the polynomials of the labels count
-pub combined_same_labels : (f g : List ℕ → Poly) (terms : WholeTerms) → ((label : List ℕ) → Same (f label) (g label)) → Same (combined f terms) (combined g terms)
-combined_same_labels f g terms e α =
-    coefficient-combined f terms α ∙ pair_ext terms (λ label. coefficient (f label) α) (λ label. coefficient (g label) α) (λ label. e label α) ∙ sym (coefficient-combined g terms α)
+pub combined_same_labels : {Label : Type 0} (f g : Label → Poly) (terms : WholeTermsOf Label) → ((label : Label) → Same (f label) (g label)) → Same (combined f terms) (combined g terms)
+combined_same_labels {Label = Label} f g terms e α =
+    coefficient_of_combined f terms α
+    ∙ total_ext (λ (t : Label × ℤ). t.1 *ℤ coefficient (f t.0) α) (λ (t : Label × ℤ). t.1 *ℤ coefficient (g t.0) α) (λ t. ap (λ c. t.1 *ℤ c) (e t.0 α)) terms
+    ∙ sym (coefficient_of_combined g terms α)
+
+-- ---- labels of any type, by a key
+
+-- the terms with other labels, such as keys
+abbrev pub relabelled : {A B : Type 0} → (A → B) → WholeTermsOf A → WholeTermsOf B
+relabelled {A = A} other terms = map (λ (t : A × ℤ). (other t.0, t.1)) terms
+
+-- the label can be had back from its key
+abbrev pub IsKey : {Label : Type 0} → (Label → List ℕ) → (List ℕ → Label) → Type 0
+IsKey {Label = Label} key back = (label : Label) → back (key label) ≡ label
+
+-- the terms with their keys as labels stand for the same
+pub combined-relabelled : {Label : Type 0} (key : Label → List ℕ) (back : List ℕ → Label) → IsKey key back → (polynomial : Label → Poly) (terms : WholeTermsOf Label) → combined (λ k. polynomial (back k)) (relabelled key terms) ≡ combined polynomial terms
+combined-relabelled key back is_key polynomial [] = refl
+combined-relabelled key back is_key polynomial (t ∷ terms) =
+    ap₂ plus (ap (λ label. scale t.1 (polynomial label)) (is_key t.0)) (combined-relabelled key back is_key polynomial terms)
+
+-- equal labels put together, terms with 0 left out and another order change nothing
+pub combined_respects_by : {Label : Type 0} (key : Label → List ℕ) (back : List ℕ → Label) → IsKey key back → (polynomial : Label → Poly) (terms others : WholeTermsOf Label) → Same (relabelled key terms) (relabelled key others) → Same (combined polynomial terms) (combined polynomial others)
+combined_respects_by key back is_key polynomial terms others e =
+    subst (λ f. Same f (combined polynomial others)) (combined-relabelled key back is_key polynomial terms)
+    (subst (λ f. Same (combined (λ k. polynomial (back k)) (relabelled key terms)) f) (combined-relabelled key back is_key polynomial others)
+    (combined_respects (λ k. polynomial (back k)) (relabelled key terms) (relabelled key others) e))
+
+-- the summed coefficient of a label is that of its key, where the test of labels is that of their keys
+pub coefficient-relabelled : {Label : Type 0} (test : Label → Label → Bool) (key : Label → List ℕ) → ((x y : Label) → same (key x) (key y) ≡ test x y) → (terms : WholeTermsOf Label) (label : Label) → coefficient (relabelled key terms) (key label) ≡ coefficient_by test terms label
+coefficient-relabelled {Label = Label} test key tests terms label =
+    total_map (λ (t : List ℕ × ℤ). cond (same t.0 (key label)) t.1 (pos 0)) (λ (t : Label × ℤ). (key t.0, t.1)) terms
+    ∙ total_ext (λ (t : Label × ℤ). cond (same (key t.0) (key label)) t.1 (pos 0)) (λ (t : Label × ℤ). cond (test t.0 label) t.1 (pos 0)) (λ t. ap (λ b. cond b t.1 (pos 0)) (tests t.0 label)) terms
 
 -- ---- the value of a list with denominators 1
 
-denominators-as_fractions : (terms : WholeTerms) → denominators (as_fractions terms) ≡ 1
+pub denominators-as_fractions : {Label : Type 0} (terms : WholeTermsOf Label) → denominators (as_fractions terms) ≡ 1
 denominators-as_fractions [] = refl
 denominators-as_fractions (t ∷ terms) = omega (arith, denominators-as_fractions terms)
 
-cleared-as_fractions : (polynomial : List ℕ → Poly) (terms : WholeTerms) → cleared polynomial 1 (as_fractions terms) ≡ combined polynomial terms
+cleared-as_fractions : {Label : Type 0} (polynomial : Label → Poly) (terms : WholeTermsOf Label) → cleared polynomial 1 (as_fractions terms) ≡ combined polynomial terms
 cleared-as_fractions polynomial [] = refl
 cleared-as_fractions polynomial (t ∷ terms) = ap₂ plus (ap (λ c. scale c (polynomial t.0)) (product-one t.1)) (cleared-as_fractions polynomial terms)
 
 -- it is the combination itself
-pub value-as_fractions : (basis : Basis) (terms : WholeTerms) (n : ℕ) → value basis (as_fractions terms) n ≡ combined (λ label. basis_polynomial basis label n) terms
-value-as_fractions basis terms n =
-    ap (λ q. cleared (λ label. basis_polynomial basis label n) q (as_fractions terms)) (denominators-as_fractions terms)
-    ∙ cleared-as_fractions (λ label. basis_polynomial basis label n) terms
+pub value_by-as_fractions : {Label : Type 0} (polynomial : Label → Poly) (terms : WholeTermsOf Label) → value_by polynomial (as_fractions terms) ≡ combined polynomial terms
+value_by-as_fractions polynomial terms =
+    ap (λ q. cleared polynomial q (as_fractions terms)) (denominators-as_fractions terms) ∙ cleared-as_fractions polynomial terms
 
-pub as_fractions-numerators : (terms : Terms (List ℕ)) → AreWhole terms → as_fractions (numerators terms) ≡ terms
+pub value-as_fractions : (basis : Basis) (terms : WholeTerms) (n : ℕ) → value basis (as_fractions terms) n ≡ combined (λ label. basis_polynomial basis label n) terms
+value-as_fractions basis terms n = value_by-as_fractions (λ label. basis_polynomial basis label n) terms
+
+pub as_fractions-numerators : {Label : Type 0} (terms : Terms Label) → AreWhole terms → as_fractions (numerators terms) ≡ terms
 as_fractions-numerators [] w = refl
 as_fractions-numerators (t ∷ terms) w = ap₂ ◌∷◌ (ap (λ (d : ℕ). (t.0, (t.1.0, d))) (sym w.0)) (as_fractions-numerators terms w.1)
 
-pub denominators_of_whole : (terms : Terms (List ℕ)) → AreWhole terms → denominators terms ≡ 1
+pub denominators_of_whole : {Label : Type 0} (terms : Terms Label) → AreWhole terms → denominators terms ≡ 1
 denominators_of_whole terms w = ap denominators (sym (as_fractions-numerators terms w)) ∙ denominators-as_fractions (numerators terms)
 
+pub value_by-whole : {Label : Type 0} (polynomial : Label → Poly) (terms : Terms Label) → AreWhole terms → value_by polynomial terms ≡ combined polynomial (numerators terms)
+value_by-whole polynomial terms w = ap (λ l. value_by polynomial l) (sym (as_fractions-numerators terms w)) ∙ value_by-as_fractions polynomial (numerators terms)
+
 pub value_of_whole : (basis : Basis) (terms : Terms (List ℕ)) (n : ℕ) → AreWhole terms → value basis terms n ≡ combined (λ label. basis_polynomial basis label n) (numerators terms)
-value_of_whole basis terms n w = ap (λ l. value basis l n) (sym (as_fractions-numerators terms w)) ∙ value-as_fractions basis (numerators terms) n
+value_of_whole basis terms n w = value_by-whole (λ label. basis_polynomial basis label n) terms w
 
 -- lists with denominators 1 in which each label has the same summed coefficient have one value
 pub value_respects : (basis : Basis) (terms others : Terms (List ℕ)) (n : ℕ) → AreWhole terms → AreWhole others → Same (numerators terms) (numerators others) → Same (value basis terms n) (value basis others n)
 value_respects basis terms others n w v e =
     rw (value_of_whole basis terms n w, value_of_whole basis others n v) (combined_respects (λ label. basis_polynomial basis label n) (numerators terms) (numerators others) e)
+
+-- a list with denominators 1 is the polynomial that its combination is
+pub represents-whole : {Label : Type 0} (polynomial : Label → Poly) (terms : Terms Label) (f : Poly) → AreWhole terms → Same (combined polynomial (numerators terms)) f → Represents polynomial terms f 1
+represents-whole polynomial terms f w e = record {
+  positive = omega (arith, denominators_of_whole terms w);
+  equal = subst
+      (λ d. Same (scale (pos 1) (value_by polynomial terms)) (scale (pos d) f))
+      (sym (denominators_of_whole terms w))
+      (scale_respects (pos 1) (value_by polynomial terms) f (subst (λ g. Same g f) (sym (value_by-whole polynomial terms w)) e));
+}
 
 -- ---- a table to which terms are added
 

@@ -1,7 +1,7 @@
 -- The reduction of partitions with at most k rows into the alcove of level n - k, by reflections of the beta
 -- list (Kac and Walton: fusion products).
-use Rattle.std.specs.Prelude.{ℕ, zero, suc, ◌+◌, ◌-◌, ◌*◌, ◌==◌, nat_lt, ◌||◌, cond, ℤ, pos, ◌*ℤ◌, List, [], ◌∷◌, length, Option, Some, None}
-use Rattle.sym_model.specs.Partition.{part}
+use Rattle.std.specs.Prelude.{ℕ, zero, suc, ◌+◌, ◌-◌, ◌*◌, ◌==◌, nat_lt, nat_le, ◌||◌, cond, ℤ, pos, ◌*ℤ◌, List, [], ◌∷◌, length, Option, Some, None}
+use Rattle.sym_model.specs.Partition.{part, rows}
 use Rattle.sym_model.specs.BetaList.{beta, from_beta, has_equal_entries, sorted_falling, sorting_sign}
 
 -- how far the first entry is above the last
@@ -49,6 +49,7 @@ abbrev pub as_partition : Option (List ℕ × ℤ) → Option (List ℕ × ℤ)
 as_partition None = None
 as_partition (Some answer) = Some (from_beta answer.0, answer.1)
 
--- the reduction of a partition with at most k rows: a partition with a sign, or nothing where it is 0
+-- the reduction of a partition with at most k rows: a partition with a sign, or nothing where it is 0; nothing for a
+-- partition with more rows
 abbrev pub alcove_reduction : ℕ → ℕ → List ℕ → Option (List ℕ × ℤ)
-alcove_reduction k n shape = as_partition (reflected_into_alcove n (beta k shape))
+alcove_reduction k n shape = cond (nat_le (rows shape) k) (as_partition (reflected_into_alcove n (beta k shape))) None

@@ -1,11 +1,11 @@
 -- Canonical lists of terms (this project's own): each label once, in the printed order, with a coefficient
 -- that is not 0 and in lowest terms.
-use Rattle.std.specs.Prelude.{ℕ, zero, suc, ◌+◌, ◌^◌, ◌%◌, ◌==◌, nat_le, nat_lt, Bool, true, ◌&&◌, ℤ, pos, negsuc, nat_abs, List, [], ◌∷◌, IsTrue}
+use Rattle.std.specs.Prelude.{ℕ, zero, suc, ◌+◌, ◌^◌, ◌%◌, ◌==◌, nat_lt, Bool, true, ◌&&◌, ◌||◌, ℤ, pos, negsuc, nat_abs, List, [], ◌∷◌, IsTrue}
 use Rattle.std.specs.Ordering.{is_lt}
 use Rattle.std.specs.declared.cmp.Ordering.{Ordering}
-use Rattle.sym_model.specs.Partition.{size, rows}
-use Rattle.sym_model.specs.PrintedOrder.{printed_order}
 use Rattle.sym_model.specs.Expansion.{Fraction, Terms}
+use Rattle.sym_model.specs.Kind.{LabelRules, label_rules, expansion}
+pub use Rattle.sym_model.specs.LabelLimits.{is_partition, is_label}
 
 -- the greatest common divisor by Euclid's rule, in at most the given number of steps
 abbrev pub gcd_within : ℕ → ℕ → ℕ → ℕ
@@ -21,16 +21,6 @@ gcd a b = gcd_within (b + 1) a b
 abbrev pub is_reduced : Fraction → Bool
 is_reduced c = nat_lt 0 c.1 && nat_lt 0 (nat_abs c.0) && (gcd (nat_abs c.0) c.1 == 1)
 
--- whether a list is a partition: weakly falling, each number positive
-abbrev pub is_partition : List ℕ → Bool
-is_partition [] = true
-is_partition (a ∷ []) = nat_lt 0 a
-is_partition (a ∷ b ∷ parts) = nat_le b a && is_partition (b ∷ parts)
-
--- whether a list is a partition within the limits of this project: at most 512 rows and 4096 cells
-abbrev pub is_label : List ℕ → Bool
-is_label parts = is_partition parts && nat_le (rows parts) 512 && nat_le (size parts) 4096
-
 -- whether each label stands strictly before the next one
 abbrev pub is_ordered : {Label : Type 0} → (Label → Label → Ordering) → Terms Label → Bool
 is_ordered order [] = true
@@ -42,10 +32,23 @@ abbrev pub each_term : {Label : Type 0} → (Label × Fraction → Bool) → Ter
 each_term test [] = true
 each_term test (t ∷ terms) = test t && each_term test terms
 
--- whether a list of terms with partitions as labels is canonical
+-- whether a fraction may be a coefficient: it is not 0 and in lowest terms, and a whole number where those alone are meant
+abbrev pub is_coefficient : Bool → Fraction → Bool
+is_coefficient has_fractions c = (has_fractions || (c.1 == 1)) && is_reduced c
+
+-- whether a list of terms is canonical by the rules of its labels
+abbrev pub is_canonical_by : {Label : Type 0} → LabelRules Label → Terms Label → Bool
+is_canonical_by rules terms =
+    is_ordered rules.order terms
+    && each_term (λ t. is_coefficient rules.has_fractions t.1 && rules.is_within_limits t.0) terms
+
+-- the list is canonical by the rules of its labels
+abbrev pub IsCanonicalBy : {Label : Type 0} → LabelRules Label → Terms Label → Type 0
+IsCanonicalBy rules terms = IsTrue (is_canonical_by rules terms)
+
+-- whether a list of terms with partitions as labels and fractions as coefficients is canonical
 abbrev pub is_canonical : Terms (List ℕ) → Bool
-is_canonical terms =
-    is_ordered printed_order terms && each_term (λ (t : List ℕ × Fraction). is_reduced t.1 && is_label t.0) terms
+is_canonical terms = is_canonical_by (label_rules expansion) terms
 
 -- the list is canonical
 abbrev pub IsCanonical : Terms (List ℕ) → Type 0

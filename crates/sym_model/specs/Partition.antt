@@ -27,7 +27,7 @@ size (a ∷ parts) = a + size parts
 abbrev pub rows : List ℕ → ℕ
 rows parts = length parts
 
--- part i, counted from 1; 0 past the last
+-- part i, counted from 1; 0 past the last. A part 0 is never asked for: it would be the first part, by the cut-off i - 1
 abbrev pub part : List ℕ → ℕ → ℕ
 part parts i = slice_index parts (i - 1)
 
@@ -35,7 +35,8 @@ part parts i = slice_index parts (i - 1)
 abbrev pub columns : List ℕ → ℕ
 columns parts = part parts 1
 
--- the shape of inner lies inside that of outer: no part of inner is greater than the part of outer in the same row
+-- the shape of inner lies inside that of outer: no part of inner is greater than the part of outer in the same row; by
+-- `containment_law`, each cell of inner is a cell of outer
 abbrev pub Holds : List ℕ → List ℕ → Type 0
 Holds outer inner = (i : ℕ) → part inner i ≤ part outer i
 

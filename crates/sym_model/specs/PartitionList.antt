@@ -5,9 +5,9 @@ use Rattle.sym_model.specs.Sum.{each, Among}
 use Rattle.sym_model.specs.PrintedOrder.{falling_lexicographic}
 
 -- the numbers from k down to 1
-abbrev pub down_from : ℕ → List ℕ
-down_from zero = []
-down_from (suc k) = suc k ∷ down_from k
+abbrev pub down_to_one : ℕ → List ℕ
+down_to_one zero = []
+down_to_one (suc k) = suc k ∷ down_to_one k
 
 -- the partitions of a size that have no part above `most` and at most so many rows: the first part runs down from the
 -- greatest that it can be, and behind it come the partitions of what is left, with no part above the first
@@ -15,7 +15,7 @@ unfoldable pub partitions_within : ℕ → ℕ → ℕ → List (List ℕ)
 partitions_within zero most rows = [] ∷ []
 partitions_within (suc left) most zero = []
 partitions_within (suc left) most (suc rows) =
-    each (λ a. map (λ parts. a ∷ parts) (partitions_within (suc left - a) a rows)) (down_from (min most (suc left)))
+    each (λ a. map (λ parts. a ∷ parts) (partitions_within (suc left - a) a rows)) (down_to_one (min most (suc left)))
 
 -- the partitions of d in falling lexicographic order
 abbrev pub partitions_of : ℕ → List (List ℕ)

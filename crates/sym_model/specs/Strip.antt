@@ -1,5 +1,6 @@
 -- Horizontal strips, vertical strips and rim hooks, as conditions on the cells of a skew shape outer/inner
--- (Macdonald, I.1; Stanley, 7.17).
+-- (Macdonald, I.1; Stanley, 7.17). The height of a rim hook is the number of its rows, as Bertram, Ciocan-Fontanine and
+-- Fulton count; Macdonald and Stanley take 1 less.
 use Rattle.std.specs.Prelude.{◌≡◌, ℕ, ◌+◌, nat_lt, ◌⊎◌, List, [], ◌∷◌, length}
 use Rattle.sym_model.specs.Sum.{select}
 use Rattle.sym_model.specs.Partition.{part, rows, after, Holds, IsCell}

@@ -1,41 +1,57 @@
 -- Lists of terms with whole coefficients, and the polynomial that such a list stands for.
-use Rattle.std.specs.Prelude.{◌≡◌, ℕ, ◌+◌, ℤ, nat_abs, List, [], ◌∷◌, map}
-use Rattle.sym_model.specs.Sum.{each}
-use Rattle.sym_model.specs.Polynomial.{Poly, scale}
+use Rattle.std.specs.Prelude.{◌≡◌, ℕ, ◌+◌, ℤ, pos, nat_abs, ◌==◌, Bool, ◌&&◌, cond, List, [], ◌∷◌, map}
+use Rattle.sym_model.specs.Sum.{total, each}
+use Rattle.sym_model.specs.Polynomial.{Poly, same, scale}
 use Rattle.sym_model.specs.Expansion.{Terms, Fraction}
 
--- labels with whole coefficients. It is a formal sum of labels: `coefficient terms label` is what all terms of
--- a label come to, and two lists are `Same` where they differ by collecting, by zeros and by order only.
+-- labels with whole coefficients: a formal sum of labels
+abbrev pub WholeTermsOf : Type 0 → Type 0
+WholeTermsOf Label = List (Label × ℤ)
+
+-- the same with partitions as labels. `coefficient terms label` is what all terms of a label come to, and two lists are
+-- `Same` where they differ by collecting, by zeros and by order only.
 abbrev pub WholeTerms : Type 0
-WholeTerms = List (List ℕ × ℤ)
+WholeTerms = WholeTermsOf (List ℕ)
+
+-- what all terms of a label come to, by a test of labels that are the same
+abbrev pub coefficient_by : {Label : Type 0} → (Label → Label → Bool) → WholeTermsOf Label → Label → ℤ
+coefficient_by {Label = Label} test terms label = total (λ (t : Label × ℤ). cond (test t.0 label) t.1 (pos 0)) terms
+
+-- whether two pairs of lists are the same
+abbrev pub same_pair : List ℕ × List ℕ → List ℕ × List ℕ → Bool
+same_pair first second = same first.0 second.0 && same first.1 second.1
+
+-- whether two lists with a power of q are the same
+abbrev pub same_power : ℕ × List ℕ → ℕ × List ℕ → Bool
+same_power first second = (first.0 == second.0) && same first.1 second.1
 
 -- the sum of c·polynomial(label) over the terms (label, c)
-abbrev pub combined : (List ℕ → Poly) → WholeTerms → Poly
-combined polynomial terms = each (λ (t : List ℕ × ℤ). scale t.1 (polynomial t.0)) terms
+abbrev pub combined : {Label : Type 0} → (Label → Poly) → WholeTermsOf Label → Poly
+combined {Label = Label} polynomial terms = each (λ (t : Label × ℤ). scale t.1 (polynomial t.0)) terms
 
 -- the list with its coefficients written as fractions of denominator 1
-abbrev pub as_fractions : WholeTerms → Terms (List ℕ)
-as_fractions terms = map (λ (t : List ℕ × ℤ). (t.0, (t.1, 1))) terms
+abbrev pub as_fractions : {Label : Type 0} → WholeTermsOf Label → Terms Label
+as_fractions {Label = Label} terms = map (λ (t : Label × ℤ). (t.0, (t.1, 1))) terms
 
 -- each coefficient has the denominator 1
-abbrev pub AreWhole : Terms (List ℕ) → Type 0
+abbrev pub AreWhole : {Label : Type 0} → Terms Label → Type 0
 AreWhole [] = Unit {0}
 AreWhole (t ∷ terms) = (t.1.1 ≡ 1) × AreWhole terms
 
 -- the labels with their numerators
-abbrev pub numerators : Terms (List ℕ) → WholeTerms
-numerators terms = map (λ (t : List ℕ × Fraction). (t.0, t.1.0)) terms
+abbrev pub numerators : {Label : Type 0} → Terms Label → WholeTermsOf Label
+numerators {Label = Label} terms = map (λ (t : Label × Fraction). (t.0, t.1.0)) terms
 
 -- the sum of the absolute values of all coefficients
-abbrev pub weight : WholeTerms → ℕ
-weight [] = 0
-weight (t ∷ terms) = nat_abs t.1 + weight terms
+abbrev pub absolute_total : {Label : Type 0} → WholeTermsOf Label → ℕ
+absolute_total [] = 0
+absolute_total (t ∷ terms) = nat_abs t.1 + absolute_total terms
 
 -- each label has the property
-abbrev pub EachLabel : (List ℕ → Type 0) → WholeTerms → Type 0
+abbrev pub EachLabel : {Label : Type 0} → (Label → Type 0) → WholeTermsOf Label → Type 0
 EachLabel P [] = Unit {0}
 EachLabel P (t ∷ terms) = P t.0 × EachLabel P terms
 
 -- the labels, one for each term
-abbrev pub labels : WholeTerms → List (List ℕ)
-labels terms = map (λ (t : List ℕ × ℤ). t.0) terms
+abbrev pub labels : {Label : Type 0} → WholeTermsOf Label → List Label
+labels {Label = Label} terms = map (λ (t : Label × ℤ). t.0) terms

@@ -1,6 +1,0 @@
-use Rattle.std.proofs.Common.{◌≡◌, ◌+◌, drop}
-use Rattle.sym_model.specs.Partition.{size}
-use Rattle.sym_model.proofs.plain_order.plain_size.Given as goal
-
-abbrev pub invariant-loop-part : goal.invariant-loop-part
-invariant-loop-part l = l.total + size (drop l.part-index l.parts) ≡ size l.parts

@@ -1,0 +1,244 @@
+-- What the words of a command can offend by, list by list, at which word and byte, and which offence comes first
+-- (this project's own).
+use Rattle.std.specs.Prelude.{◌≡◌, ◌⊎◌, ◌<◌, ℕ, ◌+◌, ◌-◌, ◌==◌, nat_le, nat_lt, Bool, false, ◌&&◌, ◌||◌, cond, List, [], ◌∷◌, ◌++◌, map, length, drop, slice_get, Option, Some, None}
+use Rattle.sym_model.specs.Sum.{each}
+use Rattle.sym_model.specs.Polynomial.{same}
+use Rattle.sym_model.specs.Partition.{part, size}
+use Rattle.sym_model.specs.Schur.{row_lengths}
+use Rattle.sym_model.specs.GoodTableau.{is_among, column_reading, lattice_readings}
+use Rattle.sym_model.specs.Expansion.{Basis}
+use Rattle.sym_model.specs.Phrase.{Phrase}
+use Rattle.sym_model.specs.ExpressionOffence.{OffenceKind, literal, range, shape, is_wide, rises, rank, offences}
+
+-- an offence: its word, its byte there and its kind
+abbrev pub Offence : Type 0
+Offence = ℕ × ℕ × OffenceKind
+
+-- an offence comes before another one: its word is less or, in the same word, its byte, or at the same place its kind
+abbrev pub ComesBefore : Offence → Offence → Type 0
+ComesBefore o p =
+    (o.0 < p.0) ⊎ ((o.0 ≡ p.0) × ((o.1 < p.1) ⊎ ((o.1 ≡ p.1) × (rank o.2 < rank p.2))))
+
+-- whether an offence comes before another one or is at the same place of the same kind
+abbrev pub is_no_later : Offence → Offence → Bool
+is_no_later o p =
+    nat_lt o.0 p.0
+    || ((o.0 == p.0) && (nat_lt o.1 p.1 || ((o.1 == p.1) && nat_le (rank o.2) (rank p.2))))
+
+-- the first of two offences, where there is one
+abbrev pub earlier_of : Offence → Option Offence → Option Offence
+earlier_of o None = Some o
+earlier_of o (Some p) = cond (is_no_later o p) (Some o) (Some p)
+
+-- the first offence, where there is one
+abbrev pub first_offence : List Offence → Option Offence
+first_offence [] = None
+first_offence (o ∷ os) = earlier_of o (first_offence os)
+
+-- a list that is judged against an earlier list is judged so only where the earlier list has no offence
+abbrev pub judged_against : List Offence → List Offence → List Offence
+judged_against [] found = found
+judged_against (o ∷ earlier) found = []
+
+-- the kind, where a number offends by it
+abbrev pub when : Bool → OffenceKind → List OffenceKind
+when test kind = cond test (kind ∷ []) []
+
+-- a rule judges a number by those that stand before it in its list, the nearest first
+abbrev pub Rule : Type 0
+Rule = List ℕ → ℕ → List OffenceKind
+
+-- the offences by a rule of the numbers of a list that begins at the word, after those that stand before it
+abbrev pub offences_after : Rule → List ℕ → ℕ → List ℕ → List Offence
+offences_after rule before k [] = []
+offences_after rule before k (a ∷ numbers) =
+    map (λ kind. (k, 0, kind)) (rule before a) ++ offences_after rule (a ∷ before) (k + 1) numbers
+
+-- the offences by a rule of a list of numbers that begins at the word
+abbrev pub offences_by : Rule → ℕ → List ℕ → List Offence
+offences_by rule k numbers = offences_after rule [] k numbers
+
+-- the number that stands next before
+abbrev pub left_of : List ℕ → Option ℕ
+left_of [] = None
+left_of (a ∷ before) = Some a
+
+-- whether the number stands in the list
+abbrev pub stands_in : ℕ → List ℕ → Bool
+stands_in a [] = false
+stands_in a (b ∷ numbers) = (a == b) || stands_in a numbers
+
+-- the most numbers of a partition that is written
+abbrev pub most_parts : ℕ
+most_parts = 64
+
+-- the most cells of a partition that is written
+abbrev pub most_cells : ℕ
+most_cells = 512
+
+-- the most letters of a permutation that is written, and the greatest of them
+abbrev pub most_permuted : ℕ
+most_permuted = 16
+
+-- the greatest number of rows or columns, and the greatest level
+abbrev pub most_rows : ℕ
+most_rows = 64
+
+-- the most letters of `rsk`, and the most entries of a tableau of `unrsk`
+abbrev pub most_letters : ℕ
+most_letters = 256
+
+-- the greatest letter of `rsk`, and the greatest entry of a tableau
+abbrev pub greatest_letter : ℕ
+greatest_letter = 65535
+
+-- the most lines of `work`
+abbrev pub most_lines : ℕ
+most_lines = 10000
+
+-- the greatest seed of `work`
+abbrev pub greatest_seed : ℕ
+greatest_seed = 65536
+
+-- whether a number is not from 1 to the limit
+abbrev pub is_outside : ℕ → ℕ → Bool
+is_outside limit a = (a == 0) || nat_lt limit a
+
+-- a number of rows, columns or a level
+abbrev pub rows_rule : Rule
+rows_rule before a = when (is_wide a) literal ++ when (is_outside most_rows a) range
+
+-- a number of lines
+abbrev pub lines_rule : Rule
+lines_rule before a = when (is_wide a) literal ++ when (is_outside most_lines a) range
+
+-- a seed
+abbrev pub seed_rule : Rule
+seed_rule before a = when (is_wide a) literal ++ when (nat_lt greatest_seed a) range
+
+-- a number of a partition: the 65th, the one at which the sum so far first passes 512, one greater than the number before it
+abbrev pub part_rule : Rule
+part_rule before a =
+    when (is_wide a) literal
+    ++ when
+    ((length before == most_parts) || (nat_le (size before) most_cells && nat_lt most_cells (size before + a)))
+    range
+    ++ when (rises (left_of before) a) shape
+
+-- a number of a permutation of so many letters: one past 16, the 17th; 0, one past the number of letters, one that stands
+-- before it
+abbrev pub permutation_rule : ℕ → Rule
+permutation_rule count before a =
+    when (is_wide a) literal
+    ++ when (nat_lt most_permuted a || (length before == most_permuted)) range
+    ++ when (is_outside count a || stands_in a before) shape
+
+-- a letter of a word: 0, one past 65,535, the 257th
+abbrev pub letter_rule : Rule
+letter_rule before a =
+    when (is_wide a) literal ++ when (is_outside greatest_letter a || (length before == most_letters)) range
+
+-- an entry of a tableau: 0, one past 65,535
+abbrev pub entry_rule : Rule
+entry_rule before a = when (is_wide a) literal ++ when (is_outside greatest_letter a) range
+
+-- a number of an inner partition that is greater than the outer part of the same row
+abbrev pub inside_rule : List ℕ → Rule
+inside_rule outer before a = when (nat_lt (part outer (length before + 1)) a) shape
+
+-- a partition at the word
+abbrev pub part_offences : ℕ → List ℕ → List Offence
+part_offences k numbers = offences_by part_rule k numbers
+
+-- a permutation at the word
+abbrev pub permutation_offences : ℕ → List ℕ → List Offence
+permutation_offences k letters = offences_by (permutation_rule (length letters)) k letters
+
+-- a row of a tableau as it is written: the word at which it begins, and its entries
+abbrev pub PlacedRow : Type 0
+PlacedRow = ℕ × List ℕ
+
+-- the entries of each row by a rule
+abbrev pub row_offences : Rule → List PlacedRow → List Offence
+row_offences rule rows = each (λ (row : PlacedRow). offences_by rule row.0 row.1) rows
+
+-- the 257th number of a tableau, where so many stand in the rows before
+abbrev pub count_offences : ℕ → List PlacedRow → List Offence
+count_offences count [] = []
+count_offences count (row ∷ rows) =
+    offences_by (λ before a. when (count + length before == most_letters) range) row.0 row.1
+    ++ count_offences (count + length row.1) rows
+
+-- whether a number is smaller than the one that stands next before it
+abbrev pub falls : Option ℕ → ℕ → Bool
+falls None a = false
+falls (Some b) a = nat_lt a b
+
+-- whether a number is not greater than another one
+abbrev pub stays : Option ℕ → ℕ → Bool
+stays None a = false
+stays (Some b) a = nat_le a b
+
+-- the entry above column j, counted from 0, where the row above begins at column c
+abbrev pub entry_above : List ℕ → ℕ → ℕ → Option ℕ
+entry_above upper c j = cond (nat_le c j) (slice_get upper (j - c)) None
+
+-- the rows of a tableau whose rows begin at these columns, below a row that begins at column c: a number smaller than its
+-- left neighbour, or not greater than the entry above it
+abbrev pub order_offences : ℕ → List ℕ → List ℕ → List PlacedRow → List Offence
+order_offences c upper inner [] = []
+order_offences c upper inner (row ∷ rows) =
+    offences_by
+    (λ before a.
+    when (falls (left_of before) a || stays (entry_above upper c (part inner 1 + length before)) a) shape)
+    row.0
+    row.1
+    ++ order_offences (part inner 1) row.1 (drop 1 inner) rows
+
+-- the rows below a row: a number that makes its row longer than the row above
+abbrev pub length_offences : List ℕ → List PlacedRow → List Offence
+length_offences upper [] = []
+length_offences upper (row ∷ rows) =
+    offences_by (λ before a. when (nat_le (length upper) (length before)) shape) row.0 row.1
+    ++ length_offences row.1 rows
+
+-- a row without cells that is not the whole tableau
+abbrev pub empty_row_offences : List PlacedRow → List Offence
+empty_row_offences [] = []
+empty_row_offences (row ∷ []) = []
+empty_row_offences (row ∷ next ∷ rows) =
+    each (λ (r : PlacedRow). cond (length r.1 == 0) ((r.0, 0, shape) ∷ []) []) (row ∷ next ∷ rows)
+
+-- the rows of a tableau of so many cells that is to be standard, below a row and after these entries: a number that is past
+-- the number of cells, not greater than its left neighbour or the entry above, or stands earlier in it
+abbrev pub standard_offences : ℕ → List ℕ → List ℕ → List PlacedRow → List Offence
+standard_offences count earlier upper [] = []
+standard_offences count earlier upper (row ∷ rows) =
+    offences_by
+    (λ before a.
+    when
+    (nat_lt count a || stays (left_of before) a || stays (entry_above upper 0 (length before)) a
+    || stands_in a before || stands_in a earlier)
+    shape)
+    row.0
+    row.1
+    ++ standard_offences count (row.1 ++ earlier) row.1 rows
+
+-- the entries of the rows
+abbrev pub entries : List PlacedRow → List (List ℕ)
+entries rows = map (λ (row : PlacedRow). row.1) rows
+
+-- the rows of a tableau of the shape outer/inner: `.` alone is a tableau without rows where the shape has none
+abbrev pub rows_in : List ℕ → List (List ℕ) → List (List ℕ)
+rows_in [] ([] ∷ []) = []
+rows_in outer rows = rows
+
+-- whether these are the rows of a tableau in the list of the lattice tableaux of outer/inner
+abbrev pub is_lattice_tableau : List ℕ → List ℕ → List (List ℕ) → Bool
+is_lattice_tableau outer inner rows =
+    same (map length rows) (row_lengths outer inner)
+    && is_among (column_reading outer inner rows) (lattice_readings outer inner)
+
+-- an expression at the word, expanded into the target
+abbrev pub expression_offences : ℕ → Basis → Phrase → List Offence
+expression_offences k target phrase = map (λ o. (k, o.0, o.1)) (offences target phrase)

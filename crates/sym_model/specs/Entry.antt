@@ -1,0 +1,49 @@
+-- Commands by the forms of their words: what a list of words spells, begins and first offends by, for any list of commands
+-- (this project's own).
+use Rattle.std.specs.Prelude.{◌≡◌, ℕ, List, Option, None}
+use Rattle.sym_model.specs.Form.{Form, Written, SomeOf, Has, Begins, Awaits}
+use Rattle.sym_model.specs.Command.{Command}
+use Rattle.sym_model.specs.CommandOffence.{Offence, first_offence}
+
+-- a command of the grammar: its name, the form of its words, what they say, and all that they offend by
+pub record Entry : Type 0 where
+  pub name : List ℕ
+  pub form : Form
+  pub says : Written form → Command
+  pub offends : Written form → List Offence
+
+-- the words are of the entry's form, and say the command
+pub record SpellsBy (e : Entry) (words : List (List ℕ)) (command : Command) : Type 0 where
+  pub has : Has e.form words
+  pub says_it : command ≡ e.says has.written
+
+-- the words spell the command
+abbrev pub SpellsCommand : List Entry → List (List ℕ) → Command → Type 0
+SpellsCommand entries words command = SomeOf (λ e. SpellsBy e words command) entries
+
+-- the words are of the entry's form, and have this first offence or none
+pub record OffendsBy (e : Entry) (words : List (List ℕ)) (first : Option Offence) : Type 0 where
+  pub has : Has e.form words
+  pub first_is : first ≡ first_offence (e.offends has.written)
+
+-- the words spell a command, and have this first offence or none
+abbrev pub HasFirstOffence : List Entry → List (List ℕ) → Option Offence → Type 0
+HasFirstOffence entries words first = SomeOf (λ e. OffendsBy e words first) entries
+
+-- the words are of the entry's form, say the command, and have no offence
+pub record SpellsFreely (e : Entry) (words : List (List ℕ)) (command : Command) : Type 0 where
+  pub has : Has e.form words
+  pub says_it : command ≡ e.says has.written
+  pub no_offence : first_offence (e.offends has.written) ≡ None
+
+-- the words spell the command, and have no offence
+abbrev pub SpellsWithoutOffence : List Entry → List (List ℕ) → Command → Type 0
+SpellsWithoutOffence entries words command = SomeOf (λ e. SpellsFreely e words command) entries
+
+-- the words are a prefix of the words of a command
+abbrev pub BeginsCommand : List Entry → List (List ℕ) → Type 0
+BeginsCommand entries words = SomeOf (λ e. Begins e.form words) entries
+
+-- an expression is awaited after the words
+abbrev pub AwaitsExpression : List Entry → List (List ℕ) → Type 0
+AwaitsExpression entries words = SomeOf (λ e. Awaits e.form words) entries

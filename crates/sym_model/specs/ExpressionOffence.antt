@@ -1,0 +1,118 @@
+-- What an expression can offend by, at which byte of its word, and which offence comes first (this project's own).
+use Rattle.std.specs.Prelude.{◌≡◌, ℕ, ◌+◌, ◌^◌, ◌<◌, ◌==◌, nat_le, nat_lt, Bool, false, ◌&&◌, ◌||◌, cond, List, [], ◌∷◌, ◌++◌, length, Option, Some, None, ◌⊎◌}
+use Rattle.sym_model.specs.Sum.{each}
+use Rattle.sym_model.specs.Expansion.{Basis, monomials, schurs}
+use Rattle.sym_model.specs.Expression.{degree}
+use Rattle.sym_model.specs.PrintedBlock.{decimal_value}
+use Rattle.sym_model.specs.Phrase.{Phrase, numeral, ratio, label, brackets, minus_first, operation, spelling, tree, SpellsPhrase}
+
+-- the kinds of offence in words that spell a command, in the order in which they come at one place (this project's own)
+pub data OffenceKind : Type 0 where
+  literal : OffenceKind
+  range : OffenceKind
+  shape : OffenceKind
+
+-- what a byte of an expression begins: a number or a numerator, a denominator, a number of an atom's list with how many
+-- stand before it there and the last of these, or a parenthesis with how many are then open
+pub data Mark : Type 0 where
+  value : ℕ → Mark
+  denominator : ℕ → Mark
+  entry : ℕ → Option ℕ → ℕ → Mark
+  opening : ℕ → Mark
+
+-- whether the value is past 128 bits with a sign
+abbrev pub is_wide : ℕ → Bool
+is_wide n = nat_le (2 ^ 127) n
+
+-- whether a number is greater than the one before it
+abbrev pub rises : Option ℕ → ℕ → Bool
+rises None n = false
+rises (Some before) n = nat_lt before n
+
+-- whether a mark is an offence of the kind: a number past 2^127 - 1; the 65th number of an atom, a parenthesis that opens
+-- depth 65; a number of an atom that is greater than the one before it, a denominator 0
+abbrev pub is_offence : Mark → OffenceKind → Bool
+is_offence (value n) literal = is_wide n
+is_offence (denominator n) literal = is_wide n
+is_offence (entry count before n) literal = is_wide n
+is_offence (entry count before n) range = count == 64
+is_offence (opening depth) range = depth == 65
+is_offence (entry count before n) shape = rises before n
+is_offence (denominator n) shape = n == 0
+is_offence _ _ = false
+
+-- the marks of number words with commas between them, the first of which begins at the byte
+abbrev pub entry_marks : ℕ → ℕ → Option ℕ → List (List ℕ) → List (ℕ × Mark)
+entry_marks byte count before [] = []
+entry_marks byte count before (word ∷ words) =
+    (byte, entry count before (decimal_value word))
+    ∷ entry_marks (byte + length word + 1) (count + 1) (Some (decimal_value word)) words
+
+-- the marks of a phrase that begins at the byte, where so many parentheses are open, in their order
+abbrev pub marks : ℕ → ℕ → Phrase → List (ℕ × Mark)
+marks depth byte (numeral digits) = (byte, value (decimal_value digits)) ∷ []
+marks depth byte (ratio num den) =
+    (byte, value (decimal_value num)) ∷ (byte + length num + 1, denominator (decimal_value den)) ∷ []
+marks depth byte (label basis words) = entry_marks (byte + 2) 0 None words
+marks depth byte (brackets inner) = (byte, opening (depth + 1)) ∷ marks (depth + 1) (byte + 1) inner
+marks depth byte (minus_first inner) = marks depth (byte + 1) inner
+marks depth byte (operation operator left right) =
+    marks depth byte left ++ marks depth (byte + length (spelling left) + 1) right
+
+-- an offence in a word: its byte and its kind
+abbrev pub WordOffence : Type 0
+WordOffence = ℕ × OffenceKind
+
+-- the offence of the kind at a mark, where it is one
+abbrev pub offence_at : OffenceKind → ℕ × Mark → List WordOffence
+offence_at kind m = cond (is_offence m.1 kind) ((m.0, kind) ∷ []) []
+
+-- the offences at a mark
+abbrev pub offences_at : ℕ × Mark → List WordOffence
+offences_at m = offence_at literal m ++ (offence_at range m ++ offence_at shape m)
+
+-- the greatest degree of an expression that is expanded into the target
+abbrev pub degree_limit : Basis → ℕ
+degree_limit monomials = 20
+degree_limit schurs = 20
+degree_limit _ = 15
+
+-- the offences of an expression as a whole: byte 4096 where it has more than 4096, its length where its degree is past the limit
+abbrev pub offences_of_whole : Basis → Phrase → List WordOffence
+offences_of_whole target phrase =
+    cond (nat_lt 4096 (length (spelling phrase))) ((4096, range) ∷ []) []
+    ++ cond (nat_lt (degree_limit target) (degree (tree phrase))) ((length (spelling phrase), range) ∷ []) []
+
+-- all offences of an expression that is expanded into the target
+abbrev pub offences : Basis → Phrase → List WordOffence
+offences target phrase = each offences_at (marks 0 0 phrase) ++ offences_of_whole target phrase
+
+-- the kinds in their order at one place
+abbrev pub rank : OffenceKind → ℕ
+rank literal = 0
+rank range = 1
+rank shape = 2
+
+-- whether an offence comes before another one or is at the same place of the same kind: the least byte, then the kind
+abbrev pub comes_first : WordOffence → WordOffence → Bool
+comes_first o p = nat_lt o.0 p.0 || ((o.0 == p.0) && nat_le (rank o.1) (rank p.1))
+
+-- the first of two offences, where there is one
+abbrev pub earlier : Option WordOffence → Option WordOffence → Option WordOffence
+earlier None found = found
+earlier (Some o) None = Some o
+earlier (Some o) (Some p) = cond (comes_first o p) (Some o) (Some p)
+
+-- the first of the offences, where there is one
+abbrev pub first_of : List WordOffence → Option WordOffence
+first_of [] = None
+first_of (o ∷ os) = earlier (Some o) (first_of os)
+
+-- the first offence comes before the second one: at a lower byte, or at the same byte by its kind
+abbrev pub ComesBefore : WordOffence → WordOffence → Type 0
+ComesBefore o p = (o.0 < p.0) ⊎ ((o.0 ≡ p.0) × (rank o.1 < rank p.1))
+
+-- the word spells an expression that is to be expanded into the target, and offends first by this, or by nothing
+abbrev pub OffendsFirst : Basis → List ℕ → Option WordOffence → Type 0
+OffendsFirst target word first =
+    (phrase : Phrase) × SpellsPhrase word phrase × (first_of (offences target phrase) ≡ first)

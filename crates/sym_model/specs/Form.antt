@@ -1,0 +1,207 @@
+-- Forms of the words of a command: regular expressions over classes of words, what each of them spells, and their
+-- derivatives by a word (this project's own; derivatives of regular expressions: Brzozowski, Antimirov).
+use Rattle.std.specs.Prelude.{◌≡◌, ℕ, ◌+◌, nat_le, Bool, true, false, ◌&&◌, ◌||◌, cond, List, [], ◌∷◌, ◌++◌, map, ◌⊎◌}
+use Rattle.std.proofs.Common.{inl, inr}
+use Rattle.sym_model.specs.Sum.{each}
+use Rattle.sym_model.specs.Polynomial.{same}
+use Rattle.sym_model.specs.Expansion.{Basis}
+use Rattle.sym_model.specs.NumberWord.{IsNumberWord}
+use Rattle.sym_model.specs.Phrase.{Phrase, Is, expression, letter, spelling, SpellsPhrase}
+
+-- what one word can be: a fixed text, a number, the letter of one of these bases, an expression (this project's own)
+pub data Class : Type 0 where
+  exact : List ℕ → Class
+  number : Class
+  target : List Basis → Class
+  formula : Class
+
+-- what a list of words can be: no word, one word of a class, one form and then another, one of two, any number of one
+-- (Kleene's regular expressions)
+pub data Form : Type 0 where
+  empty : Form
+  word : Class → Form
+  sequence : Form → Form → Form
+  either : Form → Form → Form
+  many : Form → Form
+
+-- what is written by a word of the class
+abbrev pub WrittenWord : Class → Type 0
+WrittenWord (exact text) = Unit {0}
+WrittenWord number = List ℕ
+WrittenWord (target bases) = Basis
+WrittenWord formula = Phrase
+
+-- what is written by words of the form
+abbrev pub Written : Form → Type 0
+Written empty = Unit {0}
+Written (word c) = WrittenWord c
+Written (sequence f g) = Written f × Written g
+Written (either f g) = Written f ⊎ Written g
+Written (many f) = List (Written f)
+
+-- the word
+abbrev pub word_of : (c : Class) → WrittenWord c → List ℕ
+word_of (exact text) x = text
+word_of number digits = digits
+word_of (target bases) basis = letter basis
+word_of formula phrase = spelling phrase
+
+-- the words
+abbrev pub words_of : (f : Form) → Written f → List (List ℕ)
+words_of empty x = []
+words_of (word c) x = word_of c x ∷ []
+words_of (sequence f g) x = words_of f x.0 ++ words_of g x.1
+words_of (either f g) (inl x) = words_of f x
+words_of (either f g) (inr x) = words_of g x
+words_of (many f) xs = each (words_of f) xs
+
+-- some element of the list has the property
+abbrev pub SomeOf : {A : Type 0} → (A → Type 0) → List A → Type 0
+SomeOf P [] = ⊥
+SomeOf P (x ∷ xs) = P x ⊎ SomeOf P xs
+
+-- each element of the list has the property
+abbrev pub EachOf : {A : Type 0} → (A → Type 0) → List A → Type 0
+EachOf P [] = Unit {0}
+EachOf P (x ∷ xs) = P x × EachOf P xs
+
+-- a word of the class may be this
+abbrev pub MayBe : (c : Class) → WrittenWord c → Type 0
+MayBe (exact text) x = Unit {0}
+MayBe number digits = IsNumberWord digits
+MayBe (target bases) basis = SomeOf (λ b. basis ≡ b) bases
+MayBe formula phrase = Is expression phrase
+
+-- words of the form may be these
+abbrev pub May : (f : Form) → Written f → Type 0
+May empty x = Unit {0}
+May (word c) x = MayBe c x
+May (sequence f g) x = May f x.0 × May g x.1
+May (either f g) (inl x) = May f x
+May (either f g) (inr x) = May g x
+May (many f) xs = EachOf (May f) xs
+
+-- the words are of the form
+pub record Has (f : Form) (words : List (List ℕ)) : Type 0 where
+  pub written : Written f
+  pub allowed : May f written
+  pub spelled : words ≡ words_of f written
+
+-- the words are a prefix of words of the form
+abbrev pub Begins : Form → List (List ℕ) → Type 0
+Begins f words = (rest : List (List ℕ)) × Has f (words ++ rest)
+
+-- an expression is awaited after the words, where words of the form are read
+abbrev pub Awaits : Form → List (List ℕ) → Type 0
+Awaits empty words = ⊥
+Awaits (word formula) words = words ≡ []
+Awaits (word c) words = ⊥
+Awaits (sequence f g) words =
+    Awaits f words
+    ⊎ ((before : List (List ℕ)) × (after : List (List ℕ)) × (words ≡ before ++ after) × Has f before × Awaits g after)
+Awaits (either f g) words = Awaits f words ⊎ Awaits g words
+Awaits (many f) words =
+    (before : List (List ℕ)) × (after : List (List ℕ)) × (words ≡ before ++ after) × Has (many f) before × Awaits f after
+
+-- whether the byte is an ASCII digit
+abbrev pub is_digit : ℕ → Bool
+is_digit byte = nat_le 48 byte && nat_le byte 57
+
+-- whether each byte is an ASCII digit
+abbrev pub are_digits : List ℕ → Bool
+are_digits [] = true
+are_digits (byte ∷ digits) = is_digit byte && are_digits digits
+
+-- whether the word is a number
+abbrev pub is_number_word : List ℕ → Bool
+is_number_word [] = false
+is_number_word (byte ∷ digits) = are_digits (byte ∷ digits)
+
+-- whether the word is the letter of one of the bases
+abbrev pub is_letter_of : List Basis → List ℕ → Bool
+is_letter_of [] text = false
+is_letter_of (basis ∷ bases) text = same (letter basis) text || is_letter_of bases text
+
+-- whether the word is of the class; reads tells the expressions among words
+abbrev pub fits : (List ℕ → Bool) → Class → List ℕ → Bool
+fits reads (exact w) text = same w text
+fits reads number text = is_number_word text
+fits reads (target bases) text = is_letter_of bases text
+fits reads formula text = reads text
+
+-- whether no word is of the form
+abbrev pub is_skippable : Form → Bool
+is_skippable empty = true
+is_skippable (word c) = false
+is_skippable (sequence f g) = is_skippable f && is_skippable g
+is_skippable (either f g) = is_skippable f || is_skippable g
+is_skippable (many f) = true
+
+-- the forms of what may follow the word, where words of the form begin with it: the partial derivatives (Antimirov)
+abbrev pub derivatives : (List ℕ → Bool) → Form → List ℕ → List Form
+derivatives reads empty text = []
+derivatives reads (word c) text = cond (fits reads c text) (empty ∷ []) []
+derivatives reads (sequence f g) text =
+    map (λ h. sequence h g) (derivatives reads f text) ++ cond (is_skippable f) (derivatives reads g text) []
+derivatives reads (either f g) text = derivatives reads f text ++ derivatives reads g text
+derivatives reads (many f) text = map (λ h. sequence h (many f)) (derivatives reads f text)
+
+-- the same for words of one of these forms
+abbrev pub after_word : (List ℕ → Bool) → List Form → List ℕ → List Form
+after_word reads forms text = each (λ f. derivatives reads f text) forms
+
+-- one more, where some form is left
+abbrev pub one_more : List Form → ℕ → ℕ
+one_more [] n = 0
+one_more (f ∷ forms) n = n + 1
+
+-- how many of the words are taken before the rest begins words of none of these forms
+abbrev pub taken : (List ℕ → Bool) → List Form → List (List ℕ) → ℕ
+taken reads forms [] = 0
+taken reads forms (text ∷ words) =
+    one_more (after_word reads forms text) (taken reads (after_word reads forms text) words)
+
+-- whether no word is of one of these forms
+abbrev pub has_skippable : List Form → Bool
+has_skippable [] = false
+has_skippable (f ∷ forms) = is_skippable f || has_skippable forms
+
+-- the forms of what may follow the words
+abbrev pub after_words : (List ℕ → Bool) → List Form → List (List ℕ) → List Form
+after_words reads forms [] = forms
+after_words reads forms (text ∷ words) = after_words reads (after_word reads forms text) words
+
+-- whether the words are of the form
+abbrev pub are_words_of : (List ℕ → Bool) → Form → List (List ℕ) → Bool
+are_words_of reads f words = has_skippable (after_words reads (f ∷ []) words)
+
+-- whether an expression may stand next
+abbrev pub awaits_next : Form → Bool
+awaits_next (word formula) = true
+awaits_next (sequence f g) = awaits_next f || (is_skippable f && awaits_next g)
+awaits_next (either f g) = awaits_next f || awaits_next g
+awaits_next (many f) = awaits_next f
+awaits_next f = false
+
+-- whether an expression may stand next in words of one of these forms
+abbrev pub some_awaits_next : List Form → Bool
+some_awaits_next [] = false
+some_awaits_next (f ∷ forms) = awaits_next f || some_awaits_next forms
+
+-- the test tells the expressions among words
+pub record TellsExpressions (reads : List ℕ → Bool) : Type 0 where
+  pub sound : (text : List ℕ) → reads text ≡ true → (phrase : Phrase) × SpellsPhrase text phrase
+  pub complete : (text : List ℕ) (phrase : Phrase) → SpellsPhrase text phrase → reads text ≡ true
+
+-- whether some word is of the class
+abbrev pub has_words : Class → Bool
+has_words (target []) = false
+has_words c = true
+
+-- whether some words are of the form, and of each form in it
+abbrev pub can_be : Form → Bool
+can_be empty = true
+can_be (word c) = has_words c
+can_be (sequence f g) = can_be f && can_be g
+can_be (either f g) = can_be f && can_be g
+can_be (many f) = can_be f

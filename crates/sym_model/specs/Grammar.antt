@@ -1,0 +1,366 @@
+-- The grammar of commands: for each command the form of its words, what they say and what they offend by
+-- (this project's own).
+use Rattle.std.specs.Prelude.{ℕ, ◌+◌, cond, List, [], ◌∷◌, ◌++◌, map, length, codes, Option, Some, None}
+use Rattle.std.proofs.Common.{inl, inr}
+use Rattle.sym_model.specs.Partition.{size}
+use Rattle.sym_model.specs.Schur.{row_lengths}
+use Rattle.sym_model.specs.GoodTableau.{column_reading}
+use Rattle.sym_model.specs.Expansion.{Basis, monomials, elementaries, completes, power_sums, schurs}
+use Rattle.sym_model.specs.PrintedBlock.{decimal_value}
+use Rattle.sym_model.specs.Phrase.{tree}
+use Rattle.sym_model.specs.Permutation.{kept}
+use Rattle.sym_model.specs.ExpressionOffence.{shape}
+use Rattle.sym_model.specs.Form.{Form, word, many, number, target, formula, Written, words_of}
+use Rattle.sym_model.specs.Command.{Command, mult, skew, coef, coprod, tab, quantum, fusion, schubert, schubmult, expand, rsk, unrsk, rect, batch, work}
+use Rattle.sym_model.specs.CommandOffence.{Offence, judged_against, offences_by, rows_rule, lines_rule, seed_rule, letter_rule, entry_rule, inside_rule, part_offences, permutation_offences, PlacedRow, row_offences, count_offences, order_offences, length_offences, empty_row_offences, standard_offences, rows_in, is_lattice_tableau, expression_offences}
+use Rattle.sym_model.specs.WordForms.{the, in_turn, optional, partition_words, permutation_words, rows_words, tableau_words, from_words, numbers, partition, letters, row_limit, row_limit_offences, placed_rows, tableau_rows, shape_offences}
+use Rattle.sym_model.specs.Entry.{Entry}
+
+-- the offences of two partitions with a word between them, the first of which begins at the word
+abbrev pub two_partitions : ℕ → List (List ℕ) → List (List ℕ) → List Offence
+two_partitions k left right =
+    part_offences k (numbers left) ++ part_offences (k + length left + 1) (numbers right)
+
+-- 'mult' ROWS? PART '-' PART
+abbrev pub mult_words : Form
+mult_words =
+    in_turn (the (codes "mult") ∷ optional rows_words ∷ partition_words ∷ the (codes "-") ∷ partition_words ∷ [])
+
+-- what the words of `mult` say
+abbrev pub mult_says : Written mult_words → Command
+mult_says (name, (limit, (left, (minus, right)))) = mult (row_limit limit) (partition left) (partition right)
+
+-- what the words of `mult` offend by
+abbrev pub mult_offends : Written mult_words → List Offence
+mult_offends (name, (limit, (left, (minus, right)))) =
+    row_limit_offences 1 limit ++ two_partitions (1 + length (words_of (optional rows_words) limit)) left right
+
+-- the command `mult`
+abbrev pub mult_entry : Entry
+mult_entry = record { name = codes "mult"; form = mult_words; says = mult_says; offends = mult_offends }
+
+-- 'skew' ROWS? PART '/' PART
+abbrev pub skew_words : Form
+skew_words =
+    in_turn (the (codes "skew") ∷ optional rows_words ∷ partition_words ∷ the (codes "/") ∷ partition_words ∷ [])
+
+-- what the words of `skew` say
+abbrev pub skew_says : Written skew_words → Command
+skew_says (name, (limit, (outer, (slash, inner)))) = skew (row_limit limit) (partition outer) (partition inner)
+
+-- what the words of `skew` offend by
+abbrev pub skew_offends : Written skew_words → List Offence
+skew_offends (name, (limit, (outer, (slash, inner)))) =
+    row_limit_offences 1 limit ++ two_partitions (1 + length (words_of (optional rows_words) limit)) outer inner
+
+-- the command `skew`
+abbrev pub skew_entry : Entry
+skew_entry = record { name = codes "skew"; form = skew_words; says = skew_says; offends = skew_offends }
+
+-- 'coef' PART '-' PART '-' PART
+abbrev pub coef_words : Form
+coef_words =
+    in_turn
+    (the (codes "coef") ∷ partition_words ∷ the (codes "-") ∷ partition_words ∷ the (codes "-") ∷ partition_words ∷ [])
+
+-- what the words of `coef` say
+abbrev pub coef_says : Written coef_words → Command
+coef_says (name, (outer, (minus, (left, (again, right))))) = coef (partition outer) (partition left) (partition right)
+
+-- what the words of `coef` offend by
+abbrev pub coef_offends : Written coef_words → List Offence
+coef_offends (name, (outer, (minus, (left, (again, right))))) =
+    part_offences 1 (numbers outer) ++ two_partitions (2 + length outer) left right
+
+-- the command `coef`
+abbrev pub coef_entry : Entry
+coef_entry = record { name = codes "coef"; form = coef_words; says = coef_says; offends = coef_offends }
+
+-- 'coprod' PART
+abbrev pub coprod_words : Form
+coprod_words = in_turn (the (codes "coprod") ∷ partition_words ∷ [])
+
+-- what the words of `coprod` say
+abbrev pub coprod_says : Written coprod_words → Command
+coprod_says (name, parts) = coprod (partition parts)
+
+-- what the words of `coprod` offend by
+abbrev pub coprod_offends : Written coprod_words → List Offence
+coprod_offends (name, parts) = part_offences 1 (numbers parts)
+
+-- the command `coprod`
+abbrev pub coprod_entry : Entry
+coprod_entry = record { name = codes "coprod"; form = coprod_words; says = coprod_says; offends = coprod_offends }
+
+-- 'tab' PART '/' PART FROM?
+abbrev pub tab_words : Form
+tab_words =
+    in_turn (the (codes "tab") ∷ partition_words ∷ the (codes "/") ∷ partition_words ∷ optional from_words ∷ [])
+
+-- the column reading of the tableau behind which the list begins
+abbrev pub last_reading : List ℕ → List ℕ → Written (optional from_words) → Option (List ℕ)
+last_reading outer inner (inl nothing) = None
+last_reading outer inner (inr (name, tableau)) =
+    Some (column_reading outer inner (rows_in outer (tableau_rows tableau)))
+
+-- the word `-from`, where the tableau behind it is not in the list
+abbrev pub not_listed : ℕ → List ℕ → List ℕ → Written (optional from_words) → List Offence
+not_listed k outer inner (inl nothing) = []
+not_listed k outer inner (inr (name, tableau)) =
+    cond (is_lattice_tableau outer inner (rows_in outer (tableau_rows tableau))) [] ((k, 0, shape) ∷ [])
+
+-- the entries of the tableau behind the word `-from`
+abbrev pub from_entries : ℕ → Written (optional from_words) → List Offence
+from_entries k (inl nothing) = []
+from_entries k (inr (name, tableau)) = row_offences entry_rule (placed_rows (k + 1) tableau)
+
+-- what the words of `tab` say
+abbrev pub tab_says : Written tab_words → Command
+tab_says (name, (outer, (slash, (inner, after)))) =
+    tab (partition outer) (partition inner) (last_reading (partition outer) (partition inner) after)
+
+-- what the words of `tab` offend by
+abbrev pub tab_offends : Written tab_words → List Offence
+tab_offends (name, (outer, (slash, (inner, after)))) =
+    let lists = two_partitions 1 outer inner in
+    let k = 2 + length outer + length inner in
+    lists ++ judged_against lists (not_listed k (partition outer) (partition inner) after) ++ from_entries k after
+
+-- the command `tab`
+abbrev pub tab_entry : Entry
+tab_entry = record { name = codes "tab"; form = tab_words; says = tab_says; offends = tab_offends }
+
+-- the name, NUM NUM PART '-' PART
+abbrev pub reduction_words : List ℕ → Form
+reduction_words name =
+    in_turn (the name ∷ word number ∷ word number ∷ partition_words ∷ the (codes "-") ∷ partition_words ∷ [])
+
+-- what the words of `quantum` and `fusion` offend by
+abbrev pub reduction_offends : (name : List ℕ) → Written (reduction_words name) → List Offence
+reduction_offends name (first, (rows, (bound, (left, (minus, right))))) =
+    offences_by rows_rule 1 (decimal_value rows ∷ [])
+    ++ offences_by rows_rule 2 (decimal_value bound ∷ [])
+    ++ two_partitions 3 left right
+
+-- what the words of `quantum` say: 'quantum' NUM NUM PART '-' PART
+abbrev pub quantum_says : Written (reduction_words (codes "quantum")) → Command
+quantum_says (name, (rows, (columns, (left, (minus, right))))) =
+    quantum (decimal_value rows) (decimal_value columns) (partition left) (partition right)
+
+-- the command `quantum`
+abbrev pub quantum_entry : Entry
+quantum_entry = record {
+  name = codes "quantum";
+  form = reduction_words (codes "quantum");
+  says = quantum_says;
+  offends = reduction_offends (codes "quantum");
+}
+
+-- what the words of `fusion` say: 'fusion' NUM NUM PART '-' PART
+abbrev pub fusion_says : Written (reduction_words (codes "fusion")) → Command
+fusion_says (name, (rows, (level, (left, (minus, right))))) =
+    fusion (decimal_value rows) (decimal_value level) (partition left) (partition right)
+
+-- the command `fusion`
+abbrev pub fusion_entry : Entry
+fusion_entry = record {
+  name = codes "fusion";
+  form = reduction_words (codes "fusion");
+  says = fusion_says;
+  offends = reduction_offends (codes "fusion");
+}
+
+-- 'schubert' PERM
+abbrev pub schubert_words : Form
+schubert_words = in_turn (the (codes "schubert") ∷ permutation_words ∷ [])
+
+-- what the words of `schubert` say
+abbrev pub schubert_says : Written schubert_words → Command
+schubert_says (name, w) = schubert (kept (letters w))
+
+-- what the words of `schubert` offend by
+abbrev pub schubert_offends : Written schubert_words → List Offence
+schubert_offends (name, w) = permutation_offences 1 (letters w)
+
+-- the command `schubert`
+abbrev pub schubert_entry : Entry
+schubert_entry = record {
+  name = codes "schubert";
+  form = schubert_words;
+  says = schubert_says;
+  offends = schubert_offends;
+}
+
+-- 'schubmult' PERM '-' PERM
+abbrev pub schubmult_words : Form
+schubmult_words =
+    in_turn (the (codes "schubmult") ∷ permutation_words ∷ the (codes "-") ∷ permutation_words ∷ [])
+
+-- what the words of `schubmult` say
+abbrev pub schubmult_says : Written schubmult_words → Command
+schubmult_says (name, (left, (minus, right))) = schubmult (kept (letters left)) (kept (letters right))
+
+-- what the words of `schubmult` offend by
+abbrev pub schubmult_offends : Written schubmult_words → List Offence
+schubmult_offends (name, (left, (minus, right))) =
+    permutation_offences 1 (letters left) ++ permutation_offences (2 + length (letters left)) (letters right)
+
+-- the command `schubmult`
+abbrev pub schubmult_entry : Entry
+schubmult_entry = record {
+  name = codes "schubmult";
+  form = schubmult_words;
+  says = schubmult_says;
+  offends = schubmult_offends;
+}
+
+-- 'expand' BASIS EXPR, with these bases
+abbrev pub expand_words : List Basis → Form
+expand_words bases = in_turn (the (codes "expand") ∷ word (target bases) ∷ word formula ∷ [])
+
+-- what the words of `expand` say
+abbrev pub expand_says : (bases : List Basis) → Written (expand_words bases) → Command
+expand_says bases (name, (basis, phrase)) = expand basis (tree phrase)
+
+-- what the words of `expand` offend by
+abbrev pub expand_offends : (bases : List Basis) → Written (expand_words bases) → List Offence
+expand_offends bases (name, (basis, phrase)) = expression_offences 2 basis phrase
+
+-- the command `expand`
+abbrev pub expand_entry : List Basis → Entry
+expand_entry bases = record {
+  name = codes "expand";
+  form = expand_words bases;
+  says = expand_says bases;
+  offends = expand_offends bases;
+}
+
+-- 'rsk' NUM*
+abbrev pub rsk_words : Form
+rsk_words = in_turn (the (codes "rsk") ∷ many (word number) ∷ [])
+
+-- what the words of `rsk` say
+abbrev pub rsk_says : Written rsk_words → Command
+rsk_says (name, w) = rsk (numbers w)
+
+-- what the words of `rsk` offend by
+abbrev pub rsk_offends : Written rsk_words → List Offence
+rsk_offends (name, w) = offences_by letter_rule 1 (numbers w)
+
+-- the command `rsk`
+abbrev pub rsk_entry : Entry
+rsk_entry = record { name = codes "rsk"; form = rsk_words; says = rsk_says; offends = rsk_offends }
+
+-- 'unrsk' TABLEAU '-' TABLEAU
+abbrev pub unrsk_words : Form
+unrsk_words = in_turn (the (codes "unrsk") ∷ tableau_words ∷ the (codes "-") ∷ tableau_words ∷ [])
+
+-- what the numbers of a tableau offend by, each for itself
+abbrev pub filled_offences : List PlacedRow → List Offence
+filled_offences rows = row_offences entry_rule rows ++ count_offences 0 rows
+
+-- the offences of the first tableau
+abbrev pub insertion_offences : List PlacedRow → List Offence
+insertion_offences [] = []
+insertion_offences (row ∷ rows) =
+    filled_offences (row ∷ rows)
+    ++ length_offences row.1 rows
+    ++ empty_row_offences (row ∷ rows)
+    ++ order_offences 0 [] [] (row ∷ rows)
+
+-- what the words of `unrsk` say
+abbrev pub unrsk_says : Written unrsk_words → Command
+unrsk_says (name, (first, (minus, second))) =
+    unrsk (rows_in [] (tableau_rows first)) (rows_in [] (tableau_rows second))
+
+-- what the words of `unrsk` offend by
+abbrev pub unrsk_offends : Written unrsk_words → List Offence
+unrsk_offends (name, (first, (minus, second))) =
+    let lengths = map length (rows_in [] (tableau_rows first)) in
+    let k = 2 + length (words_of tableau_words first) in
+    let earlier = insertion_offences (placed_rows 1 first) in
+    let recording = placed_rows k second in
+    earlier
+    ++ filled_offences recording
+    ++ judged_against
+    earlier
+    (shape_offences k lengths (words_of tableau_words second) ++ standard_offences (size lengths) [] [] recording)
+
+-- the command `unrsk`
+abbrev pub unrsk_entry : Entry
+unrsk_entry = record { name = codes "unrsk"; form = unrsk_words; says = unrsk_says; offends = unrsk_offends }
+
+-- 'rect' PART '/' PART '-' TABLEAU
+abbrev pub rect_words : Form
+rect_words =
+    in_turn
+    (the (codes "rect") ∷ partition_words ∷ the (codes "/") ∷ partition_words ∷ the (codes "-") ∷ tableau_words ∷ [])
+
+-- what the words of `rect` say
+abbrev pub rect_says : Written rect_words → Command
+rect_says (name, (outer, (slash, (inner, (minus, tableau))))) =
+    rect (partition outer) (partition inner) (rows_in (partition outer) (tableau_rows tableau))
+
+-- the offences of an inner partition at the word, which is judged against the outer one where that has no offence
+abbrev pub inner_offences : ℕ → List Offence → List ℕ → List ℕ → List Offence
+inner_offences k earlier outer inner =
+    part_offences k inner ++ judged_against earlier (offences_by (inside_rule outer) k inner)
+
+-- what the words of `rect` offend by
+abbrev pub rect_offends : Written rect_words → List Offence
+rect_offends (name, (outer, (slash, (inner, (minus, tableau))))) =
+    let outer_found = part_offences 1 (numbers outer) in
+    let inner_found = inner_offences (2 + length outer) outer_found (numbers outer) (numbers inner) in
+    let k = 3 + length outer + length inner in
+    let rows = placed_rows k tableau in
+    outer_found
+    ++ inner_found
+    ++ row_offences entry_rule rows
+    ++ judged_against
+    (outer_found ++ inner_found)
+    (shape_offences k (row_lengths (partition outer) (partition inner)) (words_of tableau_words tableau)
+    ++ order_offences 0 [] (numbers inner) rows)
+
+-- the command `rect`
+abbrev pub rect_entry : Entry
+rect_entry = record { name = codes "rect"; form = rect_words; says = rect_says; offends = rect_offends }
+
+-- the command `batch`: 'batch'
+abbrev pub batch_entry : Entry
+batch_entry = record {
+  name = codes "batch";
+  form = the (codes "batch");
+  says = λ x. batch;
+  offends = λ x. [];
+}
+
+-- 'work' NUM NUM
+abbrev pub work_words : Form
+work_words = in_turn (the (codes "work") ∷ word number ∷ word number ∷ [])
+
+-- what the words of `work` say
+abbrev pub work_says : Written work_words → Command
+work_says (name, (lines, seed)) = work (decimal_value lines) (decimal_value seed)
+
+-- what the words of `work` offend by
+abbrev pub work_offends : Written work_words → List Offence
+work_offends (name, (lines, seed)) =
+    offences_by lines_rule 1 (decimal_value lines ∷ []) ++ offences_by seed_rule 2 (decimal_value seed ∷ [])
+
+-- the command `work`
+abbrev pub work_entry : Entry
+work_entry = record { name = codes "work"; form = work_words; says = work_says; offends = work_offends }
+
+-- the commands of a batch line
+abbrev pub line_entries : List Basis → List Entry
+line_entries bases =
+    mult_entry ∷ skew_entry ∷ coef_entry ∷ coprod_entry ∷ tab_entry ∷ quantum_entry ∷ fusion_entry ∷ schubert_entry
+    ∷ schubmult_entry ∷ expand_entry bases ∷ rsk_entry ∷ unrsk_entry ∷ rect_entry ∷ []
+
+-- all commands
+abbrev pub entries_of : List Basis → List Entry
+entries_of bases = line_entries bases ++ (batch_entry ∷ work_entry ∷ [])
+
+-- the bases
+abbrev pub all_bases : List Basis
+all_bases = monomials ∷ elementaries ∷ completes ∷ power_sums ∷ schurs ∷ []

@@ -1,0 +1,17 @@
+-- The headline of a command (this project's own): what its text says when it is read back.
+use Rattle.std.specs.Prelude.{◌≡◌, ℕ, List, Some}
+use Rattle.sym_model.specs.Expansion.{Terms}
+use Rattle.sym_model.specs.Kind.{Kind, Label, label_rules}
+use Rattle.sym_model.specs.Canonical.{IsCanonicalBy}
+use Rattle.sym_model.specs.PrintedBlock.{read_by}
+use Rattle.sym_model.specs.Answer.{answer}
+use Rattle.sym_model.specs.Command.{Command}
+use Rattle.sym_model.specs.Target.{Meets}
+
+-- the text, read back, is a canonical list of terms, and that list is what the command names
+pub record ReadsBack (command : Command) (text : List ℕ) : Type 0 where
+  pub kind : Kind
+  pub terms : Terms (Label kind)
+  pub reads : read_by (label_rules kind) text ≡ Some terms
+  pub canonical : IsCanonicalBy (label_rules kind) terms
+  pub meets : Meets command (answer kind terms)

@@ -1,0 +1,46 @@
+-- Knuth steps between words and their chains, which join a Knuth class (Knuth; Fulton, 2.1).
+use Rattle.std.specs.Prelude.{◌≡◌, ℕ, ◌<◌, ◌≤◌, ◌⊎◌, List, [], ◌∷◌, ◌++◌}
+
+-- three letters y z x become y x z, where x < y ≤ z
+pub record IsFirstExchange (v w : List ℕ) : Type 0 where
+  pub x : ℕ
+  pub y : ℕ
+  pub z : ℕ
+  pub below : x < y
+  pub within : y ≤ z
+  pub before : v ≡ y ∷ z ∷ x ∷ []
+  pub after : w ≡ y ∷ x ∷ z ∷ []
+
+-- three letters x z y become z x y, where x ≤ y < z
+pub record IsSecondExchange (v w : List ℕ) : Type 0 where
+  pub x : ℕ
+  pub y : ℕ
+  pub z : ℕ
+  pub within : x ≤ y
+  pub below : y < z
+  pub before : v ≡ x ∷ z ∷ y ∷ []
+  pub after : w ≡ z ∷ x ∷ y ∷ []
+
+-- one of the two exchanges, read in this direction or in the other
+abbrev pub AreKnuthRelated : List ℕ → List ℕ → Type 0
+AreKnuthRelated v w =
+    (IsFirstExchange v w ⊎ IsFirstExchange w v) ⊎ (IsSecondExchange v w ⊎ IsSecondExchange w v)
+
+-- the words are one Knuth step apart: one relation changes three neighbouring letters of v into those of w
+pub record IsKnuthStep (v w : List ℕ) : Type 0 where
+  pub front : List ℕ
+  pub three : List ℕ
+  pub changed : List ℕ
+  pub back : List ℕ
+  pub related : AreKnuthRelated three changed
+  pub from : v ≡ front ++ (three ++ back)
+  pub to : w ≡ front ++ (changed ++ back)
+
+-- a chain of Knuth steps leads from v through the listed words to the last of them, w
+abbrev pub IsKnuthChain : List ℕ → List (List ℕ) → List ℕ → Type 0
+IsKnuthChain v [] w = v ≡ w
+IsKnuthChain v (u ∷ chain) w = IsKnuthStep v u × IsKnuthChain u chain w
+
+-- the words are in one Knuth class: a chain of Knuth steps joins them
+abbrev pub AreKnuthEquivalent : List ℕ → List ℕ → Type 0
+AreKnuthEquivalent v w = (chain : List (List ℕ)) × IsKnuthChain v chain w

@@ -1,0 +1,89 @@
+-- When the answer to a command is too large for numbers of 128 bits (this project's own): by the coefficients that its
+-- definition gives, or by a weight that bounds all that is computed.
+use Rattle.std.specs.Prelude.{◌≡◌, ℕ, ◌+◌, ◌*◌, ◌^◌, ◌≤◌, nat_le, nat_abs, max, Bool, false, cond, ℤ, pos, negsuc, List, [], ◌∷◌, length, Option, Some, None, IsTrue}
+use Rattle.sym_model.specs.Sum.{total}
+use Rattle.sym_model.specs.Polynomial.{Term, Poly, coefficient}
+use Rattle.sym_model.specs.Partition.{IsPartition, Holds, rows}
+use Rattle.sym_model.specs.PlaceOrders.{inversions}
+use Rattle.sym_model.specs.Schur.{skew_schur}
+use Rattle.sym_model.specs.Alternant.{schur_coefficient}
+use Rattle.sym_model.specs.Schubert as polynomials
+use Rattle.sym_model.specs.WholeTerms as terms
+use Rattle.sym_model.specs.Weight as expressions
+use Rattle.sym_model.specs.Target.{schur_product, classical_product}
+use Rattle.sym_model.specs.Command.{Command, mult, skew, coef, coprod, quantum, fusion, schubert, schubmult, expand}
+
+-- c is the Schur coefficient of the polynomial f in n variables at some partition with at most n rows
+pub record IsSchurCoefficientOf (f : Poly) (n : ℕ) (c : ℤ) : Type 0 where
+  pub parts : List ℕ
+  pub partition : IsPartition parts
+  pub within : rows parts ≤ n
+  pub is : c ≡ schur_coefficient n parts f
+
+-- c is the Schur coefficient of s_(shape/part) in as many variables as shape has rows, for some part of the shape
+pub record IsCoproductCoefficient (shape : List ℕ) (c : ℤ) : Type 0 where
+  pub part : List ℕ
+  pub partition : IsPartition part
+  pub inside : Holds shape part
+  pub is : IsSchurCoefficientOf (skew_schur shape part (rows shape)) (rows shape) c
+
+-- the number of variables in which the answer is looked at: those given, or enough for all its labels
+abbrev pub variables_or : Option ℕ → ℕ → ℕ
+variables_or None enough = enough
+variables_or (Some k) enough = k
+
+-- the defined coefficients of a command, where its definition gives them
+abbrev pub IsDefinedCoefficient : Command → ℤ → Type 0
+IsDefinedCoefficient (mult variables left right) c =
+    let n = variables_or variables (rows left + rows right) in
+    IsSchurCoefficientOf (schur_product (left ∷ right ∷ []) n) n c
+IsDefinedCoefficient (skew variables outer inner) c =
+    let n = variables_or variables (rows outer) in
+    IsSchurCoefficientOf (skew_schur outer inner n) n c
+IsDefinedCoefficient (coef outer left right) c =
+    c ≡ schur_coefficient (rows outer) outer (schur_product (left ∷ right ∷ []) (rows outer))
+IsDefinedCoefficient (coprod shape) c = IsCoproductCoefficient shape c
+IsDefinedCoefficient (schubert w) c = (exponents : List ℕ) × (c ≡ coefficient (polynomials.schubert w) exponents)
+IsDefinedCoefficient _ c = ⊥
+
+-- whether a whole number is past 2^127 - 1
+abbrev pub is_past : ℤ → Bool
+is_past (pos n) = nat_le (2 ^ 127) n
+is_past (negsuc n) = false
+
+-- some defined coefficient of the command is past 2^127 - 1
+abbrev pub HasPastCoefficient : Command → Type 0
+HasPastCoefficient command = (c : ℤ) × IsDefinedCoefficient command c × IsTrue (is_past c)
+
+-- ---- weights
+
+-- the weight of the classical product in k variables: the sum of its coefficients
+abbrev pub classical_weight : ℕ → List (List ℕ) → ℕ
+classical_weight k factors = terms.absolute_total (classical_product k factors)
+
+-- the value of a polynomial where each variable is 1
+abbrev pub value_at_ones : Poly → ℤ
+value_at_ones f = total (λ (t : Term). t.1) f
+
+-- of two permutations the one with fewer inversions, on a tie the first
+abbrev pub shorter : List ℕ → List ℕ → List ℕ
+shorter u v = cond (nat_le (inversions u) (inversions v)) u v
+
+-- the weight of a pair of permutations, S_u(1, .., 1)·(n + ℓ)^ℓ: u is the one with fewer inversions, ℓ their number, and n the
+-- greater number of letters
+abbrev pub pair_weight : List ℕ → List ℕ → ℕ
+pair_weight u v =
+    let w = shorter u v in
+    nat_abs (value_at_ones (polynomials.schubert w)) * (max (length u) (length v) + inversions w) ^ inversions w
+
+-- the weight of a command, where its definition gives one
+abbrev pub HasWeight : Command → ℕ → Type 0
+HasWeight (quantum k columns left right) weight = weight ≡ classical_weight k (left ∷ right ∷ [])
+HasWeight (fusion k level left right) weight = weight ≡ classical_weight k (left ∷ right ∷ [])
+HasWeight (schubmult u v) weight = weight ≡ pair_weight u v
+HasWeight (expand target e) weight = weight ≡ expressions.weight target e
+HasWeight _ weight = ⊥
+
+-- the weight of the command is 2^127 or more
+abbrev pub IsHeavy : Command → Type 0
+IsHeavy command = (weight : ℕ) × HasWeight command weight × (2 ^ 127 ≤ weight)

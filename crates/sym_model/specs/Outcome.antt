@@ -1,0 +1,110 @@
+-- The outcomes of a list of words (this project's own): the text that is defined for it, and how the command ends. The
+-- commands that the words can spell are an argument, a list of entries.
+use Rattle.std.specs.Prelude.{◌≡◌, ℕ, ◌⊎◌, List, codes, Option, Some, None}
+use Rattle.sym_model.specs.GoodTableau.{lattice_readings}
+use Rattle.sym_model.specs.TableauList.{later_than}
+use Rattle.sym_model.specs.Tableau.{SkewFilling}
+use Rattle.sym_model.specs.Insertion.{insertion_pair}
+use Rattle.sym_model.specs.Slide.{IsReached}
+use Rattle.sym_model.specs.TableauText.{tableau_line, pair_text, word_line, readings_text}
+use Rattle.sym_model.specs.ExpressionOffence.{OffenceKind, literal, range as beyond, shape}
+use Rattle.sym_model.specs.CommandOffence.{Offence}
+use Rattle.sym_model.specs.Command.{Command, tab, rsk, unrsk, rect, batch, work}
+use Rattle.sym_model.specs.Entry.{Entry, SpellsWithoutOffence, HasFirstOffence}
+use Rattle.sym_model.specs.SyntaxPlace.{IsSyntaxPlace}
+use Rattle.sym_model.specs.Answer.{Answer, answer_text, IsPrintable}
+use Rattle.sym_model.specs.Target.{Meets}
+use Rattle.sym_model.specs.LargeAnswer.{HasPastCoefficient, IsHeavy}
+use Rattle.sym_model.specs.Ending.{Ending, done, syntax, range, past}
+use Rattle.sym_model.specs.RefusalText.{refusal_line, offence_line, large_line}
+
+-- how a command ends whose words have the offence
+abbrev pub ending_of : OffenceKind → Ending
+ending_of literal = past
+ending_of beyond = range
+ending_of shape = range
+
+-- ---- words that are refused
+
+-- the words spell no command, and the text says where they go wrong
+pub record IsNoCommand (entries : List Entry) (words : List (List ℕ)) (text : List ℕ) : Type 0 where
+  pub word : ℕ
+  pub byte : ℕ
+  pub place : IsSyntaxPlace entries words word byte
+  pub line : text ≡ refusal_line (codes "Syntax") word byte
+
+-- the words spell a command and offend, and the text says by what and where they do first
+pub record IsOffending (entries : List Entry) (words : List (List ℕ)) (text : List ℕ) (ending : Ending) : Type 0 where
+  pub offence : Offence
+  pub first : HasFirstOffence entries words (Some offence)
+  pub line : text ≡ offence_line offence
+  pub ends : ending ≡ ending_of offence.2
+
+-- ---- commands that name an expansion
+
+-- the text is the block of an answer that is what the command names
+pub record PrintsAnswer (command : Command) (text : List ℕ) : Type 0 where
+  pub answer : Answer
+  pub printable : IsPrintable answer
+  pub meets : Meets command answer
+  pub printed : text ≡ answer_text answer
+
+-- the answer is to be refused as too large: a defined coefficient is past the limit
+abbrev pub MustBeLarge : Command → Type 0
+MustBeLarge command = HasPastCoefficient command
+
+-- the answer can be refused as too large: a defined coefficient is past the limit, or the weight is
+abbrev pub MayBeLarge : Command → Type 0
+MayBeLarge command = HasPastCoefficient command ⊎ IsHeavy command
+
+-- the answer to the command is put, where it need not be refused, or it is refused, where it can be
+abbrev pub Expands : Command → List ℕ → Ending → Type 0
+Expands command text ending =
+    ((MustBeLarge command → ⊥) × PrintsAnswer command text × (ending ≡ done))
+    ⊎ (MayBeLarge command × (text ≡ large_line) × (ending ≡ past))
+
+-- ---- the other commands
+
+-- the lattice tableaux of a skew shape, from behind the one with this column reading where one is given
+abbrev pub readings_after : List ℕ → List ℕ → Option (List ℕ) → List (List ℕ)
+readings_after outer inner None = lattice_readings outer inner
+readings_after outer inner (Some last) = later_than last (lattice_readings outer inner)
+
+-- the text is the word that insertion takes to the pair of tableaux
+pub record PrintsWord (p q : List (List ℕ)) (text : List ℕ) : Type 0 where
+  pub word : List ℕ
+  pub inserts : insertion_pair word ≡ (p, q)
+  pub printed : text ≡ word_line word
+
+-- the text is a straight tableau that slides reach from the filling
+pub record PrintsRectified (filling : SkewFilling) (text : List ℕ) : Type 0 where
+  pub straight : SkewFilling
+  pub reached : IsReached filling straight
+  pub printed : text ≡ tableau_line straight.rows
+
+-- ---- outcomes
+
+-- what comes of a command that has no offence, but for those that run other commands
+abbrev pub Answers : Command → List ℕ → Ending → Type 0
+Answers (tab outer inner last) text ending =
+    (text ≡ readings_text outer inner (readings_after outer inner last)) × (ending ≡ done)
+Answers (rsk w) text ending =
+    (text ≡ pair_text (insertion_pair w).0 (insertion_pair w).1) × (ending ≡ done)
+Answers (unrsk p q) text ending = PrintsWord p q text × (ending ≡ done)
+Answers (rect outer inner rows) text ending =
+    PrintsRectified (record { outer = outer; inner = inner; rows = rows }) text × (ending ≡ done)
+Answers batch text ending = ⊥
+Answers (work lines seed) text ending = ⊥
+Answers command text ending = Expands command text ending
+
+-- what comes of the words, by what comes of the commands: the refusal of the words, or what comes of the command that they
+-- spell without an offence
+abbrev pub ComesOf : (Command → List ℕ → Ending → Type 0) → List Entry → List (List ℕ) → List ℕ → Ending → Type 0
+ComesOf answers entries words text ending =
+    (IsNoCommand entries words text × (ending ≡ syntax))
+    ⊎ IsOffending entries words text ending
+    ⊎ ((command : Command) × SpellsWithoutOffence entries words command × answers command text ending)
+
+-- the outcomes of words that run no other commands, such as those of a line of a batch
+abbrev pub IsLineOutcome : List Entry → List (List ℕ) → List ℕ → Ending → Type 0
+IsLineOutcome entries words text ending = ComesOf Answers entries words text ending

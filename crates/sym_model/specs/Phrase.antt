@@ -1,0 +1,118 @@
+-- Expressions as words: the grammar, as the phrases that it allows, what each one spells and the tree that it stands for
+-- (this project's own).
+use Rattle.std.specs.Prelude.{◌≡◌, ℕ, List, ◌++◌, map, codes}
+use Rattle.sym_model.specs.Expansion.{Basis, monomials, elementaries, completes, power_sums, schurs}
+use Rattle.sym_model.specs.Partition.{without_last_zeros}
+use Rattle.sym_model.specs.PrintedBlock.{decimal_value}
+use Rattle.sym_model.specs.NumberWord.{IsNumberWord, AreNumberWords, comma_separated}
+use Rattle.sym_model.specs.Expression.{Tree, number, fraction, atom, negation, sum, difference, product}
+
+-- what joins two parts of an expression (this project's own)
+pub data Operator : Type 0 where
+  plus : Operator
+  minus : Operator
+  times : Operator
+
+-- how a part of an expression is put together; numbers stand in it as the digits that are written (this project's own)
+pub data Phrase : Type 0 where
+  numeral : List ℕ → Phrase
+  ratio : List ℕ → List ℕ → Phrase
+  label : Basis → List (List ℕ) → Phrase
+  brackets : Phrase → Phrase
+  minus_first : Phrase → Phrase
+  operation : Operator → Phrase → Phrase → Phrase
+
+-- what the grammar calls EXPR, TERM and FACTOR
+pub data Level : Type 0 where
+  expression : Level
+  term : Level
+  factor : Level
+
+-- a phrase of the second level is one of the first: a factor is a term, and a term is an expression
+abbrev pub Covers : Level → Level → Type 0
+Covers expression _ = Unit {0}
+Covers term expression = ⊥
+Covers term _ = Unit {0}
+Covers factor factor = Unit {0}
+Covers factor _ = ⊥
+
+-- the level of what an operator joins, and of what stands before it
+abbrev pub level_of : Operator → Level
+level_of plus = expression
+level_of minus = expression
+level_of times = term
+
+-- the level of what stands after an operator
+abbrev pub level_after : Operator → Level
+level_after plus = term
+level_after minus = term
+level_after times = factor
+
+-- the bases whose letter may stand before an atom's list
+abbrev pub HasAtoms : Basis → Type 0
+HasAtoms schurs = ⊥
+HasAtoms _ = Unit {0}
+
+-- the grammar: a phrase is of a level by these rules, by which sums, differences and products group to the left
+--   EXPR   := '-'? TERM (('+' | '-') TERM)*
+--   TERM   := FACTOR ('*' FACTOR)*
+--   FACTOR := NUM | NUM '/' NUM | LETTER '[' (NUM (',' NUM)*)? ']' | '(' EXPR ')'
+abbrev pub Is : Level → Phrase → Type 0
+Is level (numeral digits) = IsNumberWord digits
+Is level (ratio num den) = IsNumberWord num × IsNumberWord den
+Is level (label basis words) = HasAtoms basis × AreNumberWords words
+Is level (brackets inner) = Is expression inner
+Is level (minus_first inner) = Covers level expression × Is term inner
+Is level (operation operator left right) =
+    Covers level (level_of operator) × Is (level_of operator) left × Is (level_after operator) right
+
+-- the letter of a basis
+abbrev pub letter : Basis → List ℕ
+letter monomials = codes "m"
+letter elementaries = codes "e"
+letter completes = codes "h"
+letter power_sums = codes "p"
+letter schurs = codes "s"
+
+-- the sign of an operator
+abbrev pub sign : Operator → List ℕ
+sign plus = codes "+"
+sign minus = codes "-"
+sign times = codes "*"
+
+-- the bytes of a phrase
+abbrev pub spelling : Phrase → List ℕ
+spelling (numeral digits) = digits
+spelling (ratio num den) = num ++ (codes "/" ++ den)
+spelling (label basis words) = letter basis ++ (codes "[" ++ (comma_separated words ++ codes "]"))
+spelling (brackets inner) = codes "(" ++ (spelling inner ++ codes ")")
+spelling (minus_first inner) = codes "-" ++ spelling inner
+spelling (operation operator left right) = spelling left ++ (sign operator ++ spelling right)
+
+-- the expression that an operator makes of two
+abbrev pub join_trees : Operator → Tree → Tree → Tree
+join_trees plus e f = sum e f
+join_trees minus e f = difference e f
+join_trees times e f = product e f
+
+-- the expression of a phrase: parentheses leave no trace, and zeros at the end of an atom's list are dropped
+abbrev pub tree : Phrase → Tree
+tree (numeral digits) = number (decimal_value digits)
+tree (ratio num den) = fraction (decimal_value num) (decimal_value den)
+tree (label basis words) = atom basis (without_last_zeros (map decimal_value words))
+tree (brackets inner) = tree inner
+tree (minus_first inner) = negation (tree inner)
+tree (operation operator left right) = join_trees operator (tree left) (tree right)
+
+-- the word spells the phrase, and the phrase is an expression
+pub record SpellsPhrase (word : List ℕ) (phrase : Phrase) : Type 0 where
+  pub allowed : Is expression phrase
+  pub spelled : word ≡ spelling phrase
+
+-- the word spells the expression
+abbrev pub SpellsTree : List ℕ → Tree → Type 0
+SpellsTree word e = (phrase : Phrase) × SpellsPhrase word phrase × (e ≡ tree phrase)
+
+-- the word is a prefix of one that spells an expression
+abbrev pub BeginsExpression : List ℕ → Type 0
+BeginsExpression word = (rest : List ℕ) × (phrase : Phrase) × SpellsPhrase (word ++ rest) phrase

@@ -1,0 +1,23 @@
+-- The lines of refusals (this project's own): what the words offend by and where, and the answer that is too large.
+use Rattle.std.specs.Prelude.{ℕ, List, ◌++◌, codes, decimal}
+use Rattle.sym_model.specs.ExpressionOffence.{OffenceKind, literal, range, shape}
+use Rattle.sym_model.specs.CommandOffence.{Offence}
+
+-- the name of a kind of offence
+abbrev pub offence_name : OffenceKind → List ℕ
+offence_name literal = codes "Literal"
+offence_name range = codes "Range"
+offence_name shape = codes "Shape"
+
+-- the line of a refusal at a byte of a word, as in `! Range 1:0`
+abbrev pub refusal_line : List ℕ → ℕ → ℕ → List ℕ
+refusal_line name word byte =
+    codes "! " ++ (name ++ (codes " " ++ (decimal word ++ (codes ":" ++ (decimal byte ++ codes "\n")))))
+
+-- the line of an offence
+abbrev pub offence_line : Offence → List ℕ
+offence_line offence = refusal_line (offence_name offence.2) offence.0 offence.1
+
+-- the line of an answer that is too large
+abbrev pub large_line : List ℕ
+large_line = codes "! Large\n"

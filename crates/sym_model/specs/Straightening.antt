@@ -1,0 +1,15 @@
+-- Straightening a list of exponents (Macdonald, I.3): which Schur polynomial a_(α+ρ)/a_ρ is, and with which sign.
+use Rattle.std.specs.Prelude.{ℕ, cond, ℤ, List, length, Option, Some, None}
+use Rattle.sym_model.specs.Polynomial.{join}
+use Rattle.sym_model.specs.Alternant.{staircase}
+use Rattle.sym_model.specs.BetaList.{from_beta, has_equal_entries, sorted_falling, sorting_sign}
+
+-- α + ρ, in as many places as α has
+abbrev pub shifted : List ℕ → List ℕ
+shifted α = join α (staircase (length α))
+
+-- 0 (None) where α + ρ has two equal entries; otherwise the sign of sorting α + ρ, and the partition sorted(α + ρ) - ρ
+abbrev pub straightened : List ℕ → Option (ℤ × List ℕ)
+straightened α =
+    cond (has_equal_entries (shifted α)) None
+    (Some (sorting_sign (shifted α), from_beta (sorted_falling (shifted α))))

@@ -1,0 +1,41 @@
+-- The printed forms of words, tableaux and lists of tableaux (this project's own).
+use Rattle.std.specs.Prelude.{ℕ, List, [], ◌∷◌, ◌++◌, map, codes, decimal}
+use Rattle.sym_model.specs.Sum.{each}
+use Rattle.sym_model.specs.TableauList.{filling_of}
+
+-- pieces of text with a separator between them
+abbrev pub separated : List ℕ → List (List ℕ) → List ℕ
+separated separator [] = []
+separated separator (piece ∷ []) = piece
+separated separator (piece ∷ next ∷ pieces) = piece ++ (separator ++ separated separator (next ∷ pieces))
+
+-- numbers with one space between them
+abbrev pub spaced : List ℕ → List ℕ
+spaced numbers = separated (codes " ") (map decimal numbers)
+
+-- a row of a tableau: its entries, or a point where it has no cells
+abbrev pub row_text : List ℕ → List ℕ
+row_text [] = codes "."
+row_text (a ∷ row) = spaced (a ∷ row)
+
+-- a tableau: its rows from top to bottom, or a point where it has none
+abbrev pub tableau_text : List (List ℕ) → List ℕ
+tableau_text [] = codes "."
+tableau_text (row ∷ rows) = separated (codes " / ") (map row_text (row ∷ rows))
+
+-- the line of a tableau
+abbrev pub tableau_line : List (List ℕ) → List ℕ
+tableau_line rows = tableau_text rows ++ codes "\n"
+
+-- the two lines of a pair of tableaux
+abbrev pub pair_text : List (List ℕ) → List (List ℕ) → List ℕ
+pair_text p q = (codes "P " ++ tableau_line p) ++ (codes "Q " ++ tableau_line q)
+
+-- the line of a word: its letters, and an empty line for the empty word
+abbrev pub word_line : List ℕ → List ℕ
+word_line w = spaced w ++ codes "\n"
+
+-- the lines of the tableaux of outer/inner with these column readings, and the line 0 where there is none
+abbrev pub readings_text : List ℕ → List ℕ → List (List ℕ) → List ℕ
+readings_text outer inner [] = codes "0\n"
+readings_text outer inner (w ∷ readings) = each (λ v. tableau_line (filling_of outer inner v)) (w ∷ readings)

@@ -1,0 +1,87 @@
+-- The generator of the command `work`: the lines that it runs, and the summary of their blocks (this project's own).
+use Rattle.std.specs.Prelude.{ℕ, zero, suc, ◌+◌, ◌*◌, ◌%◌, List, [], ◌∷◌, ◌++◌, map, length, cond, codes, decimal}
+use Rattle.sym_model.specs.Polynomial.{same}
+use Rattle.sym_model.specs.Partition.{size, without_last_zeros}
+use Rattle.sym_model.specs.PlaceOrders.{places}
+use Rattle.sym_model.specs.Schur.{times_in}
+use Rattle.sym_model.specs.PrintedBlock.{numbers_text}
+use Rattle.sym_model.specs.Permutation.{letters_by_code}
+use Rattle.sym_model.specs.TableauText.{separated}
+
+-- a draw: the next state of the generator
+abbrev pub draw : ℕ → ℕ
+draw x = (75 * x + 74) % 65537
+
+-- the state after k draws
+abbrev pub after_draws : ℕ → ℕ → ℕ
+after_draws zero x = x
+after_draws (suc k) x = after_draws k (draw x)
+
+-- draw number k from the state x on, modulo t
+abbrev pub drawn : ℕ → ℕ → ℕ → ℕ
+drawn k t x = after_draws k x % t
+
+-- the partition of three draws a, b, c modulo t: the parts a + b + c, b + c and c, without zeros
+abbrev pub partition_drawn : ℕ → ℕ → List ℕ
+partition_drawn t x =
+    let a = drawn 1 t x in
+    let b = drawn 2 t x in
+    let c = drawn 3 t x in
+    without_last_zeros ((a + b + c) ∷ (b + c) ∷ c ∷ [])
+
+-- a code of four letters: three draws modulo 4, 3 and 2, and 0
+abbrev pub code_drawn : ℕ → List ℕ
+code_drawn x = drawn 1 4 x ∷ drawn 2 3 x ∷ drawn 3 2 x ∷ 0 ∷ []
+
+-- a command of one partition or permutation after another, with a word between them
+abbrev pub between : List ℕ → List ℕ → List ℕ → List ℕ → List (List ℕ)
+between name first sign second = name ∷ map decimal first ++ (sign ∷ map decimal second)
+
+-- the words of a line, by the state after the draw that picks its kind, and that draw modulo 5
+abbrev pub words_drawn : ℕ → ℕ → List (List ℕ)
+words_drawn zero x = between (codes "mult") (partition_drawn 3 x) (codes "-") (partition_drawn 3 (after_draws 3 x))
+words_drawn (suc zero) x = between (codes "skew") (partition_drawn 4 x) (codes "/") (partition_drawn 2 (after_draws 3 x))
+words_drawn (suc (suc zero)) x = codes "coprod" ∷ map decimal (partition_drawn 3 x)
+words_drawn (suc (suc (suc zero))) x =
+    between (codes "schubmult") (letters_by_code (code_drawn x) (places 4)) (codes "-")
+    (letters_by_code (code_drawn (after_draws 3 x)) (places 4))
+words_drawn kind x =
+    codes "expand" ∷ codes "p" ∷ (codes "m[" ++ (numbers_text (partition_drawn 3 x) ++ codes "]")) ∷ []
+
+-- how many draws a line of that kind makes after the first one
+abbrev pub draws_of : ℕ → ℕ
+draws_of zero = 6
+draws_of (suc zero) = 6
+draws_of (suc (suc zero)) = 3
+draws_of (suc (suc (suc zero))) = 6
+draws_of kind = 3
+
+-- the words of the line that begins at the state x
+abbrev pub line_words : ℕ → List (List ℕ)
+line_words x = words_drawn (drawn 1 5 x) (draw x)
+
+-- the line that begins at the state x: its words with one space between them
+abbrev pub work_line : ℕ → List ℕ
+work_line x = separated (codes " ") (line_words x)
+
+-- the state after that line
+abbrev pub after_line : ℕ → ℕ
+after_line x = after_draws (suc (draws_of (drawn 1 5 x))) x
+
+-- the first n lines from the state x on
+abbrev pub work_lines : ℕ → ℕ → List (List ℕ)
+work_lines zero x = []
+work_lines (suc n) x = work_line x ∷ work_lines n (after_line x)
+
+-- how many terms a block has: one a line, and none in the line 0
+abbrev pub terms_in : List ℕ → ℕ
+terms_in block = cond (same block (codes "0\n")) 0 (times_in 10 block)
+
+-- the summary of the blocks of the lines: how many lines, terms and bytes there are
+abbrev pub summary_text : List (List ℕ) → List ℕ
+summary_text blocks =
+    codes "lines "
+    ++ (decimal (length blocks)
+    ++ (codes "\nterms "
+    ++ (decimal (size (map terms_in blocks))
+    ++ (codes "\nbytes " ++ (decimal (size (map length blocks)) ++ codes "\n")))))
