@@ -1,0 +1,44 @@
+//! A plain program for the printed order, which goes by its definition.
+
+ghost use Rattle.std.specs.Prelude.{◌≡◌, ◌^◌, ◌<◌};
+ghost use Rattle.sym_model.specs.Partition.{size};
+ghost use Rattle.sym_model.specs.PrintedOrder.{falling_lexicographic, printed_order};
+
+use crate::numbers::number_at;
+use std::cmp::Ordering;
+
+/// The printed order of two lists of numbers: the greater sum first, then falling lexicographic
+/// order, a missing number being 0. Both sums are below 2^64. It takes no memory.
+pub fn plain_printed_order(first: &[u64], second: &[u64]) -> Ordering
+    requires first_fits { size first.now < 2 ^ 64 }
+    requires second_fits { size second.now < 2 ^ 64 }
+    ensures { result ≡ printed_order first.now second.now }
+{
+    let by_size = plain_size(second).cmp(&plain_size(first));
+    by_size.then(plain_falling_lexicographic(first, second))
+}
+
+/// The sum of the numbers, which is below 2^64.
+pub fn plain_size(parts: &[u64]) -> u64
+    requires { size parts.now < 2 ^ 64 }
+    ensures { result ≡ size parts.now }
+{
+    let mut total = 0;
+    for part in parts {
+        total += *part;
+    }
+    total
+}
+
+/// Falling lexicographic order, a missing number being 0. It takes no memory.
+pub fn plain_falling_lexicographic(first: &[u64], second: &[u64]) -> Ordering
+    ensures { result ≡ falling_lexicographic first.now second.now }
+{
+    for i in 0..first.len().max(second.len()) {
+        let order = number_at(second, i).cmp(&number_at(first, i));
+        if order != Ordering::Equal {
+            return order;
+        }
+    }
+    Ordering::Equal
+}

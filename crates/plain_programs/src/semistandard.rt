@@ -1,0 +1,62 @@
+//! The test whether a filling is a semistandard tableau.
+
+ghost use Rattle.std.specs.Prelude.{◌≡◌};
+ghost use Rattle.sym_model.specs.Schur.{row_rises, columns_rise, semistandard, contains};
+ghost use Rattle.plain_programs.specs.Words.{words_of};
+
+use crate::numbers::{number_at, without_first};
+
+/// Whether rows rise weakly and columns strictly, in a filling of a skew shape with this inner
+/// partition, given by its rows. It takes no memory.
+pub fn plain_semistandard(inner: &[u64], filling: &[Vec<u64>]) -> bool
+    ensures { result ≡ semistandard inner.now (words_of filling.now) }
+{
+    let [row, below @ ..] = filling else {
+        return true;
+    };
+    let [lower, ..] = below else {
+        return rises(row);
+    };
+    let shift = number_at(inner, 0).saturating_sub(number_at(inner, 1));
+    rises(row)
+        && stands_on(row, without_first(lower, shift))
+        && plain_semistandard(without_first(inner, 1), below)
+}
+
+/// Whether no part of the inner list is greater than the part of the outer list in the same row.
+pub fn plain_contains(outer: &[u64], inner: &[u64]) -> bool
+    ensures { result ≡ contains outer.now inner.now }
+{
+    let [part, inner @ ..] = inner else {
+        return true;
+    };
+    match outer {
+        [] => *part == 0 && plain_contains(outer, inner),
+        [whole, outer @ ..] => *part <= *whole && plain_contains(outer, inner),
+    }
+}
+
+fn rises(row: &[u64]) -> bool
+    ensures { result ≡ row_rises row.now }
+{
+    let [first, later @ ..] = row else {
+        return true;
+    };
+    let [second, ..] = later else {
+        return true;
+    };
+    *first <= *second && rises(later)
+}
+
+// Whether each letter of the lower row is greater than the letter above it.
+fn stands_on(upper: &[u64], lower: &[u64]) -> bool
+    ensures { result ≡ columns_rise upper.now lower.now }
+{
+    let [above, upper @ ..] = upper else {
+        return true;
+    };
+    let [letter, lower @ ..] = lower else {
+        return true;
+    };
+    *above < *letter && stands_on(upper, lower)
+}

@@ -1,0 +1,80 @@
+//! Lists of tableaux by their column readings, and the filling of a reading.
+
+ghost use Rattle.std.specs.Prelude.{◌≡◌, ◌<◌, ◌^◌, IfOk, length};
+ghost use Rattle.sym_model.specs.Sum.{select};
+ghost use Rattle.sym_model.specs.Polynomial.{same};
+ghost use Rattle.sym_model.specs.Partition.{cells};
+ghost use Rattle.sym_model.specs.Schur.{content};
+ghost use Rattle.sym_model.specs.TableauList.{tableau_readings, readings_with_content, later_than};
+ghost use Rattle.plain_programs.specs.Words.{words_of};
+
+use crate::fillings::plain_tableaux;
+use crate::good::{are_same, count_cells, counts_of, readings_of, those_among};
+use crate::words::plain_words;
+use std::alloc::{AllocError, Global};
+
+/// The column readings, in rising lexicographic order, of the semistandard tableaux of the shape
+/// outer/inner with entries from 1 to n. The number of cells is below 2^64. Want of memory is its
+/// only error.
+pub fn plain_tableau_readings(
+    alloc: Global,
+    n: u64,
+    outer: &[u64],
+    inner: &[u64],
+) -> Result<Vec<Vec<u64>>, AllocError>
+    requires fits { length (cells outer.now inner.now) < 2 ^ 64 }
+    ensures { IfOk result (λ list. words_of list.items ≡ tableau_readings n outer.now inner.now) }
+{
+    let tableaux = plain_tableaux(alloc, n, outer, inner)?;
+    let readings = readings_of(alloc, outer, inner, &tableaux)?;
+    let words = plain_words(alloc, n, count_cells(outer, inner))?;
+    those_among(alloc, &words, &readings)
+}
+
+/// Those among them of the tableaux with this content, in as many letters as it has numbers. The
+/// number of cells is below 2^64. Want of memory is its only error.
+pub fn plain_readings_with_content(
+    alloc: Global,
+    counts: &[u64],
+    outer: &[u64],
+    inner: &[u64],
+) -> Result<Vec<Vec<u64>>, AllocError>
+    requires fits { length (cells outer.now inner.now) < 2 ^ 64 }
+    ensures { IfOk result (λ list. words_of list.items ≡ readings_with_content counts.now outer.now inner.now) }
+{
+    let readings = plain_tableau_readings(alloc, counts.len() as u64, outer, inner)?;
+    those_with_content(alloc, counts, &readings)
+}
+
+fn those_with_content(
+    alloc: Global,
+    counts: &[u64],
+    words: &[Vec<u64>],
+) -> Result<Vec<Vec<u64>>, AllocError>
+    ensures { IfOk result (λ list. words_of list.items
+        ≡ select (λ w. same (content (length counts.now) w) counts.now) (words_of words.now)) }
+{
+    let mut list = Vec::new(alloc);
+    for word in words {
+        let found = counts_of(alloc, counts.len() as u64, word)?;
+        if are_same(&found, counts) {
+            list.push(Vec::from_slice(alloc, word)?)?;
+        }
+    }
+    Ok(list)
+}
+
+/// The lists that come after a word in a list of lists; none where it is not among them. It takes
+/// no memory.
+pub fn plain_later_than<'a>(word: &[u64], list: &'a [Vec<u64>]) -> &'a [Vec<u64>]
+    ensures { words_of result.now ≡ later_than word.now (words_of list.now) }
+{
+    let [first, others @ ..] = list else {
+        return list;
+    };
+    if are_same(word, first) {
+        others
+    } else {
+        plain_later_than(word, others)
+    }
+}

@@ -1,0 +1,57 @@
+//! All words of one length, in lexicographic order.
+
+ghost use Rattle.std.specs.Prelude.{◌≡◌, ◌+◌, ◌∷◌, ◌++◌, map, IfOk, OnOk};
+ghost use Rattle.sym_model.specs.Sum.{each};
+ghost use Rattle.sym_model.specs.Partition.{after};
+ghost use Rattle.sym_model.specs.Schur.{words};
+ghost use Rattle.plain_programs.specs.Words.{words_of};
+
+use std::alloc::{AllocError, Global};
+
+/// All words of a length with letters from 1 to n, in lexicographic order. Want of memory is its
+/// only error.
+pub fn plain_words(alloc: Global, n: u64, length: u64) -> Result<Vec<Vec<u64>>, AllocError>
+    ensures { IfOk result (λ list. words_of list.items ≡ words n length) }
+{
+    let mut list = Vec::new(alloc);
+    list.push(Vec::new(alloc))?;
+    for done in 0..length {
+        list = prefixed(alloc, n, &list)?;
+    }
+    Ok(list)
+}
+
+// Each letter from 1 to n in front of each of the words.
+fn prefixed(alloc: Global, n: u64, words: &[Vec<u64>]) -> Result<Vec<Vec<u64>>, AllocError>
+    ensures { IfOk result (λ list. words_of list.items ≡ each (λ a. map (λ w. a ∷ w) (words_of words.now)) (after 0 n)) }
+{
+    let mut list = Vec::new(alloc);
+    for below in 0..n {
+        push_prefixed(alloc, &mut list, below + 1, words)?;
+    }
+    Ok(list)
+}
+
+fn push_prefixed(
+    alloc: Global,
+    list: &mut Vec<Vec<u64>>,
+    first: u64,
+    words: &[Vec<u64>],
+) -> Result<(), AllocError>
+    ensures { OnOk result (words_of list.new.items ≡ words_of list.old.items ++ map (λ w. first ∷ w) (words_of words.now)) }
+{
+    for word in words {
+        list.push(with_first(alloc, first, word)?)?;
+    }
+    Ok(())
+}
+
+// A letter in front of a word.
+fn with_first(alloc: Global, first: u64, word: &[u64]) -> Result<Vec<u64>, AllocError>
+    ensures { IfOk result (λ longer. longer.items ≡ first ∷ word.now) }
+{
+    let mut longer = Vec::new(alloc);
+    longer.push(first)?;
+    longer.extend_from_slice(word)?;
+    Ok(longer)
+}

@@ -1,7 +1,0 @@
-use Rattle.std.proofs.Common.{◌≡◌, ◌∷◌, map, take}
-use Rattle.sym_model.specs.Sum.{each}
-use Rattle.plain_tableaux.specs.Words.{words_of, fillings_in}
-use Rattle.plain_tableaux.proofs.fillings.stacked.Given as goal
-
-abbrev pub invariant-loop-row : goal.invariant-loop-row
-invariant-loop-row l = fillings_in l.list.items ≡ each (λ row. map (λ filling. row ∷ filling) (fillings_in l.rest)) (words_of (take l.row-index l.rows))

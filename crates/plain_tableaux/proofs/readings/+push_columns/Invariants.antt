@@ -1,4 +1,0 @@
-use Rattle.plain_tableaux.proofs.readings.+push_columns.Given as goal
-
-abbrev pub decreases-push_columns : goal.decreases-push_columns
-decreases-push_columns l = l.count

@@ -1,7 +1,0 @@
-use Rattle.std.proofs.Common.{◌≡◌}
-use Rattle.sym_model.specs.Schur.{words}
-use Rattle.plain_tableaux.specs.Words.{words_of}
-use Rattle.plain_tableaux.proofs.words.plain_words.Given as goal
-
-abbrev pub invariant-loop-done : goal.invariant-loop-done
-invariant-loop-done l = words_of l.list.items ≡ words l.n l.done

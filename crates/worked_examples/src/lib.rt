@@ -1,0 +1,24 @@
+//! Worked examples of the definitions of `sym_model`, which the check computes: a definition that says
+//! something else than it is meant to say fails here.
+//!
+//! A law function takes nothing, answers nothing and does no work when it runs: its contract is
+//! the examples.
+#![tactic(auto)]
+
+mod permutations;
+mod polynomials;
+mod reductions;
+mod tableaux;
+mod texts;
+
+pub use permutations::{
+    divided_difference_examples_law, permutation_examples_law, schubert_examples_law,
+    schubert_more_examples_law, straightening_examples_law,
+};
+pub use polynomials::{block_examples_law, order_examples_law, worked_examples_law};
+pub use reductions::{alternant_examples_law, reflection_examples_law, tableaux_examples_law};
+pub use tableaux::{
+    arrangement_examples_law, insertion_examples_law, knuth_examples_law, slide_examples_law,
+    tableau_list_examples_law,
+};
+pub use texts::{tableau_text_examples_law, workload_examples_law};
