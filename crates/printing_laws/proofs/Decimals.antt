@@ -1,0 +1,144 @@
+-- Decimal text: the digits that std writes of a number, and the value that they are read as.
+use Rattle.std.proofs.Common.{◌≡◌, ℕ, zero, suc, ◌+◌, ◌*◌, ◌-◌, ◌^◌, ◌<◌, ◌≤◌, ◌/◌, ◌%◌, List, [], ◌∷◌, ◌++◌, length, take, get_or, replicate, length-append, mul-le-mul_right, pow-suc, eqb, ℤ, pos, negsuc, neg_ℤ, refl, sym, ap, ◌∙◌, subst, decimal, arith}
+use Rattle.std.specs.Fmt.{signed_decimal}
+use Rattle.std.proofs.lemmas.Fmt.{decimal_by_steps_wide}
+use Rattle.std.proofs.lemmas.List.{take_more}
+use Rattle.std.proofs.lemmas.Bool.{ne_eqb, cond-false}
+use Rattle.sym_model.specs.NumberWord.{IsDigit, AreDigits}
+use Rattle.sym_model.specs.NumberText.{Lacks, value_from, decimal_value, signed_value}
+
+-- the value of digits, read on over further digits
+pub value_from-append : (n : ℕ) (xs ys : List ℕ) → value_from n (xs ++ ys) ≡ value_from (value_from n xs) ys
+value_from-append n [] ys = refl
+value_from-append n (x ∷ xs) ys = value_from-append (10 * n + (x - 48)) xs ys
+
+-- the value of digits followed by one more
+pub value_from-push : (n : ℕ) (xs : List ℕ) (d : ℕ) → value_from n (xs ++ (d ∷ [])) ≡ 10 * value_from n xs + (d - 48)
+value_from-push n xs d = value_from-append n xs (d ∷ [])
+
+-- the value of the first i + 1 digits, as a loop reads them
+pub decimal_value_more : (xs : List ℕ) (i : ℕ) → i < length xs → decimal_value (take (i + 1) xs) ≡ 10 * decimal_value (take i xs) + (get_or xs i 0 - 48)
+decimal_value_more xs i h = ap decimal_value (take_more xs i 0 h) ∙ value_from-push 0 (take i xs) (get_or xs i 0)
+
+-- leading zeros change nothing
+pub decimal_value-zeros : (k : ℕ) (xs : List ℕ) → decimal_value (replicate k 48 ++ xs) ≡ decimal_value xs
+decimal_value-zeros zero xs = refl
+decimal_value-zeros (suc k) xs = decimal_value-zeros k xs
+
+-- reading on from a greater number gives a greater number
+pub value_from-le : (m n : ℕ) (xs : List ℕ) → m ≤ n → value_from m xs ≤ value_from n xs
+value_from-le m n [] h = h
+value_from-le m n (x ∷ xs) h = value_from-le (10 * m + (x - 48)) (10 * n + (x - 48)) xs (omega arith)
+
+-- reading on never makes the number smaller
+pub value_from-ge : (n : ℕ) (xs : List ℕ) → n ≤ value_from n xs
+value_from-ge n [] = omega arith
+value_from-ge n (x ∷ xs) = let h = value_from-ge (10 * n + (x - 48)) xs in omega arith
+
+pub are_digits-append : (xs ys : List ℕ) → AreDigits xs → AreDigits ys → AreDigits (xs ++ ys)
+are_digits-append [] ys h k = k
+are_digits-append (x ∷ xs) ys h k = (h.0, are_digits-append xs ys h.1 k)
+
+pub are_digits-front : (xs ys : List ℕ) → AreDigits (xs ++ ys) → AreDigits xs
+are_digits-front [] ys h = tt
+are_digits-front (x ∷ xs) ys h = (h.0, are_digits-front xs ys h.1)
+
+pub are_digits-back : (xs ys : List ℕ) → AreDigits (xs ++ ys) → AreDigits ys
+are_digits-back [] ys h = h
+are_digits-back (x ∷ xs) ys h = are_digits-back xs ys h.1
+
+-- each byte of a digit word is an ASCII digit
+pub are_digits-at : (xs : List ℕ) (i : ℕ) → AreDigits xs → i < length xs → IsDigit (get_or xs i 0)
+are_digits-at [] i h k = absurd (omega arith)
+are_digits-at (x ∷ xs) zero h k = h.0
+are_digits-at (x ∷ xs) (suc i) h k = are_digits-at xs i h.1 (omega arith)
+
+-- and a word each byte of which is one is a digit word
+pub are_digits-from : (xs : List ℕ) → ((i : ℕ) → i < length xs → IsDigit (get_or xs i 0)) → AreDigits xs
+are_digits-from [] h = tt
+are_digits-from (x ∷ xs) h = (h 0 (omega arith), are_digits-from xs (λ i k. h (suc i) (omega arith)))
+
+-- the value of a word of k digits is below 10^k
+pub value_from-lt : (n : ℕ) (xs : List ℕ) → AreDigits xs → value_from n xs < (n + 1) * 10 ^ length xs
+value_from-lt n [] h = omega arith
+value_from-lt n (x ∷ xs) h =
+    let e = value_from-lt (10 * n + (x - 48)) xs h.1 in
+    let m = mul-le-mul_right (10 ^ length xs) (step_below n x h.0) in
+    rw pow-suc (omega arith)
+  where
+    step_below : (n x : ℕ) → IsDigit x → (10 * n + (x - 48)) + 1 ≤ 10 * (n + 1)
+    step_below n x d = omega arith
+
+-- what is written of a number below 10^64
+pub record IsWritten (n : ℕ) (text : List ℕ) : Type 0 where
+  pub nonempty : 0 < length text
+  pub digits : AreDigits text
+  pub value : decimal_value text ≡ n
+
+-- the text of a number is digits, at least one, and is read as that number
+pub decimal-is_written : (n : ℕ) → n < 10 ^ 64 → IsWritten n (decimal n)
+decimal-is_written = decimal_by_steps_wide IsWritten one more
+  where
+    one : (n : ℕ) → n < 10 → IsWritten n ((48 + n) ∷ [])
+    one n h = record { nonempty = omega arith; digits = ((omega arith, omega arith), tt); value = omega arith }
+
+    more : (n : ℕ) (ds : List ℕ) → 10 ≤ n → IsWritten (n / 10) ds → IsWritten n (ds ++ ((48 + n % 10) ∷ []))
+    more n ds h w = record {
+      nonempty = simp length-append (omega arith);
+      digits = are_digits-append ds _ w.digits ((omega arith, omega arith), tt);
+      value = value_from-push 0 ds (48 + n % 10) ∙ (let e = w.value in omega arith);
+    }
+
+pub decimal-nonempty : (n : ℕ) → n < 10 ^ 64 → 0 < length (decimal n)
+decimal-nonempty n h = (decimal-is_written n h).nonempty
+
+pub decimal-digits : (n : ℕ) → n < 10 ^ 64 → AreDigits (decimal n)
+decimal-digits n h = (decimal-is_written n h).digits
+
+pub decimal_value-decimal : (n : ℕ) → n < 10 ^ 64 → decimal_value (decimal n) ≡ n
+decimal_value-decimal n h = (decimal-is_written n h).value
+
+-- two numbers with one text are one number
+pub decimal_injective : (m n : ℕ) → m < 10 ^ 64 → n < 10 ^ 64 → decimal m ≡ decimal n → m ≡ n
+decimal_injective m n h k e =
+    sym (decimal_value-decimal m h) ∙ (ap decimal_value e ∙ decimal_value-decimal n k)
+
+pub lacks-append : (byte : ℕ) (xs ys : List ℕ) → Lacks byte xs → Lacks byte ys → Lacks byte (xs ++ ys)
+lacks-append byte [] ys h k = k
+lacks-append byte (x ∷ xs) ys h k = (h.0, lacks-append byte xs ys h.1 k)
+
+-- a byte that is no digit stands nowhere among digits
+pub lacks-from_digits : (byte : ℕ) (xs : List ℕ) → (IsDigit byte → ⊥) → AreDigits xs → Lacks byte xs
+lacks-from_digits byte [] other h = tt
+lacks-from_digits byte (x ∷ xs) other h =
+    ((λ e. other (subst IsDigit e h.0)), lacks-from_digits byte xs other h.1)
+
+-- no byte below 48, as a blank, a comma, a parenthesis, `-`, `/` or LF, stands in the text of a number
+pub decimal-lacks : (byte n : ℕ) → byte < 48 → n < 10 ^ 64 → Lacks byte (decimal n)
+decimal-lacks byte n low h = lacks-from_digits byte (decimal n) (λ d. omega arith) (decimal-digits n h)
+
+-- the magnitude of a whole number is below 10^64
+abbrev pub IsShort : ℤ → Type 0
+IsShort (pos n) = n < 10 ^ 64
+IsShort (negsuc n) = n + 1 < 10 ^ 64
+
+-- `-` stands at most in front
+pub signed_decimal-lacks : (byte : ℕ) (z : ℤ) → byte < 48 → (45 ≡ byte → ⊥) → IsShort z → Lacks byte (signed_decimal z)
+signed_decimal-lacks byte (pos n) low other h = decimal-lacks byte n low h
+signed_decimal-lacks byte (negsuc n) low other h = (other, decimal-lacks byte (suc n) low (omega arith))
+
+-- digits are read as they are, with no sign
+pub signed_value-digits : (xs : List ℕ) → AreDigits xs → signed_value xs ≡ pos (decimal_value xs)
+signed_value-digits [] h = refl
+signed_value-digits (x ∷ xs) h = cond-false (eqb x 45) _ _ (ne_eqb x 45 (λ e. omega (arith, h.0)))
+
+-- the text of a whole number is read as that number
+pub signed_value-signed_decimal : (z : ℤ) → IsShort z → signed_value (signed_decimal z) ≡ z
+signed_value-signed_decimal (pos n) h =
+    signed_value-digits (decimal n) (decimal-digits n h) ∙ ap pos (decimal_value-decimal n h)
+signed_value-signed_decimal (negsuc n) h =
+    ap (λ m. neg_ℤ (pos m)) (decimal_value-decimal (suc n) (omega arith))
+
+pub signed_decimal-nonempty : (z : ℤ) → IsShort z → 0 < length (signed_decimal z)
+signed_decimal-nonempty (pos n) h = decimal-nonempty n h
+signed_decimal-nonempty (negsuc n) h = omega arith

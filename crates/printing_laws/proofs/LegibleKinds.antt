@@ -1,0 +1,104 @@
+-- The labels of each kind of answer can be read.
+use Rattle.std.proofs.Common.{◌≡◌, ℕ, ◌^◌, ◌<◌, ◌≤◌, Bool, true, ◌&&◌, List, [], ◌∷◌, length, leb, ltb, refl, ap, ◌∙◌, decimal, arith}
+use Rattle.std.specs.declared.cmp.Ordering.{Ordering}
+use Rattle.std.proofs.lemmas.Bool.{leb-true, ltb-true, and_parts}
+use Rattle.sym_model.specs.Partition.{size, rows}
+use Rattle.sym_model.specs.NumberText.{Lacks, label_text, decimal_value, label_of}
+use Rattle.sym_model.specs.LabelLimits.{is_partition, is_label, is_pair_label, is_power_label, are_letters, is_permutation_label, is_monomial_label}
+use Rattle.sym_model.specs.Kind.{Kind, number, expansion, product, pairs, powers, permutations, polynomial, after_one, list_text, list_of, pair_text, pair_of, power_text, power_of, list_rules, label_rules, IsLegible}
+use Rattle.printing_laws.proofs.Decimals.{lacks-append, decimal-lacks, decimal_value-decimal}
+use Rattle.printing_laws.proofs.NumberTexts.{cut_at-space, AreShort, are_short-from_size, label_of-text, label_text-lacks}
+
+-- lists of numbers below 10^64 can be read
+list_rules-legible : (order : List ℕ → List ℕ → Ordering) (limits : List ℕ → Bool) (has_fractions : Bool)
+    → ((numbers : List ℕ) → limits numbers ≡ true → AreShort numbers) → IsLegible (list_rules order limits has_fractions)
+list_rules-legible order limits has_fractions short = record {
+  one_line = λ numbers h. ((λ e. omega arith), ((λ e. omega arith), label_text-lacks 10 numbers (omega arith) (short numbers h)));
+  apart = λ numbers h. refl;
+  reads = λ numbers h. label_of-text numbers (short numbers h);
+}
+
+-- ---- the limits of the labels keep the numbers short
+
+pub is_label-short : (label : List ℕ) → is_label label ≡ true → AreShort label
+is_label-short label h =
+    let p = and_parts (is_partition label && leb (rows label) 512) (leb (size label) 4096) h in
+    let cells : size label ≤ 4096 = leb-true (size label) 4096 p.1 in
+    are_short-from_size label (omega arith)
+
+is_monomial-short : (exponents : List ℕ) → is_monomial_label exponents ≡ true → AreShort exponents
+is_monomial-short exponents h =
+    let p = and_parts _ (leb (size exponents) 32385) h in
+    let degree : size exponents ≤ 32385 = leb-true (size exponents) 32385 p.1 in
+    are_short-from_size exponents (omega arith)
+
+are_letters-short : (n : ℕ) (w : List ℕ) → n ≤ 255 → are_letters n w ≡ true → AreShort w
+are_letters-short n [] low h = tt
+are_letters-short n (a ∷ w) low h =
+    let p = and_parts (leb 1 a && leb a n) (are_letters n w) h in
+    let below : a ≤ n = leb-true a n (and_parts (leb 1 a) (leb a n) p.0).1 in
+    (omega arith, are_letters-short n w low p.1)
+
+is_permutation-short : (w : List ℕ) → is_permutation_label w ≡ true → AreShort w
+is_permutation-short w h =
+    let p = and_parts _ (leb (length w) 255) h in
+    let low : length w ≤ 255 = leb-true (length w) 255 p.1 in
+    let letters = (and_parts _ _ (and_parts _ _ (and_parts _ _ p.0).0).0).0 in
+    are_letters-short (length w) w low letters
+
+-- ---- pairs
+
+pairs-legible : IsLegible (label_rules pairs)
+pairs-legible = record { one_line = one_line; apart = λ pair h. refl; reads = reads }
+  where
+    one_line : (pair : List ℕ × List ℕ) → is_pair_label pair ≡ true → Lacks 10 (pair_text pair)
+    one_line pair h =
+        let p = and_parts _ _ h in
+        let first = label_text-lacks 10 pair.0 (omega arith) (is_label-short pair.0 p.0) in
+        let second = label_text-lacks 10 pair.1 (omega arith) (is_label-short pair.1 p.1) in
+        ((λ e. omega arith), ((λ e. omega arith), lacks-append 10 (label_text pair.0) _ first ((λ e. omega arith), second)))
+
+    reads : (pair : List ℕ × List ℕ) → is_pair_label pair ≡ true → pair_of (pair_text pair) ≡ pair
+    reads pair h =
+        let p = and_parts _ _ h in
+        let first = is_label-short pair.0 p.0 in
+        let second = is_label-short pair.1 p.1 in
+        ap (λ (cut : List ℕ × List ℕ). (label_of cut.0, label_of (after_one cut.1)))
+        (cut_at-space (label_text pair.0) (32 ∷ label_text pair.1) (label_text-lacks 32 pair.0 (omega arith) first) refl)
+        ∙ (ap (λ label. (label, label_of (label_text pair.1))) (label_of-text pair.0 first)
+        ∙ ap (λ label. (pair.0, label)) (label_of-text pair.1 second))
+
+-- ---- powers
+
+powers-legible : IsLegible (label_rules powers)
+powers-legible = record { one_line = one_line; apart = λ label h. refl; reads = reads }
+  where
+    below : (power : ℕ) → ltb power (2 ^ 32) ≡ true → power < 10 ^ 64
+    below power h = let low : power < 2 ^ 32 = ltb-true power (2 ^ 32) h in omega arith
+
+    one_line : (label : ℕ × List ℕ) → is_power_label label ≡ true → Lacks 10 (power_text label)
+    one_line label h =
+        let p = and_parts _ _ h in
+        let power = decimal-lacks 10 label.0 (omega arith) (below label.0 p.0) in
+        let shape = label_text-lacks 10 label.1 (omega arith) (is_label-short label.1 p.1) in
+        let rest : Lacks 10 (list_text label.1) = ((λ e. omega arith), ((λ e. omega arith), shape)) in
+        ((λ e. omega arith), ((λ e. omega arith), ((λ e. omega arith), ((λ e. omega arith), lacks-append 10 (decimal label.0) _ power rest))))
+
+    reads : (label : ℕ × List ℕ) → is_power_label label ≡ true → power_of (power_text label) ≡ label
+    reads label h =
+        let p = and_parts _ _ h in
+        let low = below label.0 p.0 in
+        ap (λ (cut : List ℕ × List ℕ). (decimal_value cut.0, list_of cut.1))
+        (cut_at-space (decimal label.0) (list_text label.1) (decimal-lacks 32 label.0 (omega arith) low) refl)
+        ∙ (ap (λ n. (n, list_of (list_text label.1))) (decimal_value-decimal label.0 low)
+        ∙ ap (λ shape. (label.0, shape)) (label_of-text label.1 (is_label-short label.1 p.1)))
+
+-- the labels of each kind can be read
+pub legible : (kind : Kind) → IsLegible (label_rules kind)
+legible number = record { one_line = λ label h. tt; apart = λ label h. tt; reads = λ label h. refl }
+legible expansion = list_rules-legible _ _ _ is_label-short
+legible product = list_rules-legible _ _ _ is_label-short
+legible pairs = pairs-legible
+legible powers = powers-legible
+legible permutations = list_rules-legible _ _ _ is_permutation-short
+legible polynomial = list_rules-legible _ _ _ is_monomial-short
