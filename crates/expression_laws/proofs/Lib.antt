@@ -1,0 +1,4 @@
+pub mod PhraseRuns
+pub mod PhrasePrefixes
+pub mod PhraseMarks
+pub mod FirstOffences

@@ -1,0 +1,215 @@
+-- An expression read byte by byte from the left: what is kept of the bytes so far, and how the next one changes it.
+-- A reader is proved by this; what an expression is, the grammar of Phrase says (this project's own).
+use Rattle.std.specs.Prelude.{ℕ, ◌+◌, ◌-◌, ◌*◌, ◌==◌, nat_le, Bool, true, false, ◌&&◌, cond, List, [], ◌∷◌, ◌++◌, Option, Some, None, option_map}
+use Rattle.sym_model.specs.Expansion.{Basis, monomials, elementaries, completes, power_sums}
+use Rattle.sym_model.specs.Partition.{without_last_zeros}
+use Rattle.sym_model.specs.Expression.{Tree, number, fraction, atom, negation}
+use Rattle.sym_model.specs.Phrase.{Operator, plus, minus, times, Phrase, numeral, ratio, label, brackets, minus_first, operation, join_trees}
+
+-- what a byte is to the grammar
+pub data Symbol : Type 0 where
+  digit : ℕ → Symbol
+  plus_sign : Symbol
+  minus_sign : Symbol
+  star : Symbol
+  slash : Symbol
+  opens : Symbol
+  closes : Symbol
+  opens_list : Symbol
+  closes_list : Symbol
+  comma : Symbol
+  letter_of : Basis → Symbol
+  other : Symbol
+
+-- the symbol of a byte that is no digit
+abbrev pub sign_symbol : ℕ → Symbol
+sign_symbol byte =
+    cond (byte == 43) plus_sign
+    (cond (byte == 45) minus_sign
+    (cond (byte == 42) star
+    (cond (byte == 47) slash
+    (cond (byte == 40) opens
+    (cond (byte == 41) closes
+    (cond (byte == 91) opens_list
+    (cond (byte == 93) closes_list
+    (cond (byte == 44) comma
+    (cond (byte == 109) (letter_of monomials)
+    (cond (byte == 101) (letter_of elementaries)
+    (cond (byte == 104) (letter_of completes)
+    (cond (byte == 112) (letter_of power_sums) other))))))))))))
+
+-- the symbol of a byte
+abbrev pub symbol : ℕ → Symbol
+symbol byte = cond (nat_le 48 byte && nat_le byte 57) (digit byte) (sign_symbol byte)
+
+-- what stands before a term: nothing, a minus at the front, or an expression and an operator
+pub data BeforeTerm (A : Type 0) : Type 0 where
+  no_term : BeforeTerm A
+  negating : BeforeTerm A
+  adding : A → BeforeTerm A
+  subtracting : A → BeforeTerm A
+
+-- what stands before a factor: nothing, or a term and a star
+pub data BeforeFactor (A : Type 0) : Type 0 where
+  no_factor : BeforeFactor A
+  multiplying : A → BeforeFactor A
+
+-- the parentheses that are open, the innermost outside, with what stands before each
+pub data Opened (A : Type 0) : Type 0 where
+  outermost : Opened A
+  inside : Opened A → BeforeTerm A → BeforeFactor A → Opened A
+
+-- what is there of a factor; an atom's list has the numbers that are followed by commas
+pub data Piece (A N : Type 0) : Type 0 where
+  awaited : Piece A N
+  in_number : N → Piece A N
+  after_slash : N → Piece A N
+  in_denominator : N → N → Piece A N
+  after_letter : Basis → Piece A N
+  in_list : Basis → List N → Piece A N
+  in_entry : Basis → List N → N → Piece A N
+  closed : A → Piece A N
+
+-- what is kept of the bytes so far: the beginning of an expression, or that they begin none
+pub data State (A N : Type 0) : Type 0 where
+  at : Piece A N → BeforeTerm A → BeforeFactor A → Opened A → State A N
+  dead : State A N
+
+-- what a reader makes of the parts of an expression
+pub record Makes (A N : Type 0) : Type 0 where
+  pub begin : ℕ → N
+  pub extend : N → ℕ → N
+  pub numeral_of : N → A
+  pub ratio_of : N → N → A
+  pub label_of : Basis → List N → A
+  pub brackets_of : A → A
+  pub minus_first_of : A → A
+  pub operation_of : Operator → A → A → A
+
+-- the term that a factor ends
+abbrev pub join_factor : {A N : Type 0} → Makes A N → BeforeFactor A → A → A
+join_factor m no_factor x = x
+join_factor m (multiplying t) x = m.operation_of times t x
+
+-- the expression that a term ends
+abbrev pub join_term : {A N : Type 0} → Makes A N → BeforeTerm A → A → A
+join_term m no_term x = x
+join_term m negating x = m.minus_first_of x
+join_term m (adding e) x = m.operation_of plus e x
+join_term m (subtracting e) x = m.operation_of minus e x
+
+-- the expression that a factor ends
+abbrev pub join : {A N : Type 0} → Makes A N → BeforeTerm A → BeforeFactor A → A → A
+join m t f x = join_term m t (join_factor m f x)
+
+-- a byte after a whole factor
+abbrev pub after_factor : {A N : Type 0} → Makes A N → A → BeforeTerm A → BeforeFactor A → Opened A → Symbol → State A N
+after_factor m x t f o star = at awaited t (multiplying (join_factor m f x)) o
+after_factor m x t f o plus_sign = at awaited (adding (join m t f x)) no_factor o
+after_factor m x t f o minus_sign = at awaited (subtracting (join m t f x)) no_factor o
+after_factor m x t f (inside o t' f') closes = at (closed (m.brackets_of (join m t f x))) t' f' o
+after_factor m x t f o _ = dead
+
+-- a byte where a factor is awaited
+abbrev pub before_factor : {A N : Type 0} → Makes A N → BeforeTerm A → BeforeFactor A → Opened A → Symbol → State A N
+before_factor m t f o (digit byte) = at (in_number (m.begin byte)) t f o
+before_factor m t f o (letter_of basis) = at (after_letter basis) t f o
+before_factor m t f o opens = at awaited no_term no_factor (inside o t f)
+before_factor m no_term no_factor o minus_sign = at awaited negating no_factor o
+before_factor m t f o _ = dead
+
+-- a byte in an atom's list where a number may begin
+abbrev pub in_list_step : {A N : Type 0} → Makes A N → Basis → List N → BeforeTerm A → BeforeFactor A → Opened A → Symbol → State A N
+in_list_step m basis words t f o (digit byte) = at (in_entry basis words (m.begin byte)) t f o
+in_list_step m basis [] t f o closes_list = at (closed (m.label_of basis [])) t f o
+in_list_step m basis words t f o _ = dead
+
+-- the next byte
+abbrev pub step : {A N : Type 0} → Makes A N → State A N → Symbol → State A N
+step m dead s = dead
+step m (at awaited t f o) s = before_factor m t f o s
+step m (at (in_number n) t f o) (digit byte) = at (in_number (m.extend n byte)) t f o
+step m (at (in_number n) t f o) slash = at (after_slash n) t f o
+step m (at (in_number n) t f o) s = after_factor m (m.numeral_of n) t f o s
+step m (at (after_slash n) t f o) (digit byte) = at (in_denominator n (m.begin byte)) t f o
+step m (at (after_slash n) t f o) s = dead
+step m (at (in_denominator n k) t f o) (digit byte) = at (in_denominator n (m.extend k byte)) t f o
+step m (at (in_denominator n k) t f o) s = after_factor m (m.ratio_of n k) t f o s
+step m (at (after_letter basis) t f o) opens_list = at (in_list basis []) t f o
+step m (at (after_letter basis) t f o) s = dead
+step m (at (in_list basis words) t f o) s = in_list_step m basis words t f o s
+step m (at (in_entry basis words n) t f o) (digit byte) = at (in_entry basis words (m.extend n byte)) t f o
+step m (at (in_entry basis words n) t f o) comma = at (in_list basis (words ++ n ∷ [])) t f o
+step m (at (in_entry basis words n) t f o) closes_list = at (closed (m.label_of basis (words ++ n ∷ []))) t f o
+step m (at (in_entry basis words n) t f o) s = dead
+step m (at (closed x) t f o) s = after_factor m x t f o s
+
+-- the bytes of a text, one after another
+abbrev pub run : {A N : Type 0} → Makes A N → List ℕ → State A N → State A N
+run m [] state = state
+run m (byte ∷ text) state = run m text (step m state (symbol byte))
+
+-- before the first byte
+abbrev pub start : {A N : Type 0} → State A N
+start = at awaited no_term no_factor outermost
+
+-- the phrase itself, its numbers as their digits
+abbrev pub phrases : Makes Phrase (List ℕ)
+phrases = record {
+  begin = λ byte. byte ∷ [];
+  extend = λ digits byte. digits ++ byte ∷ [];
+  numeral_of = numeral;
+  ratio_of = ratio;
+  label_of = label;
+  brackets_of = brackets;
+  minus_first_of = minus_first;
+  operation_of = operation;
+}
+
+-- its tree, numbers as their values
+abbrev pub trees : Makes Tree ℕ
+trees = record {
+  begin = λ byte. byte - 48;
+  extend = λ n byte. 10 * n + (byte - 48);
+  numeral_of = number;
+  ratio_of = fraction;
+  label_of = λ basis numbers. atom basis (without_last_zeros numbers);
+  brackets_of = λ e. e;
+  minus_first_of = negation;
+  operation_of = join_trees;
+}
+
+-- whether the bytes so far begin an expression
+abbrev pub is_live : {A N : Type 0} → State A N → Bool
+is_live dead = false
+is_live (at p t f o) = true
+
+-- whether no parenthesis is open
+abbrev pub is_outermost : {A : Type 0} → Opened A → Bool
+is_outermost outermost = true
+is_outermost (inside o t f) = false
+
+-- whether a factor is there whole
+abbrev pub is_factor : {A N : Type 0} → Piece A N → Bool
+is_factor (in_number n) = true
+is_factor (in_denominator n k) = true
+is_factor (closed x) = true
+is_factor _ = false
+
+-- whether the bytes so far are an expression
+abbrev pub is_whole : {A N : Type 0} → State A N → Bool
+is_whole dead = false
+is_whole (at p t f o) = is_factor p && is_outermost o
+
+-- the factor that is there
+abbrev pub factor_found : {A N : Type 0} → Makes A N → Piece A N → Option A
+factor_found m (in_number n) = Some (m.numeral_of n)
+factor_found m (in_denominator n k) = Some (m.ratio_of n k)
+factor_found m (closed x) = Some x
+factor_found m _ = None
+
+-- the expression that is there
+abbrev pub found : {A N : Type 0} → Makes A N → State A N → Option A
+found m dead = None
+found m (at p t f (inside o t' f')) = None
+found m (at p t f outermost) = option_map (join m t f) (factor_found m p)

@@ -1,0 +1,2 @@
+-- The machine by which expressions are read.
+pub mod LeftToRight

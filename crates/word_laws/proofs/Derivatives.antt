@@ -1,0 +1,224 @@
+-- Derivatives of forms: what follows a word is of the form's derivatives by it, so that the words taken are the longest
+-- prefix that begins words of a form.
+use Rattle.std.proofs.Common.{◌≡◌, ℕ, Bool, true, false, cond, List, [], ◌∷◌, ◌++◌, map, refl, sym, ap, ◌∙◌, subst, ◌⊎◌, inl, inr}
+use Rattle.sym_model.specs.Sum.{each, Among}
+use Rattle.sym_model.proofs.Sums.{Among-append_left, Among-append_right, Among_from_append, Among-map, Among_from_map}
+use Rattle.sym_model.specs.Form.{Form, empty, word, sequence, either, many, Written, word_of, words_of, May, Has, fits, is_skippable, derivatives, TellsExpressions}
+use Rattle.word_laws.proofs.Classes.{and_both, and_true, or_either, or_left, or_right, fits_sound, fits_complete}
+
+abbrev Words : Type 0
+Words = List (List ℕ)
+
+-- what has the words of a sequence, and of many
+pub has_sequence : (f g : Form) (us vs : Words) → Has f us → Has g vs → Has (sequence f g) (us ++ vs)
+has_sequence f g us vs h k = record {
+  written = (h.written, k.written);
+  allowed = (h.allowed, k.allowed);
+  spelled = ap (λ ws. ws ++ vs) h.spelled ∙ ap (λ ws. words_of f h.written ++ ws) k.spelled;
+}
+
+pub record Parts (f g : Form) (ws : Words) : Type 0 where
+  pub before : Words
+  pub after : Words
+  pub are : ws ≡ before ++ after
+  pub first : Has f before
+  pub second : Has g after
+
+pub sequence_parts : (f g : Form) (ws : Words) → Has (sequence f g) ws → Parts f g ws
+sequence_parts f g ws h = record {
+  before = words_of f h.written.0;
+  after = words_of g h.written.1;
+  are = h.spelled;
+  first = record { written = h.written.0; allowed = h.allowed.0; spelled = refl };
+  second = record { written = h.written.1; allowed = h.allowed.1; spelled = refl };
+}
+
+pub has_left : (f g : Form) (ws : Words) → Has f ws → Has (either f g) ws
+has_left f g ws h = record { written = inl h.written; allowed = h.allowed; spelled = h.spelled }
+
+pub has_right : (f g : Form) (ws : Words) → Has g ws → Has (either f g) ws
+has_right f g ws h = record { written = inr h.written; allowed = h.allowed; spelled = h.spelled }
+
+pub has_more : (f : Form) (us vs : Words) → Has f us → Has (many f) vs → Has (many f) (us ++ vs)
+has_more f us vs h k = record {
+  written = h.written ∷ k.written;
+  allowed = (h.allowed, k.allowed);
+  spelled = ap (λ ws. ws ++ vs) h.spelled ∙ ap (λ ws. words_of f h.written ++ ws) k.spelled;
+}
+
+pub has_none : (f : Form) → Has (many f) []
+has_none f = record { written = []; allowed = tt; spelled = refl }
+
+-- a form that can be skipped has no words
+pub skipped : (f : Form) → is_skippable f ≡ true → Has f []
+skipped empty h = record { written = tt; allowed = tt; spelled = refl }
+skipped (word c) h = cc
+skipped (sequence f g) h =
+    let p = and_both (is_skippable f) (is_skippable g) h in
+    has_sequence f g [] [] (skipped f p.0) (skipped g p.1)
+skipped (either f g) h = by (or_either (is_skippable f) (is_skippable g) h) (skipped f) (skipped g)
+  where
+    by : (is_skippable f ≡ true) ⊎ (is_skippable g ≡ true) → (is_skippable f ≡ true → Has f []) → (is_skippable g ≡ true → Has g [])
+        → Has (either f g) []
+    by (inl e) l r = has_left f g [] (l e)
+    by (inr e) l r = has_right f g [] (r e)
+skipped (many f) h = has_none f
+
+no_append : (us vs : Words) → us ++ vs ≡ [] → (us ≡ []) × (vs ≡ [])
+no_append [] vs h = (refl, h)
+no_append (u ∷ us) vs h = cc
+
+pub skippable : (f : Form) (x : Written f) → words_of f x ≡ [] → is_skippable f ≡ true
+skippable empty x h = refl
+skippable (word c) x h = cc
+skippable (sequence f g) x h =
+    let p = no_append (words_of f x.0) (words_of g x.1) h in
+    and_true (is_skippable f) (is_skippable g) (skippable f x.0 p.0) (skippable g x.1 p.1)
+skippable (either f g) (inl x) h = or_left (is_skippable f) (is_skippable g) (skippable f x h)
+skippable (either f g) (inr x) h = or_right (is_skippable f) (is_skippable g) (skippable g x h)
+skippable (many f) x h = refl
+
+among_cond : {A : Type 0} (b : Bool) (x : A) (xs : List A) → Among x (cond b xs []) → (b ≡ true) × Among x xs
+among_cond true x xs m = (refl, m)
+among_cond false x xs m = absurd m
+
+among_cond_true : {A : Type 0} (b : Bool) (x : A) (xs : List A) → b ≡ true → Among x xs → Among x (cond b xs [])
+among_cond_true true x xs h m = m
+among_cond_true false x xs h m = cc
+
+-- words of a derivative are what follows the word
+pub derivative_sound : (reads : List ℕ → Bool) → TellsExpressions reads → (f h : Form) (text : List ℕ) (ws : Words)
+    → Among h (derivatives reads f text) → Has h ws → Has f (text ∷ ws)
+derivative_sound reads tells empty h text ws m k = absurd m
+derivative_sound reads tells (word c) h text ws m k =
+    let p = among_cond (fits reads c text) h (empty ∷ []) m in
+    let x = fits_sound reads tells c text p.0 in
+    let e = by p.1 in
+    record {
+      written = x.0;
+      allowed = x.1;
+      spelled = ap (λ w. text ∷ w) (nothing h e k) ∙ ap (λ t. t ∷ []) x.2;
+    }
+  where
+    by : Among h (empty ∷ []) → h ≡ empty
+    by (inl e) = e
+    by (inr e) = absurd e
+
+    nothing : (g : Form) → g ≡ empty → Has g ws → ws ≡ []
+    nothing g e k = let n = subst (λ f. Has f ws) e k in n.spelled
+derivative_sound reads tells (sequence f g) h text ws m k =
+    by
+    (Among_from_append h (map (λ h. sequence h g) (derivatives reads f text)) (cond (is_skippable f) (derivatives reads g text) []) m)
+    (derivative_sound reads tells f)
+    (derivative_sound reads tells g)
+  where
+    by : Among h (map (λ h. sequence h g) (derivatives reads f text)) ⊎ Among h (cond (is_skippable f) (derivatives reads g text) [])
+        → ((h : Form) (text : List ℕ) (ws : Words) → Among h (derivatives reads f text) → Has h ws → Has f (text ∷ ws))
+        → ((h : Form) (text : List ℕ) (ws : Words) → Among h (derivatives reads g text) → Has h ws → Has g (text ∷ ws))
+        → Has (sequence f g) (text ∷ ws)
+    by (inl a) l r =
+        let b = Among_from_map (λ h. sequence h g) h (derivatives reads f text) a in
+        let q = sequence_parts b.0 g ws (subst (λ f. Has f ws) b.2 k) in
+        subst (Has (sequence f g)) (sym (ap (λ w. text ∷ w) q.are))
+        (has_sequence f g (text ∷ q.before) q.after (l b.0 text q.before b.1 q.first) q.second)
+    by (inr a) l r =
+        let p = among_cond (is_skippable f) h (derivatives reads g text) a in
+        has_sequence f g [] (text ∷ ws) (skipped f p.0) (r h text ws p.1 k)
+derivative_sound reads tells (either f g) h text ws m k =
+    elim (Among_from_append h (derivatives reads f text) (derivatives reads g text) m) [
+      | inl a ↦ has_left f g (text ∷ ws) (derivative_sound reads tells f h text ws a k)
+      | inr a ↦ has_right f g (text ∷ ws) (derivative_sound reads tells g h text ws a k)
+    ]
+derivative_sound reads tells (many f) h text ws m k =
+    let b = Among_from_map (λ h. sequence h (many f)) h (derivatives reads f text) m in
+    let q = sequence_parts b.0 (many f) ws (subst (λ f. Has f ws) b.2 k) in
+    subst (Has (many f)) (sym (ap (λ w. text ∷ w) q.are))
+    (has_more f (text ∷ q.before) q.after (derivative_sound reads tells f b.0 text q.before b.1 q.first) q.second)
+
+-- a derivative that has the words
+pub record Follows (reads : List ℕ → Bool) (f : Form) (text : List ℕ) (ws : Words) : Type 0 where
+  pub next : Form
+  pub among : Among next (derivatives reads f text)
+  pub has : Has next ws
+
+abbrev pub CompleteAt : (List ℕ → Bool) → Form → Type 0
+CompleteAt reads f = (x : Written f) → May f x → (text : List ℕ) (ws : Words) → words_of f x ≡ text ∷ ws → Follows reads f text ws
+
+-- the first word stands in the first of two lists or, where that is empty, in the second
+pub data Splits (us vs : Words) (text : List ℕ) (ws : Words) : Type 0 where
+  inside : (rest : Words) → us ≡ text ∷ rest → ws ≡ rest ++ vs → Splits us vs text ws
+  behind : us ≡ [] → vs ≡ text ∷ ws → Splits us vs text ws
+
+pub splits : (us vs : Words) (text : List ℕ) (ws : Words) → us ++ vs ≡ text ∷ ws → Splits us vs text ws
+splits [] vs text ws h = behind refl h
+splits (u ∷ us) vs text ws h = let e : u ≡ text = cc in let k : us ++ vs ≡ ws = cc in inside us (ap (λ t. t ∷ us) e) (sym k)
+
+sequence_complete : (reads : List ℕ → Bool) (f g : Form) → CompleteAt reads f → CompleteAt reads g → CompleteAt reads (sequence f g)
+sequence_complete reads f g l r x a text ws h = by (splits (words_of f x.0) (words_of g x.1) text ws h)
+  where
+    by : Splits (words_of f x.0) (words_of g x.1) text ws → Follows reads (sequence f g) text ws
+    by (inside rest e k) =
+        let n = l x.0 a.0 text rest e in
+        record {
+          next = sequence n.next g;
+          among = Among-append_left (sequence n.next g) (map (λ h. sequence h g) (derivatives reads f text)) (cond (is_skippable f) (derivatives reads g text) [])
+              (Among-map (λ h. sequence h g) n.next (derivatives reads f text) n.among);
+          has = subst (Has (sequence n.next g)) (sym k)
+              (has_sequence n.next g rest (words_of g x.1) n.has (record { written = x.1; allowed = a.1; spelled = refl }));
+        }
+    by (behind e k) =
+        let n = r x.1 a.1 text ws k in
+        record {
+          next = n.next;
+          among = Among-append_right n.next (map (λ h. sequence h g) (derivatives reads f text)) (cond (is_skippable f) (derivatives reads g text) [])
+              (among_cond_true (is_skippable f) n.next (derivatives reads g text) (skippable f x.0 e) n.among);
+          has = n.has;
+        }
+
+many_complete : (reads : List ℕ → Bool) (f : Form) → CompleteAt reads f → CompleteAt reads (many f)
+many_complete reads f l [] a text ws h = cc
+many_complete reads f l (x ∷ xs) a text ws h =
+    by (splits (words_of f x) (each (words_of f) xs) text ws h) (many_complete reads f l xs a.1 text ws)
+  where
+    by : Splits (words_of f x) (each (words_of f) xs) text ws → (each (words_of f) xs ≡ text ∷ ws → Follows reads (many f) text ws)
+        → Follows reads (many f) text ws
+    by (inside rest e k) again =
+        let n = l x a.0 text rest e in
+        record {
+          next = sequence n.next (many f);
+          among = Among-map (λ h. sequence h (many f)) n.next (derivatives reads f text) n.among;
+          has = subst (Has (sequence n.next (many f))) (sym k)
+              (has_sequence n.next (many f) rest (each (words_of f) xs) n.has (record { written = xs; allowed = a.1; spelled = refl }));
+        }
+    by (behind e k) again = again k
+
+-- what follows the first word is of a derivative by it
+pub derivative_complete : (reads : List ℕ → Bool) → TellsExpressions reads → (f : Form) → CompleteAt reads f
+derivative_complete reads tells empty x a text ws h = cc
+derivative_complete reads tells (word c) x a text ws h =
+    let e : word_of c x ≡ text = cc in
+    let k : [] ≡ ws = cc in
+    record {
+      next = empty;
+      among = among_cond_true (fits reads c text) empty (empty ∷ [])
+          (subst (λ t. fits reads c t ≡ true) e (fits_complete reads tells c x a)) (inl refl);
+      has = record { written = tt; allowed = tt; spelled = sym k };
+    }
+derivative_complete reads tells (sequence f g) x a text ws h =
+    sequence_complete reads f g (derivative_complete reads tells f) (derivative_complete reads tells g) x a text ws h
+derivative_complete reads tells (either f g) (inl x) a text ws h =
+    let n = derivative_complete reads tells f x a text ws h in
+    record {
+      next = n.next;
+      among = Among-append_left n.next (derivatives reads f text) (derivatives reads g text) n.among;
+      has = n.has;
+    }
+derivative_complete reads tells (either f g) (inr x) a text ws h =
+    let n = derivative_complete reads tells g x a text ws h in
+    record {
+      next = n.next;
+      among = Among-append_right n.next (derivatives reads f text) (derivatives reads g text) n.among;
+      has = n.has;
+    }
+derivative_complete reads tells (many f) x a text ws h =
+    many_complete reads f (derivative_complete reads tells f) x a text ws h

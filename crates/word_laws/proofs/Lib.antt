@@ -1,0 +1,14 @@
+pub mod Classes
+pub mod Derivatives
+pub mod LongestPrefixes
+pub mod Readings
+pub mod AwaitedExpressions
+pub mod ExpressionWords
+pub mod FirstOffences
+pub mod EntryLists
+pub mod ComputedReadings
+pub mod ComputedExamples
+pub mod CommandFacts
+pub mod Stands
+pub mod ShapedTableaux
+pub mod NumberLists

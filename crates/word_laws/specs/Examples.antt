@@ -1,0 +1,34 @@
+-- How the worked examples of the words of commands are written: a line of words, and what it says over all commands.
+use Rattle.std.specs.Prelude.{ℕ, List, [], ◌++◌, Some, codes, replicate}
+use Rattle.std.proofs.Common.{zero, suc}
+use Rattle.sym_model.specs.Command.{Command}
+use Rattle.sym_model.specs.CommandOffence.{Offence}
+use Rattle.sym_model.specs.Entry.{Entry, HasFirstOffence, SpellsWithoutOffence}
+use Rattle.sym_model.specs.Grammar.{entries_of, all_bases}
+use Rattle.sym_model.specs.SyntaxPlace.{IsSyntaxPlace}
+use Rattle.sym_model.specs.BatchLine.{words_of_line}
+
+-- all commands, with all targets
+abbrev pub all_commands : List Entry
+all_commands = entries_of all_bases
+
+-- the words of the line spell the command, without offence
+abbrev pub Says : List ℕ → Command → Type 0
+Says line command = SpellsWithoutOffence all_commands (words_of_line line) command
+
+-- the words of the line first offend there
+abbrev pub Offends : List ℕ → Offence → Type 0
+Offends line first = HasFirstOffence all_commands (words_of_line line) (Some first)
+
+-- the words of the line are no command, and go wrong there
+abbrev pub GoesWrong : List ℕ → ℕ → ℕ → Type 0
+GoesWrong line word byte = IsSyntaxPlace all_commands (words_of_line line) word byte
+
+-- a text so many times, each with a space after it
+abbrev pub repeated : ℕ → List ℕ → List ℕ
+repeated zero text = []
+repeated (suc n) text = text ++ (codes " " ++ repeated n text)
+
+-- so many digits 0
+abbrev pub zeros_of : ℕ → List ℕ
+zeros_of n = replicate n 48

@@ -1,0 +1,61 @@
+-- Forms whose words are read in one way: one-unambiguous regular expressions (Brüggemann-Klein and Wood).
+use Rattle.std.specs.Prelude.{Bool, true, false, not, ◌&&◌, cond, List, [], ◌∷◌, ◌++◌}
+use Rattle.sym_model.specs.Polynomial.{same}
+use Rattle.sym_model.specs.Form.{Class, exact, number, target, Form, empty, word, sequence, either, many, is_number_word, is_letter_of, is_skippable}
+
+-- whether it is seen that no word is of both classes
+abbrev pub is_apart : Class → Class → Bool
+is_apart (exact a) (exact b) = not (same a b)
+is_apart (exact a) number = not (is_number_word a)
+is_apart (exact a) (target bases) = not (is_letter_of bases a)
+is_apart number (exact b) = not (is_number_word b)
+is_apart (target bases) (exact b) = not (is_letter_of bases b)
+is_apart c d = false
+
+-- whether the class is apart from each of these
+abbrev pub is_apart_from : Class → List Class → Bool
+is_apart_from c [] = true
+is_apart_from c (d ∷ classes) = is_apart c d && is_apart_from c classes
+
+-- whether each class of the one list is apart from each of the other
+abbrev pub are_apart : List Class → List Class → Bool
+are_apart [] ds = true
+are_apart (c ∷ cs) ds = is_apart_from c ds && are_apart cs ds
+
+-- the classes of a first word
+abbrev pub firsts : Form → List Class
+firsts empty = []
+firsts (word c) = c ∷ []
+firsts (sequence f g) = firsts f ++ cond (is_skippable f) (firsts g) []
+firsts (either f g) = firsts f ++ firsts g
+firsts (many f) = firsts f
+
+-- the classes of a word by which words of the form may go on to more words of it
+abbrev pub continuing : Form → List Class
+continuing empty = []
+continuing (word c) = []
+continuing (sequence f g) = continuing g ++ cond (is_skippable g) (continuing f) []
+continuing (either f g) =
+    continuing f ++ (continuing g ++ (cond (is_skippable f) (firsts g) [] ++ cond (is_skippable g) (firsts f) []))
+continuing (many f) = firsts f ++ continuing f
+
+-- whether each word tells by its class alone to which part of the form it belongs
+abbrev pub is_unambiguous : Form → Bool
+is_unambiguous empty = true
+is_unambiguous (word c) = true
+is_unambiguous (sequence f g) = is_unambiguous f && (is_unambiguous g && are_apart (continuing f) (firsts g))
+is_unambiguous (either f g) =
+    is_unambiguous f
+    && (is_unambiguous g && (are_apart (firsts f) (firsts g) && not (is_skippable f && is_skippable g)))
+is_unambiguous (many f) = is_unambiguous f && (not (is_skippable f) && are_apart (continuing f) (firsts f))
+
+-- whether words of the form are told from words of each of the others by their first word
+abbrev pub is_told_from : Form → List Form → Bool
+is_told_from f [] = true
+is_told_from f (g ∷ forms) = not (is_skippable g) && (are_apart (firsts f) (firsts g) && is_told_from f forms)
+
+-- whether each form is unambiguous and the first word tells which of them it is
+abbrev pub are_unambiguous : List Form → Bool
+are_unambiguous [] = true
+are_unambiguous (f ∷ forms) =
+    is_unambiguous f && (not (is_skippable f) && (is_told_from f forms && are_unambiguous forms))
