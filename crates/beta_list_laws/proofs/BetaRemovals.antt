@@ -1,0 +1,146 @@
+-- The removal of a rim hook that a beta list shows: an entry y + n lowered by n, past the entries `middle` that are
+-- between, where both lists fall strictly.
+use Rattle.std.proofs.Common.{◌≡◌, ℕ, zero, suc, ◌+◌, ◌-◌, ◌<◌, ◌≤◌, List, [], ◌∷◌, ◌++◌, length, get_or, refl, sym, ◌∙◌, ap, arith, length-append}
+use Rattle.sym_model.specs.Partition.{size, part}
+use Rattle.sym_model.specs.Alternant.{staircase}
+use Rattle.sym_model.specs.BetaList.{less_the_rest, from_beta}
+use Rattle.sym_model.specs.Strip.{height}
+use Rattle.sym_model.specs.RimHookReduction.{IsRemoval}
+use Rattle.strip_laws.specs.HookRows.{IsHookRows}
+use Rattle.strip_laws.proofs.RimHooks.{hook_from_rows, height_of_rows}
+use Rattle.beta_list_laws.specs.StrictFall.{FallsStrictly}
+use Rattle.beta_list_laws.proofs.BetaLists.{strict_tail, rest_within, from_beta_partition, part-from_beta, size-from_beta}
+
+-- the list before, and the list with the entry lowered
+abbrev pub before : ℕ → ℕ → List ℕ → List ℕ → List ℕ → List ℕ
+before n y left middle right = left ++ ((y + n) ∷ (middle ++ right))
+
+abbrev pub lowered : ℕ → List ℕ → List ℕ → List ℕ → List ℕ
+lowered y left middle right = left ++ (middle ++ (y ∷ right))
+
+strict_drop : (left c : List ℕ) → FallsStrictly (left ++ c) → FallsStrictly c
+strict_drop [] c f = f
+strict_drop (a ∷ left) c f = strict_drop left c (strict_tail a (left ++ c) f)
+
+-- ---- the entries less the number of those after them
+
+-- in front nothing changes
+same_front : (left c d : List ℕ) (i : ℕ) → length c ≡ length d → i < length left → get_or (less_the_rest (left ++ c)) i 0 ≡ get_or (less_the_rest (left ++ d)) i 0
+same_front [] c d i e h = absurd (omega arith)
+same_front (a ∷ left) c d zero e h = let p = length-append left c in let q = length-append left d in ap (λ n. a - n) (omega arith)
+same_front (a ∷ left) c d (suc i) e h = same_front left c d i e (omega arith)
+
+past_front : (left c : List ℕ) (i : ℕ) → get_or (less_the_rest (left ++ c)) (length left + i) 0 ≡ get_or (less_the_rest c) i 0
+past_front [] c i = let e : 0 + i ≡ i = omega arith in ap (λ n. get_or (less_the_rest c) n 0) e
+past_front (a ∷ left) c i =
+    let e : suc (length left) + i ≡ suc (length left + i) = omega arith in
+    ap (λ n. get_or (less_the_rest ((a ∷ left) ++ c)) n 0) e ∙ past_front left c i
+
+-- between, each entry comes one place further up, and is one less over the places after it
+chained_middle : (x y : ℕ) (middle right : List ℕ) (i : ℕ) → FallsStrictly (middle ++ (y ∷ right)) → i < length middle
+    → get_or (less_the_rest (x ∷ (middle ++ right))) (suc i) 0 ≡ get_or (less_the_rest (middle ++ (y ∷ right))) i 0 + 1
+chained_middle x y [] right i f h = absurd (omega arith)
+chained_middle x y (p ∷ middle) right zero f h =
+    let a = length-append middle right in
+    let b = length-append middle (y ∷ right) in
+    let w = rest_within p (middle ++ (y ∷ right)) f in
+    omega arith
+chained_middle x y (p ∷ middle) right (suc i) f h = chained_middle p y middle right i (strict_tail p (middle ++ (y ∷ right)) f) (omega arith)
+
+-- behind nothing changes
+same_back : (x y : ℕ) (middle right : List ℕ) (i : ℕ) → length middle < i → get_or (less_the_rest (x ∷ (middle ++ right))) i 0 ≡ get_or (less_the_rest (middle ++ (y ∷ right))) i 0
+same_back x y middle right zero h = absurd (omega arith)
+same_back x y [] right (suc i) h = refl
+same_back x y (p ∷ middle) right (suc i) h = same_back p y middle right i (omega arith)
+
+-- and the lowered entry stands below the last that was passed
+below_last : (x y : ℕ) (middle right : List ℕ) → y < x → FallsStrictly (middle ++ (y ∷ right))
+    → get_or (less_the_rest (middle ++ (y ∷ right))) (length middle) 0 < get_or (less_the_rest (x ∷ (middle ++ right))) (length middle) 0
+below_last x y [] right h f = let w = rest_within y right f in omega arith
+below_last x y (p ∷ middle) right h f = below_last p y middle right (first p middle f) (strict_tail p (middle ++ (y ∷ right)) f)
+  where
+    first : (q : ℕ) (m : List ℕ) → FallsStrictly (q ∷ (m ++ (y ∷ right))) → y < q
+    first q [] g = g.0
+    first q (r ∷ m) g = let k = g.0 in let e = first r m g.1 in omega arith
+
+-- ---- the parts
+
+abbrev outer_of : ℕ → ℕ → List ℕ → List ℕ → List ℕ → List ℕ
+outer_of n y left middle right = from_beta (before n y left middle right)
+
+abbrev inner_of : ℕ → List ℕ → List ℕ → List ℕ → List ℕ
+inner_of y left middle right = from_beta (lowered y left middle right)
+
+same_length : (x y : ℕ) (middle right : List ℕ) → length (x ∷ (middle ++ right)) ≡ length (middle ++ (y ∷ right))
+same_length x y middle right = let a = length-append middle right in let b = length-append middle (y ∷ right) in omega arith
+
+outer_at : (n y : ℕ) (left middle right : List ℕ) (i j : ℕ) → i - 1 ≡ length left + j → part (outer_of n y left middle right) i ≡ get_or (less_the_rest ((y + n) ∷ (middle ++ right))) j 0
+outer_at n y left middle right i j e =
+    part-from_beta (before n y left middle right) i
+    ∙ ap (λ m. get_or (less_the_rest (before n y left middle right)) m 0) e
+    ∙ past_front left ((y + n) ∷ (middle ++ right)) j
+
+inner_at : (y : ℕ) (left middle right : List ℕ) (i j : ℕ) → i - 1 ≡ length left + j → part (inner_of y left middle right) i ≡ get_or (less_the_rest (middle ++ (y ∷ right))) j 0
+inner_at y left middle right i j e =
+    part-from_beta (lowered y left middle right) i
+    ∙ ap (λ m. get_or (less_the_rest (lowered y left middle right)) m 0) e
+    ∙ past_front left (middle ++ (y ∷ right)) j
+
+shown_rows : (n y : ℕ) (left middle right : List ℕ) → 1 ≤ n → FallsStrictly (lowered y left middle right)
+    → IsHookRows (outer_of n y left middle right) (inner_of y left middle right) (length left + 1) (length left + 1 + length middle)
+shown_rows n y left middle right h f = record {
+  counts = omega arith;
+  ordered = omega arith;
+  above = λ i a b.
+      part-from_beta (before n y left middle right) i
+      ∙ same_front left ((y + n) ∷ (middle ++ right)) (middle ++ (y ∷ right)) (i - 1) (same_length (y + n) y middle right) (omega arith)
+      ∙ sym (part-from_beta (lowered y left middle right) i);
+  below = λ i a.
+      outer_at n y left middle right i (i - 1 - length left) (omega arith)
+      ∙ same_back (y + n) y middle right (i - 1 - length left) (omega arith)
+      ∙ sym (inner_at y left middle right i (i - 1 - length left) (omega arith));
+  chained = λ i a b.
+      outer_at n y left middle right (i + 1) (suc (i - 1 - length left)) (omega arith)
+      ∙ chained_middle (y + n) y middle right (i - 1 - length left) (strict_drop left (middle ++ (y ∷ right)) f) (omega arith)
+      ∙ ap (λ p. p + 1) (sym (inner_at y left middle right i (i - 1 - length left) (omega arith)));
+  end =
+      let o = outer_at n y left middle right (length left + 1 + length middle) (length middle) (omega arith) in
+      let p = inner_at y left middle right (length left + 1 + length middle) (length middle) (omega arith) in
+      let l = below_last (y + n) y middle right (omega arith) (strict_drop left (middle ++ (y ∷ right)) f) in
+      omega arith;
+}
+
+size-append : (a b : List ℕ) → size (a ++ b) ≡ size a + size b
+size-append [] b = let e : size b ≡ 0 + size b = omega arith in e
+size-append (x ∷ a) b = let e = size-append a b in omega arith
+
+-- ---- the removal, and its height
+
+pub shown_removal : (n y : ℕ) (left middle right : List ℕ) → 1 ≤ n → FallsStrictly (before n y left middle right) → FallsStrictly (lowered y left middle right)
+    → IsRemoval n (from_beta (before n y left middle right)) (from_beta (lowered y left middle right))
+shown_removal n y left middle right h g f =
+    let outer = from_beta_partition (before n y left middle right) g in
+    record {
+      partition = from_beta_partition (lowered y left middle right) f;
+      hook = hook_from_rows (outer_of n y left middle right) (inner_of y left middle right) (length left + 1) (length left + 1 + length middle) outer.falls (shown_rows n y left middle right h f);
+      cells =
+          let a = size-from_beta (before n y left middle right) g in
+          let b = size-from_beta (lowered y left middle right) f in
+          let c = size-append left ((y + n) ∷ (middle ++ right)) in
+          let d = size-append left (middle ++ (y ∷ right)) in
+          let p = size-append middle right in
+          let q = size-append middle (y ∷ right) in
+          let l = length-append left ((y + n) ∷ (middle ++ right)) in
+          let m = length-append left (middle ++ (y ∷ right)) in
+          let s = same_length (y + n) y middle right in
+          let e : length (before n y left middle right) ≡ length (lowered y left middle right) = omega arith in
+          let t = ap (λ k. size (staircase k)) e in
+          omega arith;
+    }
+
+pub shown_height : (n y : ℕ) (left middle right : List ℕ) → 1 ≤ n → FallsStrictly (before n y left middle right) → FallsStrictly (lowered y left middle right)
+    → height (from_beta (before n y left middle right)) (from_beta (lowered y left middle right)) ≡ length middle + 1
+shown_height n y left middle right h g f =
+    let outer = from_beta_partition (before n y left middle right) g in
+    let e = height_of_rows (outer_of n y left middle right) (inner_of y left middle right) (length left + 1) (length left + 1 + length middle) outer.falls (shown_rows n y left middle right h f) in
+    omega arith

@@ -1,0 +1,4 @@
+pub mod NeighbourExchanges
+pub mod BetaLists
+pub mod SortedLists
+pub mod BetaRemovals

@@ -1,0 +1,8 @@
+-- Strictly falling lists (this project's own): what beta lists are.
+use Rattle.std.specs.Prelude.{ℕ, ◌<◌, List, [], ◌∷◌}
+
+-- each number is smaller than the one before it
+abbrev pub FallsStrictly : List ℕ → Type 0
+FallsStrictly [] = Unit {0}
+FallsStrictly (a ∷ []) = Unit {0}
+FallsStrictly (a ∷ b ∷ list) = (b < a) × FallsStrictly (b ∷ list)

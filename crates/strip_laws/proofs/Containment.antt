@@ -1,0 +1,59 @@
+-- Containment of shapes by parts, by cells and as a test.
+--     contains-tells, contains-from      the test and the parts
+--     cells-from, cells-tell             the parts and the cells
+use Rattle.std.proofs.Common.{◌≡◌, ℕ, zero, suc, ◌+◌, ◌-◌, ◌≤◌, true, List, [], ◌∷◌, get_or, leb, eqb, subst, refl, inl, inr, arith}
+use Rattle.std.proofs.lemmas.Bool.{cases_lt, eq-eqb, eqb-true, leb-true, le-leb, and_parts, and_from}
+use Rattle.sym_model.specs.Partition.{part, Holds, IsCell}
+use Rattle.sym_model.specs.Schur.{contains}
+
+-- no number of inner is greater than the number of outer at the same place
+abbrev Under : List ℕ → List ℕ → Type 0
+Under outer inner = (j : ℕ) → get_or inner j 0 ≤ get_or outer j 0
+
+under-from_test : (outer inner : List ℕ) → contains outer inner ≡ true → Under outer inner
+under-from_test outer [] h j = omega arith
+under-from_test [] (b ∷ inner) h zero =
+    let p = and_parts (eqb b 0) (contains [] inner) h in
+    let e = eqb-true b 0 p.0 in
+    omega (arith, e)
+under-from_test [] (b ∷ inner) h (suc j) = under-from_test [] inner (and_parts (eqb b 0) (contains [] inner) h).1 j
+under-from_test (a ∷ outer) (b ∷ inner) h zero = leb-true b a (and_parts (leb b a) (contains outer inner) h).0
+under-from_test (a ∷ outer) (b ∷ inner) h (suc j) = under-from_test outer inner (and_parts (leb b a) (contains outer inner) h).1 j
+
+test-from_under : (outer inner : List ℕ) → Under outer inner → contains outer inner ≡ true
+test-from_under outer [] h = refl
+test-from_under [] (b ∷ inner) h =
+    let e : b ≡ 0 = (let l = h 0 in omega (arith, l)) in
+    and_from (eqb b 0) (contains [] inner) (eq-eqb b 0 e) (test-from_under [] inner (λ j. h (suc j)))
+test-from_under (a ∷ outer) (b ∷ inner) h =
+    and_from (leb b a) (contains outer inner) (le-leb b a (h 0)) (test-from_under outer inner (λ j. h (suc j)))
+
+pub contains-tells : (outer inner : List ℕ) → contains outer inner ≡ true → Holds outer inner
+contains-tells outer inner h i = under-from_test outer inner h (i - 1)
+
+pub contains-from : (outer inner : List ℕ) → Holds outer inner → contains outer inner ≡ true
+contains-from outer inner h =
+    test-from_under outer inner (λ j.
+    let e : j + 1 - 1 ≡ j = omega arith in
+    subst (λ k. get_or inner k 0 ≤ get_or outer k 0) e (h (j + 1)))
+
+pub cells-from : (outer inner : List ℕ) → Holds outer inner → (row column : ℕ) → IsCell inner [] row column → IsCell outer [] row column
+cells-from outer inner h row column c =
+    let a = c.row_counts in
+    let b = c.outside in
+    let d = c.within in
+    let l = h row in
+    record { row_counts = a; outside = b; within = omega (arith, d, l) }
+
+pub cells-tell : (outer inner : List ℕ) → ((row column : ℕ) → IsCell inner [] row column → IsCell outer [] row column) → Holds outer inner
+cells-tell outer inner h = from
+  where
+    counted : (i : ℕ) → 1 ≤ i → part inner i ≤ part outer i
+    counted i n = elim (cases_lt 0 (part inner i)) [
+      | inl l ↦ (h i (part inner i) (record { row_counts = n; outside = l; within = omega arith })).within
+      | inr l ↦ omega (arith, l)
+    ]
+
+    from : Holds outer inner
+    from zero = counted 1 (omega arith)
+    from (suc i) = counted (suc i) (omega arith)

@@ -1,0 +1,86 @@
+-- Horizontal and vertical strips by their rows.
+--     falls_part              the parts of a falling list fall from each row to the next
+--     horizontal_from_rows    a horizontal strip has outer part i + 1 at most inner part i
+--     vertical_from_rows      a vertical strip has outer part i at most inner part i + 1
+use Rattle.std.proofs.Common.{◌≡◌, ℕ, zero, suc, ◌+◌, ◌-◌, ◌<◌, ◌≤◌, List, [], ◌∷◌, get_or, sym, ap, subst, refl, inl, inr, arith}
+use Rattle.std.proofs.lemmas.Bool.{cases_order, cases_lt}
+use Rattle.sym_model.specs.Partition.{Falls, part, Holds, IsCell}
+use Rattle.sym_model.specs.Strip.{IsHorizontalStrip, IsVerticalStrip}
+
+-- ---- rows of falling lists
+
+falls_get : (parts : List ℕ) → Falls parts → (k : ℕ) → get_or parts (suc k) 0 ≤ get_or parts k 0
+falls_get [] f k = omega arith
+falls_get (a ∷ []) f zero = omega arith
+falls_get (a ∷ []) f (suc k) = omega arith
+falls_get (a ∷ b ∷ parts) f zero = f.0
+falls_get (a ∷ b ∷ parts) f (suc k) = falls_get (b ∷ parts) f.1 k
+
+part_at : (parts : List ℕ) (i k : ℕ) → i ≡ suc k → part parts i ≡ get_or parts k 0
+part_at parts i k e = let d : i - 1 ≡ k = omega arith in ap (λ n. get_or parts n 0) d
+
+-- each row of a falling list is at least the next
+pub falls_part : (parts : List ℕ) → Falls parts → (i : ℕ) → 1 ≤ i → part parts (i + 1) ≤ part parts i
+falls_part parts f zero h = absurd (omega arith)
+falls_part parts f (suc k) h =
+    let a = part_at parts (suc k + 1) (suc k) (omega arith) in
+    let b = part_at parts (suc k) k refl in
+    let c = falls_get parts f k in
+    rw (a, b) c
+
+falls_steps : (parts : List ℕ) → Falls parts → (d i k : ℕ) → 1 ≤ i → k ≡ i + d → part parts k ≤ part parts i
+falls_steps parts f zero i k h e = let d : k ≡ i = omega arith in subst (λ n. part parts n ≤ part parts i) (sym d) (omega arith)
+falls_steps parts f (suc d) i k h e =
+    let a = falls_steps parts f d (i + 1) k (omega arith) (omega arith) in
+    let b = falls_part parts f i h in
+    omega (arith, a, b)
+
+pub falls_far : (parts : List ℕ) → Falls parts → (i k : ℕ) → 1 ≤ i → i ≤ k → part parts k ≤ part parts i
+falls_far parts f i k h l = falls_steps parts f (k - i) i k h (omega arith)
+
+-- ---- horizontal and vertical strips
+
+pub horizontal_from_rows : (outer inner : List ℕ) → Falls outer → Holds outer inner
+    → ((i : ℕ) → 1 ≤ i → part outer (i + 1) ≤ part inner i) → IsHorizontalStrip outer inner
+horizontal_from_rows outer inner f h r = record { holds = h; once = once }
+  where
+    apart : (i k column : ℕ) → i < k → IsCell outer inner i column → IsCell outer inner k column → ⊥
+    apart i k column l c d =
+        let a = r i c.row_counts in
+        let b = falls_far outer f (i + 1) k (omega arith) (omega arith) in
+        let e = c.outside in
+        let g = d.within in
+        absurd (omega (arith, a, b, e, g))
+
+    once : (i k column : ℕ) → IsCell outer inner i column → IsCell outer inner k column → i ≡ k
+    once i k column c d =
+        elim (cases_order i k) [ inl e ↦ e | inr (inl l) ↦ absurd (apart i k column l c d) | inr (inr l) ↦ absurd (apart k i column l d c) ]
+
+pub horizontal_rows : (outer inner : List ℕ) → Falls outer → Falls inner → IsHorizontalStrip outer inner
+    → (i : ℕ) → 1 ≤ i → part outer (i + 1) ≤ part inner i
+horizontal_rows outer inner f g s i h =
+    elim (cases_lt (part inner i) (part outer (i + 1))) [ inl l ↦ absurd (both l) | inr l ↦ l ]
+  where
+    both : part inner i < part outer (i + 1) → ⊥
+    both l =
+        let a = falls_part outer f i h in
+        let b = falls_part inner g i h in
+        let c : IsCell outer inner i (part outer (i + 1)) = record { row_counts = h; outside = l; within = a } in
+        let d : IsCell outer inner (i + 1) (part outer (i + 1)) = record { row_counts = omega arith; outside = omega (arith, b, l); within = omega arith } in
+        let e = s.once i (i + 1) (part outer (i + 1)) c d in
+        omega arith
+
+pub vertical_from_rows : (outer inner : List ℕ) → Holds outer inner → ((i : ℕ) → 1 ≤ i → part outer i ≤ part inner i + 1) → IsVerticalStrip outer inner
+vertical_from_rows outer inner h r =
+    record { holds = h; once = λ row j k c d. let a = r row c.row_counts in let p = c.outside in let q = c.within in let s = d.outside in let t = d.within in omega (arith, a, p, q, s, t) }
+
+pub vertical_rows : (outer inner : List ℕ) → IsVerticalStrip outer inner → (i : ℕ) → 1 ≤ i → part outer i ≤ part inner i + 1
+vertical_rows outer inner s i h =
+    elim (cases_lt (part inner i + 1) (part outer i)) [ inl l ↦ absurd (both l) | inr l ↦ l ]
+  where
+    both : part inner i + 1 < part outer i → ⊥
+    both l =
+        let c : IsCell outer inner i (part inner i + 1) = record { row_counts = h; outside = omega arith; within = omega (arith, l) } in
+        let d : IsCell outer inner i (part inner i + 2) = record { row_counts = h; outside = omega arith; within = omega (arith, l) } in
+        let e = s.once i (part inner i + 1) (part inner i + 2) c d in
+        omega arith
