@@ -1,15 +1,16 @@
 -- The laws of alternants: an exchange of two exponents changes the sign, and equal exponents give 0.
-use Rattle.std.proofs.Common.{◌≡◌, ℕ, zero, suc, ◌+◌, List, [], ◌∷◌, ◌++◌, length, sym, ◌∙◌, ap, refl, arith, ℤ, pos, neg_ℤ}
+use Rattle.std.proofs.Common.{◌≡◌, ℕ, List, [], ◌∷◌, ◌++◌, length, sym, ◌∙◌, ap, refl, arith, ℤ, pos, neg_ℤ}
 use Rattle.std.proofs.lemmas.Int.{ints}
 use Rattle.std.proofs.lemmas.List.{length-map}
 use Rattle.sym_model.specs.Sum.{Among}
-use Rattle.sym_model.specs.Partition.{part, after}
+use Rattle.sym_model.specs.Partition.{part}
 use Rattle.sym_model.specs.Polynomial.{Same, In, nothing, negate}
 use Rattle.sym_model.specs.PlaceOrders.{orders, places, sign}
 use Rattle.sym_model.specs.Alternant.{rearranged, alternant}
 use Rattle.sym_model.proofs.Polynomials.{same_from_pair, pair_negate, In_map}
 use Rattle.alternant_laws.proofs.Alternating.{alternating, alternating_exchange}
 use Rattle.alternant_laws.proofs.OrderSums.{KeptByExchanges, orders_reach, pair_alternant}
+use Rattle.sym_model.proofs.AfterLists.{length_after}
 
 pub alternant_exchange : (left middle right : List ℕ) (a b : ℕ)
     → Same (alternant (left ++ (a ∷ (middle ++ (b ∷ right))))) (negate (alternant (left ++ (b ∷ (middle ++ (a ∷ right))))))
@@ -22,7 +23,7 @@ alternant_exchange left middle right a b =
     ∙ ap neg_ℤ (sym (pair_alternant γ φ))
     ∙ sym (pair_negate (alternant γ) φ))
 
-opposite_is_zero : (x : ℤ) → x ≡ neg_ℤ x → x ≡ pos 0
+pub opposite_is_zero : (x : ℤ) → x ≡ neg_ℤ x → x ≡ pos 0
 opposite_is_zero x e = omega (arith, ints)
 
 pub alternant_equal : (left middle right : List ℕ) (a : ℕ) → Same (alternant (left ++ (a ∷ (middle ++ (a ∷ right))))) nothing
@@ -36,10 +37,6 @@ alternant_equal left middle right a =
 length_kept : (n : ℕ) → KeptByExchanges (λ w. length w ≡ n)
 length_kept n [] a b r h = h
 length_kept n (c ∷ l) a b r h = omega (arith, length_kept (length (l ++ (a ∷ b ∷ r))) l a b r refl)
-
-length_after : (a k : ℕ) → length (after a k) ≡ k
-length_after a zero = refl
-length_after a (suc k) = ap suc (length_after (a + 1) k)
 
 pub length_order : (n : ℕ) (w : List ℕ) → Among w (orders (places n)) → length w ≡ n
 length_order n w m = orders_reach (λ v. length v ≡ n) (length_kept n) (places n) w (length_after 0 n) m

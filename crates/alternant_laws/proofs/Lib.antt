@@ -4,3 +4,13 @@ pub mod Alternants
 pub mod Symmetry
 pub mod AlternantProducts
 pub mod Staircase
+pub mod Degrees
+pub mod ClassicalProducts
+pub mod LeftColumns
+pub mod FailingColumns
+pub mod GoodAlternants
+pub mod FallingAlternants
+pub mod StraightShapes
+pub mod SchurProducts
+pub mod BoundedLetters
+pub mod CountedTerms

@@ -138,7 +138,7 @@ pub rearranged_places : (n : ℕ) (β : List ℕ) → length β ≡ n → rearra
 rearranged_places n β e =
     ap (λ k. rearranged (places k) β) (sym e) ∙ rearranged_after β β 0 (λ i. let d : 0 + i ≡ i = omega arith in ap (λ k. get_or β k 0) d)
 
-part-join : (α β : List ℕ) (k : ℕ) → get_or (join α β) k 0 ≡ get_or α k 0 + get_or β k 0
+pub part-join : (α β : List ℕ) (k : ℕ) → get_or (join α β) k 0 ≡ get_or α k 0 + get_or β k 0
 part-join [] β k = omega arith
 part-join (a ∷ α) [] k = omega arith
 part-join (a ∷ α) (b ∷ β) zero = refl

@@ -18,7 +18,7 @@ length_staircase (suc n) = ap suc (length_staircase n)
 -- ---- alternating sums look at lists of the same entries alone
 
 -- each entry is less than n
-abbrev AreBelow : ℕ → List ℕ → Type 0
+abbrev pub AreBelow : ℕ → List ℕ → Type 0
 AreBelow n [] = Unit {0}
 AreBelow n (a ∷ α) = (a < n) × AreBelow n α
 
@@ -27,11 +27,11 @@ inserting_below n x φ ψ h e [] b = e (x ∷ []) (h, tt)
 inserting_below n x φ ψ h e (y ∷ ys) b =
     ap₂ ◌-ℤ◌ (e (x ∷ y ∷ ys) (h, b)) (inserting_below n x (λ l. φ (y ∷ l)) (λ l. ψ (y ∷ l)) h (λ l c. e (y ∷ l) (b.0, c)) ys b.1)
 
-alternating_below : (n : ℕ) (β : List ℕ) (φ ψ : List ℕ → ℤ) → AreBelow n β → ((l : List ℕ) → AreBelow n l → φ l ≡ ψ l) → alternating β φ ≡ alternating β ψ
+pub alternating_below : (n : ℕ) (β : List ℕ) (φ ψ : List ℕ → ℤ) → AreBelow n β → ((l : List ℕ) → AreBelow n l → φ l ≡ ψ l) → alternating β φ ≡ alternating β ψ
 alternating_below n [] φ ψ b e = e [] tt
 alternating_below n (x ∷ β) φ ψ b e = alternating_below n β (inserting x φ) (inserting x ψ) b.1 (inserting_below n x φ ψ b.0 e)
 
-below_weaken : (n : ℕ) (β : List ℕ) → AreBelow n β → AreBelow (suc n) β
+pub below_weaken : (n : ℕ) (β : List ℕ) → AreBelow n β → AreBelow (suc n) β
 below_weaken n [] b = tt
 below_weaken n (a ∷ β) b = let h : a < n = b.0 in (omega arith, below_weaken n β b.1)
 

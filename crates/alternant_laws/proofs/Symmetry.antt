@@ -1,5 +1,5 @@
 -- Symmetric polynomials through their pairings: an order of the places changes no pairing.
-use Rattle.std.proofs.Common.{◌≡◌, ℕ, zero, suc, Bool, true, false, ◌&&◌, ◌==◌, cond, List, [], ◌∷◌, ◌++◌, append_assoc, map, length, sym, ◌∙◌, ap, refl, ℤ, pos, ◌*ℤ◌}
+use Rattle.std.proofs.Common.{◌≡◌, ℕ, zero, suc, cond, List, [], ◌∷◌, ◌++◌, append_assoc, map, length, sym, ◌∙◌, ap, refl, ℤ, pos, ◌*ℤ◌}
 use Rattle.sym_model.specs.Sum.{Among}
 use Rattle.sym_model.specs.Polynomial.{Poly, Term, In, same, coefficient, pair}
 use Rattle.sym_model.specs.Partition.{part}
@@ -8,47 +8,8 @@ use Rattle.sym_model.specs.Symmetric.{Symmetric}
 use Rattle.sym_model.specs.Alternant.{rearranged}
 use Rattle.sym_model.proofs.Sums.{total_ext, total_map}
 use Rattle.sym_model.proofs.Polynomials.{pair_in, pair_ext, pair_determined}
+use Rattle.bender_knuth_laws.proofs.Exchanges.{exchanged, same_exchanged}
 use Rattle.alternant_laws.proofs.OrderSums.{KeptByExchanges, orders_reach, rearranged_places}
-
--- the list with the entries at the places k and k + 1, counted from 0, exchanged; itself where there are none
-abbrev pub exchanged : ℕ → List ℕ → List ℕ
-exchanged k [] = []
-exchanged zero (a ∷ []) = a ∷ []
-exchanged zero (a ∷ b ∷ α) = b ∷ a ∷ α
-exchanged (suc k) (a ∷ α) = a ∷ exchanged k α
-
-and_swap : (p q r : Bool) → (p && (q && r)) ≡ (q && (p && r))
-and_swap true true r = refl
-and_swap true false r = refl
-and_swap false true r = refl
-and_swap false false r = refl
-
--- an exchange in one list is an exchange in the other
-same_exchanged : (k : ℕ) (α β : List ℕ) → same (exchanged k α) β ≡ same α (exchanged k β)
-same_exchanged k [] [] = refl
-same_exchanged zero [] (b ∷ []) = refl
-same_exchanged zero [] (b ∷ c ∷ β) = refl
-same_exchanged (suc k) [] (b ∷ β) = refl
-same_exchanged zero (a ∷ []) [] = refl
-same_exchanged zero (a ∷ c ∷ α) [] = refl
-same_exchanged (suc k) (a ∷ α) [] = refl
-same_exchanged zero (a ∷ []) (b ∷ []) = refl
-same_exchanged zero (a ∷ []) (b ∷ d ∷ β) = short (a == b) (a == d)
-  where
-    short : (p q : Bool) → (p && false) ≡ (q && false)
-    short true true = refl
-    short true false = refl
-    short false true = refl
-    short false false = refl
-same_exchanged zero (a ∷ c ∷ α) (b ∷ []) = short (c == b) (a == b)
-  where
-    short : (p q : Bool) → (p && false) ≡ (q && false)
-    short true true = refl
-    short true false = refl
-    short false true = refl
-    short false false = refl
-same_exchanged zero (a ∷ c ∷ α) (b ∷ d ∷ β) = and_swap (c == b) (a == d) (same α β)
-same_exchanged (suc k) (a ∷ α) (b ∷ β) = ap (λ p. (a == b) && p) (same_exchanged k α β)
 
 symmetric_after : (f : Poly) → Symmetric f → (left : List ℕ) (k : ℕ) (α : List ℕ) → coefficient f (left ++ exchanged k α) ≡ coefficient f (left ++ α)
 symmetric_after f s left k [] = refl

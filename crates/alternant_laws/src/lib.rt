@@ -4,11 +4,18 @@
 //! the law.
 #![tactic(auto)]
 
+mod classical;
+mod stembridge;
+
 ghost use Rattle.std.specs.Prelude.{◌≡◌, ℕ, pos, List, ◌∷◌, ◌++◌, length};
 ghost use Rattle.sym_model.specs.Polynomial.{Poly, Same, In, coefficient, nothing, negate, times};
 ghost use Rattle.sym_model.specs.Leading.{Leads};
 ghost use Rattle.sym_model.specs.Symmetric.{Symmetric};
 ghost use Rattle.sym_model.specs.Alternant.{alternant, staircase, alternants_over};
+
+pub use bender_knuth_laws::bender_knuth_law;
+pub use classical::classical_product_law;
+pub use stembridge::{counted_answers_law, littlewood_richardson_law, stembridge_law};
 
 /// Exchanging two exponents of β changes the sign of the alternant a_β, and an alternant with two
 /// equal exponents is 0 (Macdonald, I.3).

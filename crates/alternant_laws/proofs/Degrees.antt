@@ -1,0 +1,170 @@
+-- Homogeneous polynomials: their products, alternants and Schur polynomials.
+use Rattle.std.proofs.Common.{◌≡◌, ℕ, zero, suc, ◌+◌, ◌<◌, ◌≤◌, Bool, true, false, cond, eqb, List, [], ◌∷◌, ◌++◌, map, length, replicate, length-append, pos, ◌*ℤ◌, refl, sym, ap, ◌∙◌, subst, inl, inr, arith}
+use Rattle.std.proofs.lemmas.Bool.{cond-true, cond-false, eq-eqb, eqb-true, ne_eqb}
+use Rattle.sym_model.specs.Sum.{Among}
+use Rattle.sym_model.specs.Polynomial.{Term, Poly, same, join, coefficient, one, times}
+use Rattle.sym_model.specs.Partition.{size, part, after}
+use Rattle.sym_model.specs.PlaceOrders.{insertions, orders, places, sign}
+use Rattle.sym_model.specs.Schur.{words, row_lengths, fillings_of, semistandard, letters_of, times_in, content, schur}
+use Rattle.sym_model.specs.Alternant.{rearranged, alternant}
+use Rattle.sym_model.specs.Target.{schur_product}
+use Rattle.sym_model.proofs.Sums.{total_none, Among_from_map, Among_from_each, Among_from_select}
+use Rattle.sym_model.proofs.Exponents.{same_apart, size-join}
+use Rattle.alternant_laws.proofs.OrderSums.{rearranged_places}
+
+-- each term has the degree d
+abbrev pub OfDegree : ℕ → Poly → Type 0
+OfDegree d f = (t : Term) → Among t f → size t.0 ≡ d
+
+-- there is no coefficient at exponents of another degree
+pub coefficient-other_degree : (d : ℕ) (f : Poly) (α : List ℕ) → OfDegree d f → (size α ≡ d → ⊥) → coefficient f α ≡ pos 0
+coefficient-other_degree d f α h other =
+    total_none (λ (t : Term). cond (same t.0 α) t.1 (pos 0)) f
+    (λ t m. cond-false (same t.0 α) t.1 (pos 0) (same_apart t.0 α (λ e. other (ap size (sym e) ∙ h t m))))
+
+-- degrees of products add up
+pub times-of_degree : (d e : ℕ) (f g : Poly) → OfDegree d f → OfDegree e g → OfDegree (d + e) (times f g)
+times-of_degree d e f g h k t m =
+    let s = Among_from_each (λ (s : Term). map (λ (t : Term). (join s.0 t.0, s.1 *ℤ t.1)) g) t f m in
+    let u = Among_from_map (λ (u : Term). (join s.0.0 u.0, s.0.1 *ℤ u.1)) t g s.2 in
+    let left : size s.0.0 ≡ d = h s.0 s.1 in
+    let right : size u.0.0 ≡ e = k u.0 u.1 in
+    let joined : size t.0 ≡ size (join s.0.0 u.0.0) = ap (λ (v : Term). size v.0) u.2 in
+    joined ∙ (size-join s.0.0 u.0.0 ∙ (omega arith))
+
+one-of_degree : (n : ℕ) → OfDegree 0 (one n)
+one-of_degree n t (inl e) = ap (λ (v : Term). size v.0) e ∙ zeros n
+  where
+    zeros : (n : ℕ) → size (replicate n 0) ≡ 0
+    zeros zero = refl
+    zeros (suc n) = let h = zeros n in omega arith
+one-of_degree n t (inr m) = absurd m
+
+-- ---- alternants
+
+-- a list with a number put in has the same sum as with it in front
+insertions-size : (f : ℕ → ℕ) (x : ℕ) (ys w : List ℕ) → Among w (insertions x ys) → size (map f w) ≡ f x + size (map f ys)
+insertions-size f x [] w (inl e) = ap (λ v. size (map f v)) e
+insertions-size f x [] w (inr m) = absurd m
+insertions-size f x (y ∷ ys) w (inl e) = ap (λ v. size (map f v)) e
+insertions-size f x (y ∷ ys) w (inr m) =
+    let z = Among_from_map (λ (zs : List ℕ). y ∷ zs) w (insertions x ys) m in
+    let h = insertions-size f x ys z.0 z.1 in
+    let first : size (map f w) ≡ f y + size (map f z.0) = ap (λ v. size (map f v)) z.2 in
+    omega arith
+
+-- an order of a list has its sum
+orders-size : (f : ℕ → ℕ) (xs w : List ℕ) → Among w (orders xs) → size (map f w) ≡ size (map f xs)
+orders-size f [] w (inl e) = ap (λ v. size (map f v)) e
+orders-size f [] w (inr m) = absurd m
+orders-size f (x ∷ xs) w m =
+    let v = Among_from_each (insertions x) w (orders xs) m in
+    let h = orders-size f xs v.0 v.1 in
+    let k = insertions-size f x v.0 w v.2 in
+    omega arith
+
+pub alternant-of_degree : (β : List ℕ) → OfDegree (size β) (alternant β)
+alternant-of_degree β t m =
+    let w = Among_from_map (λ (w : List ℕ). (rearranged w β, sign w)) t (orders (places (length β))) m in
+    ap (λ (v : Term). size v.0) w.2 ∙ (orders-size (part β) (places (length β)) w.0 w.1 ∙ ap size (rearranged_places (length β) β refl))
+
+-- ---- Schur polynomials
+
+-- each letter is from 1 to n
+abbrev AreLetters : ℕ → List ℕ → Type 0
+AreLetters n [] = Unit {0}
+AreLetters n (a ∷ w) = ((1 ≤ a) × (a ≤ n)) × AreLetters n w
+
+are_letters-append : (n : ℕ) (v w : List ℕ) → AreLetters n v → AreLetters n w → AreLetters n (v ++ w)
+are_letters-append n [] w h k = k
+are_letters-append n (a ∷ v) w h k = (h.0, are_letters-append n v w h.1 k)
+
+-- one where the letter is the number
+one_at : ℕ → ℕ → ℕ
+one_at a j = cond (eqb a j) 1 0
+
+size-sum : (f g : ℕ → ℕ) (ks : List ℕ) → size (map (λ j. f j + g j) ks) ≡ size (map f ks) + size (map g ks)
+size-sum f g [] = refl
+size-sum f g (k ∷ ks) = let h = size-sum f g ks in omega arith
+
+none-after : (a m k : ℕ) → a ≤ m → size (map (one_at a) (after m k)) ≡ 0
+unfolding one_at
+none-after a m zero h = refl
+none-after a m (suc k) h =
+    let rest = none-after a (m + 1) k (omega arith) in
+    let first : cond {A = ℕ} (eqb a (m + 1)) 1 0 ≡ 0 = cond-false (eqb a (m + 1)) 1 0 (ne_eqb a (m + 1) (λ e. omega arith)) in
+    omega arith
+
+one-after : (a m k : ℕ) → m < a → a ≤ m + k → size (map (one_at a) (after m k)) ≡ 1
+unfolding one_at
+one-after a m zero h l = absurd (omega arith)
+one-after a m (suc k) h l = by (eqb a (m + 1)) refl (λ high. one-after a (m + 1) k high (omega arith))
+  where
+    by : (b : Bool) → eqb a (m + 1) ≡ b → (m + 1 < a → size (map (one_at a) (after (m + 1) k)) ≡ 1)
+        → cond {A = ℕ} (eqb a (m + 1)) 1 0 + size (map (one_at a) (after (m + 1) k)) ≡ 1
+    by true e later =
+        let is : a ≡ m + 1 = eqb-true a (m + 1) e in
+        let first : cond {A = ℕ} (eqb a (m + 1)) 1 0 ≡ 1 = cond-true (eqb a (m + 1)) 1 0 e in
+        let rest = none-after a (m + 1) k (omega arith) in
+        omega arith
+    by false e later =
+        let differ : a ≡ m + 1 → ⊥ = λ is. let same = eq-eqb a (m + 1) is in cc in
+        let first : cond {A = ℕ} (eqb a (m + 1)) 1 0 ≡ 0 = cond-false (eqb a (m + 1)) 1 0 e in
+        let rest = later (omega (arith, differ)) in
+        omega arith
+
+content-size : (n : ℕ) (w : List ℕ) → AreLetters n w → size (content n w) ≡ length w
+unfolding one_at
+content-size n [] h = zeros (after 0 n)
+  where
+    zeros : (ks : List ℕ) → size (map (λ j. times_in j []) ks) ≡ 0
+    zeros [] = refl
+    zeros (k ∷ ks) = let h = zeros ks in omega arith
+content-size n (a ∷ w) h =
+    let rest = content-size n w h.1 in
+    let first = one-after a 0 n (omega (arith, h.0.0)) (omega (arith, h.0.1)) in
+    size-sum (one_at a) (λ j. times_in j w) (after 0 n) ∙ (omega arith)
+
+among-after : (a m k : ℕ) → Among a (after m k) → (m + 1 ≤ a) × (a ≤ m + k)
+among-after a m zero h = absurd h
+among-after a m (suc k) (inl e) = (omega arith, omega arith)
+among-after a m (suc k) (inr h) = let p = among-after a (m + 1) k h in (omega (arith, p.0), omega (arith, p.1))
+
+words-letters : (n k : ℕ) (w : List ℕ) → Among w (words n k) → (length w ≡ k) × AreLetters n w
+words-letters n zero w (inl e) = subst (λ v. (length v ≡ 0) × AreLetters n v) (sym e) (refl, tt)
+words-letters n zero w (inr m) = absurd m
+words-letters n (suc k) w m =
+    let a = Among_from_each (λ (a : ℕ). map (λ (v : List ℕ). a ∷ v) (words n k)) w (after 0 n) m in
+    let v = Among_from_map (λ (v : List ℕ). a.0 ∷ v) w (words n k) a.2 in
+    let rest = words-letters n k v.0 v.1 in
+    let bounds = among-after a.0 0 n a.1 in
+    let long : suc (length v.0) ≡ suc k = ap suc rest.0 in
+    subst (λ u. (length u ≡ suc k) × AreLetters n u) (sym v.2) (long, ((omega (arith, bounds.0), omega (arith, bounds.1)), rest.1))
+
+fillings-letters : (n : ℕ) (lengths : List ℕ) (filling : List (List ℕ)) → Among filling (fillings_of n lengths) → (length (letters_of filling) ≡ size lengths) × AreLetters n (letters_of filling)
+fillings-letters n [] filling (inl e) = subst (λ v. (length (letters_of v) ≡ 0) × AreLetters n (letters_of v)) (sym e) (refl, tt)
+fillings-letters n [] filling (inr m) = absurd m
+fillings-letters n (k ∷ lengths) filling m =
+    let row = Among_from_each (λ (row : List ℕ). map (λ (rest : List (List ℕ)). row ∷ rest) (fillings_of n lengths)) filling (words n k) m in
+    let rest = Among_from_map (λ (rest : List (List ℕ)). row.0 ∷ rest) filling (fillings_of n lengths) row.2 in
+    let first = words-letters n k row.0 row.1 in
+    let others = fillings-letters n lengths rest.0 rest.1 in
+    let long : length (row.0 ++ letters_of rest.0) ≡ k + size lengths = length-append row.0 (letters_of rest.0) ∙ (let a = first.0 in let b = others.0 in omega arith) in
+    subst (λ v. (length (letters_of v) ≡ k + size lengths) × AreLetters n (letters_of v)) (sym rest.2) (long, are_letters-append n row.0 (letters_of rest.0) first.1 others.1)
+
+row_lengths-size : (parts : List ℕ) → size (row_lengths parts []) ≡ size parts
+row_lengths-size [] = refl
+row_lengths-size (a ∷ parts) = let h = row_lengths-size parts in omega arith
+
+pub schur-of_degree : (parts : List ℕ) (n : ℕ) → OfDegree (size parts) (schur parts n)
+schur-of_degree parts n t m =
+    let filling = Among_from_map (λ (filling : List (List ℕ)). (content n (letters_of filling), pos 1)) t _ m in
+    let letters = fillings-letters n (row_lengths parts []) filling.0 (Among_from_select (semistandard []) filling.0 (fillings_of n (row_lengths parts [])) filling.1).0 in
+    ap (λ (v : Term). size v.0) filling.2
+    ∙ (content-size n (letters_of filling.0) letters.1 ∙ (letters.0 ∙ row_lengths-size parts))
+
+pub schur_product-of_degree : (factors : List (List ℕ)) (n : ℕ) → OfDegree (size (map size factors)) (schur_product factors n)
+schur_product-of_degree [] n t m = one-of_degree n t m
+schur_product-of_degree (parts ∷ []) n t m = schur-of_degree parts n t m ∙ (omega arith)
+schur_product-of_degree (parts ∷ next ∷ factors) n t m =
+    times-of_degree (size parts) _ (schur parts n) (schur_product (next ∷ factors) n) (schur-of_degree parts n) (schur_product-of_degree (next ∷ factors) n) t m

@@ -1,0 +1,5 @@
+pub mod Rows
+pub mod Stacks
+pub mod Exchanges
+pub mod SymmetricSums
+pub mod TableauInvolution

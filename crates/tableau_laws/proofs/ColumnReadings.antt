@@ -1,0 +1,171 @@
+-- The columns of a filling and its column reading, by the padded columns.
+use Rattle.std.proofs.Common.{◌≡◌, ℕ, zero, suc, ◌+◌, ◌-◌, ◌<◌, ◌≤◌, ◌⊎◌, ◌==◌, Bool, true, false, cond, ◌&&◌, List, [], ◌∷◌, ◌++◌, append_assoc, length, replicate, reverse, take, drop, get_or, nat_lt, sym, ◌∙◌, ap, ap₂, refl, inl, inr, arith, append-nil}
+use Rattle.std.proofs.lemmas.Bool.{lt-ltb, le-ltb, ne_eqb, cases_Bool, ltb-true, ltb-false}
+use Rattle.std.proofs.lemmas.List.{reverse-append}
+use Rattle.std.proofs.Math.Seq.{drop-cons}
+use Rattle.sym_model.specs.Sum.{each, Among}
+use Rattle.sym_model.specs.Partition.{ArePositive, part, columns, after}
+use Rattle.sym_model.specs.Polynomial.{join}
+use Rattle.sym_model.specs.Schur.{times_in, letters_of, content}
+use Rattle.sym_model.specs.GoodTableau.{letter_in, column, reading_right_of, column_reading, is_falling, every, is_good}
+use Rattle.tableau_laws.specs.PaddedRows.{put_row, transposed, padded}
+use Rattle.tableau_laws.specs.ColumnFold.{filled, reading_of, sum_reached, is_good_by_columns}
+use Rattle.tableau_laws.proofs.PaddedTableaux.{ArePositiveRows}
+use Rattle.tableau_laws.proofs.Contents.{times_in-append, content_same}
+use Rattle.sym_model.proofs.AfterLists.{after_among}
+
+-- ---- letters that are not zeros
+
+pub filled-append : (v w : List ℕ) → filled (v ++ w) ≡ filled v ++ filled w
+filled-append [] w = refl
+filled-append (a ∷ v) w = by (nat_lt 0 a) (filled-append v w)
+  where
+    by : (b : Bool) → filled (v ++ w) ≡ filled v ++ filled w → cond b (a ∷ filled (v ++ w)) (filled (v ++ w)) ≡ cond b (a ∷ filled v) (filled v) ++ filled w
+    by true e = ap (λ l. a ∷ l) e
+    by false e = e
+
+filled_letter : (a : ℕ) (w : List ℕ) → 0 < a → filled (a ∷ w) ≡ a ∷ filled w
+filled_letter a w h = ap (λ b. cond b (a ∷ filled w) (filled w)) (lt-ltb 0 a h)
+
+-- ---- one letter of a row
+
+-- the letter at place i as a word; nothing past the end
+abbrev at_place : ℕ → List ℕ → List ℕ
+at_place i w = take 1 (drop i w)
+
+filled_one : (i : ℕ) (row : List ℕ) → ArePositive row → filled (at_place i row) ≡ at_place i row
+filled_one zero [] h = refl
+filled_one (suc i) [] h = refl
+filled_one zero (a ∷ row) h = filled_letter a [] h.0
+filled_one (suc i) (a ∷ row) h = filled_one i row h.1
+
+letter_in-padded : (c i : ℕ) (row : List ℕ) → ArePositive row → letter_in c row (suc i) ≡ filled (at_place i (replicate c 0 ++ row))
+letter_in-padded zero i row h =
+    let e : suc i - (0 + 1) ≡ i = omega arith in
+    ap₂ (λ (b : Bool) (k : ℕ). cond b (take 1 (drop k row)) []) (lt-ltb 0 (suc i) (omega arith)) e ∙ sym (filled_one i row h)
+letter_in-padded (suc c) zero row h = ap (λ (b : Bool). cond b (take 1 (drop (1 - (suc c + 1)) row)) []) (le-ltb (suc c) 1 (omega arith))
+letter_in-padded (suc c) (suc i) row h =
+    ap₂ (λ (b : Bool) (k : ℕ). cond b (take 1 (drop k row)) []) (same_test (cases_Bool (nat_lt c (suc i)))) (let e : suc (suc i) - (suc c + 1) ≡ suc i - (c + 1) = omega arith in e)
+    ∙ letter_in-padded c i row h
+  where
+    same_test : (nat_lt c (suc i) ≡ true) ⊎ (nat_lt c (suc i) ≡ false) → nat_lt (suc c) (suc (suc i)) ≡ nat_lt c (suc i)
+    same_test (inl e) = let l = ltb-true c (suc i) e in lt-ltb (suc c) (suc (suc i)) (omega arith) ∙ sym e
+    same_test (inr e) = let l = ltb-false c (suc i) e in le-ltb (suc c) (suc (suc i)) (omega arith) ∙ sym e
+
+-- ---- one column
+
+-- the line at place i; an empty one past the end
+abbrev pub line_at : ℕ → List (List ℕ) → List ℕ
+line_at i lines = get_or lines i []
+
+line_at-put : (i : ℕ) (row : List ℕ) (lines : List (List ℕ)) → line_at i (put_row row lines) ≡ at_place i row ++ line_at i lines
+line_at-put zero [] lines = refl
+line_at-put (suc i) [] lines = refl
+line_at-put zero (x ∷ row) [] = refl
+line_at-put zero (x ∷ row) (c ∷ lines) = refl
+line_at-put (suc i) (x ∷ row) [] = line_at-put i row [] ∙ ap (λ l. at_place i row ++ l) (nothing_there i)
+  where
+    nothing_there : (j : ℕ) → line_at j [] ≡ []
+    nothing_there zero = refl
+    nothing_there (suc j) = refl
+line_at-put (suc i) (x ∷ row) (c ∷ lines) = line_at-put i row lines
+
+pub column-padded : (inner : List ℕ) (rows : List (List ℕ)) (i : ℕ) → ArePositiveRows rows → column inner rows (suc i) ≡ filled (line_at i (transposed (padded inner rows)))
+column-padded inner [] zero h = refl
+column-padded inner [] (suc i) h = refl
+column-padded inner (row ∷ rows) i h =
+    ap₂ ◌++◌ (letter_in-padded (part inner 1) i row h.0) (column-padded (drop 1 inner) rows i h.1)
+    ∙ sym (filled-append (at_place i (replicate (part inner 1) 0 ++ row)) (line_at i (transposed (padded (drop 1 inner) rows))))
+    ∙ ap filled (sym (line_at-put i (replicate (part inner 1) 0 ++ row) (transposed (padded (drop 1 inner) rows))))
+
+-- ---- the columns right of one
+
+each_append : (f : ℕ → List ℕ) (xs ys : List ℕ) → each f (xs ++ ys) ≡ each f xs ++ each f ys
+each_append f [] ys = refl
+each_append f (x ∷ xs) ys = ap (λ l. f x ++ l) (each_append f xs ys) ∙ sym (append_assoc (f x) (each f xs) (each f ys))
+
+-- the columns j + 1 to j + k, from the last to the first
+columns_between : (f : ℕ → List ℕ) (lines : List (List ℕ)) (j k : ℕ) → ((i : ℕ) → f (suc i) ≡ filled (line_at i lines)) → j + k ≡ length lines
+    → each f (reverse (after j k)) ≡ reading_of (drop j lines)
+columns_between f lines j zero e l = ap reading_of (sym (past j lines (omega arith)))
+  where
+    past : (i : ℕ) (xs : List (List ℕ)) → length xs ≤ i → drop i xs ≡ []
+    past zero [] h = refl
+    past (suc i) [] h = refl
+    past zero (x ∷ xs) h = absurd (omega arith)
+    past (suc i) (x ∷ xs) h = past i xs (omega arith)
+columns_between f lines j (suc k) e l =
+    let n : j + 1 ≡ suc j = omega arith in
+    ap (each f) (reverse-append ((j + 1) ∷ []) (after (j + 1) k))
+    ∙ each_append f (reverse (after (j + 1) k)) ((j + 1) ∷ [])
+    ∙ ap₂ ◌++◌ (columns_between f lines (j + 1) k e (omega arith)) (append-nil (f (j + 1)) ∙ ap f n ∙ e j)
+    ∙ ap (λ i. reading_of (drop i lines) ++ filled (line_at j lines)) n
+    ∙ ap reading_of (sym (drop-cons lines j [] (omega arith)))
+
+pub reading-padded : (j : ℕ) (outer inner : List ℕ) (rows : List (List ℕ)) → ArePositiveRows rows → length (transposed (padded inner rows)) ≡ columns outer → j ≤ columns outer
+    → reading_right_of j outer inner rows ≡ reading_of (drop j (transposed (padded inner rows)))
+reading-padded j outer inner rows p l h =
+    columns_between (column inner rows) (transposed (padded inner rows)) j (columns outer - j) (λ i. column-padded inner rows i p) (omega arith)
+
+pub column_reading-padded : (outer inner : List ℕ) (rows : List (List ℕ)) → ArePositiveRows rows → length (transposed (padded inner rows)) ≡ columns outer
+    → column_reading outer inner rows ≡ reading_of (transposed (padded inner rows))
+column_reading-padded outer inner rows p l = reading-padded 0 outer inner rows p l (omega arith)
+
+-- ---- contents of readings
+
+pub times_in-filled : (k : ℕ) (w : List ℕ) → 0 < k → times_in k (filled w) ≡ times_in k w
+times_in-filled k [] h = refl
+times_in-filled k (zero ∷ w) h =
+    let d : (0 == k) ≡ false = ne_eqb 0 k (λ i. absurd (omega arith)) in
+    times_in-filled k w h ∙ sym (ap (λ (p : Bool). cond p 1 0 + times_in k w) d ∙ omega arith)
+times_in-filled k (suc a ∷ w) h = ap (times_in k) (filled_letter (suc a) w (omega arith)) ∙ ap (λ x. cond (suc a == k) 1 0 + x) (times_in-filled k w h)
+
+times_in-reading : (k : ℕ) (lines : List (List ℕ)) → 0 < k → times_in k (reading_of lines) ≡ times_in k (letters_of lines)
+times_in-reading k [] h = refl
+times_in-reading k (c ∷ lines) h =
+    let e = times_in-reading k lines h in
+    let a = times_in-append k (reading_of lines) (filled c) in
+    let b = times_in-append k c (letters_of lines) in
+    let d = times_in-filled k c h in
+    omega arith
+
+pub content-reading : (n : ℕ) (lines : List (List ℕ)) → content n (reading_of lines) ≡ content n (letters_of lines)
+content-reading n lines = content_same n (reading_of lines) (letters_of lines) (λ k h. times_in-reading k lines h)
+
+-- ---- good at every column
+
+every_among : (f g : ℕ → Bool) (xs : List ℕ) → ((x : ℕ) → Among x xs → f x ≡ g x) → every f xs ≡ every g xs
+every_among f g [] e = refl
+every_among f g (x ∷ xs) e = ap₂ (λ (p q : Bool). p && q) (e x (inl refl)) (every_among f g xs (λ y m. e y (inr m)))
+
+every_later : (f : ℕ → Bool) (a k : ℕ) → every f (after (suc a) k) ≡ every (λ i. f (suc i)) (after a k)
+every_later f a zero = refl
+every_later f a (suc k) =
+    let e : suc a + 1 ≡ suc (a + 1) = omega arith in
+    ap (λ i. f i && every f (after i k)) e ∙ ap (λ p. f (suc (a + 1)) && p) (every_later f (a + 1) k)
+
+-- at every column, the columns being those that are left after j are dropped
+good_drops : (n : ℕ) (start : List ℕ) (lines : List (List ℕ))
+    → every (λ j. is_falling (sum_reached n start (drop j lines))) (0 ∷ after 0 (length lines)) ≡ is_good_by_columns n start lines
+good_drops n start [] = by (is_falling (sum_reached n start []))
+  where
+    by : (p : Bool) → (p && true) ≡ p
+    by true = refl
+    by false = refl
+good_drops n start (c ∷ lines) =
+    ap (λ p. is_falling (sum_reached n start (c ∷ lines)) && (is_falling (sum_reached n start lines) && p))
+    (every_later (λ j. is_falling (sum_reached n start (drop j (c ∷ lines)))) 0 (length lines))
+    ∙ ap (λ p. is_falling (sum_reached n start (c ∷ lines)) && p) (good_drops n start lines)
+
+pub good-padded : (n : ℕ) (start outer inner : List ℕ) (rows : List (List ℕ)) → ArePositiveRows rows → length (transposed (padded inner rows)) ≡ columns outer
+    → is_good n start outer inner rows ≡ is_good_by_columns n start (transposed (padded inner rows))
+good-padded n start outer inner rows p l =
+    let lines = transposed (padded inner rows) in
+    every_among (λ j. is_falling (join start (content n (reading_right_of j outer inner rows)))) (λ j. is_falling (sum_reached n start (drop j lines))) (0 ∷ after 0 (columns outer))
+    (λ j m. ap (λ w. is_falling (join start w)) (ap (content n) (reading-padded j outer inner rows p l (within j m)) ∙ content-reading n (drop j lines)))
+    ∙ ap (λ k. every (λ j. is_falling (sum_reached n start (drop j lines))) (0 ∷ after 0 k)) (sym l)
+    ∙ good_drops n start lines
+  where
+    within : (j : ℕ) → Among j (0 ∷ after 0 (columns outer)) → j ≤ columns outer
+    within j (inl e) = omega arith
+    within j (inr m) = let h = after_among 0 (columns outer) j m in let g = h.1 in omega arith

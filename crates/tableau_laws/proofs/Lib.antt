@@ -1,0 +1,12 @@
+pub mod Transposing
+pub mod Padding
+pub mod Grids
+pub mod PaddedTableaux
+pub mod PatternFillings
+pub mod RowSums
+pub mod Contents
+pub mod ColumnReadings
+pub mod ColumnSums
+pub mod GoodReadings
+pub mod ColumnCounts
+pub mod FewerLetters

@@ -1,0 +1,72 @@
+-- Sums over the fillings of a pattern, by its rows and by its columns.
+use Rattle.std.proofs.Common.{◌≡◌, ℕ, Bool, List, [], ◌∷◌, map, sym, ◌∙◌, refl, ℤ}
+use lib.IntN.{+ℤ_idr}
+use Rattle.sym_model.specs.Sum.{total}
+use Rattle.sym_model.proofs.Sums.{total_ext, total_map, total_each, total_exchange}
+use Rattle.tableau_laws.specs.PaddedRows.{put_row, transposed, letters_at, words_over, fillings_over}
+
+-- the first letter, then the others
+pub words_sum : (n : ℕ) (p : Bool) (line : List Bool) (g : List ℕ → ℤ)
+    → total g (words_over n (p ∷ line)) ≡ total (λ (a : ℕ). total (λ (w : List ℕ). g (a ∷ w)) (words_over n line)) (letters_at n p)
+words_sum n p line g =
+    total_each g (λ (a : ℕ). map (λ (w : List ℕ). a ∷ w) (words_over n line)) (letters_at n p)
+    ∙ total_ext (λ (a : ℕ). total g (map (λ (w : List ℕ). a ∷ w) (words_over n line))) (λ (a : ℕ). total (λ (w : List ℕ). g (a ∷ w)) (words_over n line))
+    (λ a. total_map g (λ (w : List ℕ). a ∷ w) (words_over n line)) (letters_at n p)
+
+-- the first line, then the others
+pub fillings_sum : (n : ℕ) (line : List Bool) (pattern : List (List Bool)) (f : List (List ℕ) → ℤ)
+    → total f (fillings_over n (line ∷ pattern)) ≡ total (λ (w : List ℕ). total (λ (rest : List (List ℕ)). f (w ∷ rest)) (fillings_over n pattern)) (words_over n line)
+fillings_sum n line pattern f =
+    total_each f (λ (w : List ℕ). map (λ (rest : List (List ℕ)). w ∷ rest) (fillings_over n pattern)) (words_over n line)
+    ∙ total_ext (λ (w : List ℕ). total f (map (λ (rest : List (List ℕ)). w ∷ rest) (fillings_over n pattern)))
+    (λ (w : List ℕ). total (λ (rest : List (List ℕ)). f (w ∷ rest)) (fillings_over n pattern))
+    (λ w. total_map f (λ (rest : List (List ℕ)). w ∷ rest) (fillings_over n pattern)) (words_over n line)
+
+-- a row put on the columns of the rows below: each filling of the longer columns once
+put_sum : (n : ℕ) (line : List Bool) (columns : List (List Bool)) (f : List (List ℕ) → ℤ)
+    → total (λ (w : List ℕ). total (λ (cols : List (List ℕ)). f (put_row w cols)) (fillings_over n columns)) (words_over n line)
+    ≡ total f (fillings_over n (put_row line columns))
+put_sum n [] columns f = +ℤ_idr (total f (fillings_over n columns))
+put_sum n (p ∷ line) [] f =
+    words_sum n p line (λ (w : List ℕ). total (λ (cols : List (List ℕ)). f (put_row w cols)) ([] ∷ []))
+    ∙ total_ext
+    (λ (a : ℕ). total (λ (w : List ℕ). total (λ (cols : List (List ℕ)). f (put_row (a ∷ w) cols)) ([] ∷ [])) (words_over n line))
+    (λ (a : ℕ). total (λ (u : List ℕ). total (λ (rest : List (List ℕ)). f ((a ∷ u) ∷ rest)) (fillings_over n (put_row line []))) ([] ∷ []))
+    (λ a. put_sum n line [] (λ (cols : List (List ℕ)). f ((a ∷ []) ∷ cols)) ∙ sym (+ℤ_idr (total (λ (rest : List (List ℕ)). f ((a ∷ []) ∷ rest)) (fillings_over n (put_row line [])))))
+    (letters_at n p)
+    ∙ sym (words_sum n p [] (λ (u : List ℕ). total (λ (rest : List (List ℕ)). f (u ∷ rest)) (fillings_over n (put_row line []))))
+    ∙ sym (fillings_sum n (p ∷ []) (put_row line []) f)
+put_sum n (p ∷ line) (c ∷ columns) f =
+    words_sum n p line (λ (w : List ℕ). total (λ (cols : List (List ℕ)). f (put_row w cols)) (fillings_over n (c ∷ columns)))
+    ∙ total_ext
+    (λ (a : ℕ). total (λ (w : List ℕ). total (λ (cols : List (List ℕ)). f (put_row (a ∷ w) cols)) (fillings_over n (c ∷ columns))) (words_over n line))
+    (λ (a : ℕ). total (λ (u : List ℕ). total (λ (rest : List (List ℕ)). f ((a ∷ u) ∷ rest)) (fillings_over n (put_row line columns))) (words_over n c))
+    (λ a. here a (λ u. put_sum n line columns (λ (cols : List (List ℕ)). f ((a ∷ u) ∷ cols))))
+    (letters_at n p)
+    ∙ sym (words_sum n p c (λ (u : List ℕ). total (λ (rest : List (List ℕ)). f (u ∷ rest)) (fillings_over n (put_row line columns))))
+    ∙ sym (fillings_sum n (p ∷ c) (put_row line columns) f)
+  where
+    here : (a : ℕ)
+        → ((u : List ℕ) → total (λ (w : List ℕ). total (λ (cols : List (List ℕ)). f ((a ∷ u) ∷ put_row w cols)) (fillings_over n columns)) (words_over n line)
+        ≡ total (λ (rest : List (List ℕ)). f ((a ∷ u) ∷ rest)) (fillings_over n (put_row line columns)))
+        → total (λ (w : List ℕ). total (λ (cols : List (List ℕ)). f (put_row (a ∷ w) cols)) (fillings_over n (c ∷ columns))) (words_over n line)
+        ≡ total (λ (u : List ℕ). total (λ (rest : List (List ℕ)). f ((a ∷ u) ∷ rest)) (fillings_over n (put_row line columns))) (words_over n c)
+    here a lower =
+        total_ext (λ (w : List ℕ). total (λ (cols : List (List ℕ)). f (put_row (a ∷ w) cols)) (fillings_over n (c ∷ columns)))
+        (λ (w : List ℕ). total (λ (u : List ℕ). total (λ (rest : List (List ℕ)). f ((a ∷ u) ∷ put_row w rest)) (fillings_over n columns)) (words_over n c))
+        (λ w. fillings_sum n c columns (λ (cols : List (List ℕ)). f (put_row (a ∷ w) cols))) (words_over n line)
+        ∙ total_exchange (λ (w u : List ℕ). total (λ (rest : List (List ℕ)). f ((a ∷ u) ∷ put_row w rest)) (fillings_over n columns)) (words_over n line) (words_over n c)
+        ∙ total_ext (λ (u : List ℕ). total (λ (w : List ℕ). total (λ (rest : List (List ℕ)). f ((a ∷ u) ∷ put_row w rest)) (fillings_over n columns)) (words_over n line))
+        (λ (u : List ℕ). total (λ (rest : List (List ℕ)). f ((a ∷ u) ∷ rest)) (fillings_over n (put_row line columns)))
+        lower (words_over n c)
+
+-- the sum over the fillings of a pattern is the sum over the fillings of its columns
+pub transposed-sum : (n : ℕ) (pattern : List (List Bool)) (f : List (List ℕ) → ℤ)
+    → total (λ (rows : List (List ℕ)). f (transposed rows)) (fillings_over n pattern) ≡ total f (fillings_over n (transposed pattern))
+transposed-sum n [] f = refl
+transposed-sum n (line ∷ pattern) f =
+    fillings_sum n line pattern (λ (rows : List (List ℕ)). f (transposed rows))
+    ∙ total_ext (λ (w : List ℕ). total (λ (rest : List (List ℕ)). f (put_row w (transposed rest))) (fillings_over n pattern))
+    (λ (w : List ℕ). total (λ (cols : List (List ℕ)). f (put_row w cols)) (fillings_over n (transposed pattern)))
+    (λ w. transposed-sum n pattern (λ (cols : List (List ℕ)). f (put_row w cols))) (words_over n line)
+    ∙ put_sum n line (transposed pattern) f

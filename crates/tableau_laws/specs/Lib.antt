@@ -1,0 +1,3 @@
+pub mod PaddedRows
+pub mod Grid
+pub mod ColumnFold
