@@ -1,0 +1,268 @@
+-- Codes: a permutation and its code determine each other.
+use Rattle.std.proofs.Common.{◌≡◌, ℕ, zero, suc, ◌+◌, ◌<◌, ◌≤◌, List, [], ◌∷◌, ◌++◌, length, get_or, refl, sym, ◌∙◌, ap, ap₂, subst, arith, inl, inr, ◌⊎◌, cond, nat_lt, pos, append_assoc, replicate}
+use Rattle.std.specs.List.{remove}
+use Rattle.std.proofs.lemmas.Int.{ints}
+use Rattle.std.proofs.lemmas.List.{append-nil}
+use Rattle.std.proofs.lemmas.Bool.{cases_eq, cases_lt}
+use Rattle.sym_model.specs.Sum.{total, Among, Once, Within}
+use Rattle.sym_model.specs.Partition.{size, after}
+use Rattle.sym_model.specs.PlaceOrders.{places, smaller, inversions}
+use Rattle.sym_model.specs.Permutation.{IsOneLine, kept, code, IsCode, letters_by_code, from_code}
+use Rattle.sym_model.proofs.Sums.{total_within}
+use Rattle.schubert_laws.proofs.Dominant.{counted, not_counted}
+use Rattle.schubert_laws.proofs.FixedLetters.{code_added}
+use Rattle.schubert_laws.proofs.FixedTails.{one_line_next, next_after, one_line_kept}
+use Rattle.schubert_laws.proofs.LowerPermutations.{kept_whole}
+use Rattle.schubert_laws.proofs.PathsFromOne.{below_next}
+use Rattle.schubert_laws.proofs.Swaps.{among_get}
+use Rattle.sym_model.proofs.AfterLists.{length_after, after_among, among_after}
+
+-- ---- the code of a list
+
+pub inversions-code : (w : List ℕ) → inversions w ≡ size (code w)
+inversions-code [] = refl
+inversions-code (a ∷ w) = ap (λ n. smaller a w + n) (inversions-code w)
+
+pub length-code : (w : List ℕ) → length (code w) ≡ length w
+length-code [] = refl
+length-code (a ∷ w) = ap suc (length-code w)
+
+counts_one : (x y : ℕ) → cond {A = ℕ} (nat_lt x y) 1 0 ≤ 1
+counts_one x y = elim (cases_lt x y) [ inl l ↦ let c = counted x y l in omega arith | inr l ↦ let c = not_counted x y l in omega arith ]
+
+smaller_most : (a : ℕ) (w : List ℕ) → smaller a w ≤ length w
+smaller_most a [] = omega arith
+smaller_most a (b ∷ w) = let e = smaller_most a w in let c = counts_one b a in omega arith
+
+pub code_is_code : (w : List ℕ) → IsCode (code w)
+code_is_code [] = tt
+code_is_code (a ∷ w) = (let e = smaller_most a w in let l = length-code w in omega arith, code_is_code w)
+
+-- ---- rising lists
+
+abbrev Ascends : List ℕ → Type 0
+Ascends [] = Unit {0}
+Ascends (x ∷ l) = ((y : ℕ) → Among y l → x < y) × Ascends l
+
+ascends_after : (a k : ℕ) → Ascends (after a k)
+ascends_after a zero = tt
+ascends_after a (suc k) = (λ y m. (after_among (a + 1) k y m).0, ascends_after (a + 1) k)
+
+among_remove : (y c : ℕ) (l : List ℕ) → Among y (remove l c) → Among y l
+among_remove y zero [] m = m
+among_remove y (suc c) [] m = m
+among_remove y zero (x ∷ l) m = inr m
+among_remove y (suc c) (x ∷ l) (inl e) = inl e
+among_remove y (suc c) (x ∷ l) (inr m) = inr (among_remove y c l m)
+
+ascends_remove : (c : ℕ) (l : List ℕ) → Ascends l → Ascends (remove l c)
+ascends_remove zero [] a = tt
+ascends_remove (suc c) [] a = tt
+ascends_remove zero (x ∷ l) a = a.1
+ascends_remove (suc c) (x ∷ l) a = (λ y m. a.0 y (among_remove y c l m), ascends_remove c l a.1)
+
+length-remove : (c : ℕ) (l : List ℕ) → c < length l → suc (length (remove l c)) ≡ length l
+length-remove c [] h = absurd (omega arith)
+length-remove zero (x ∷ l) h = refl
+length-remove (suc c) (x ∷ l) h = ap suc (length-remove c l (omega arith))
+
+smaller-remove : (x c : ℕ) (l : List ℕ) → c < length l → cond (nat_lt (get_or l c 0) x) 1 0 + smaller x (remove l c) ≡ smaller x l
+smaller-remove x c [] h = absurd (omega arith)
+smaller-remove x zero (y ∷ l) h = refl
+smaller-remove x (suc c) (y ∷ l) h = let e = smaller-remove x c l (omega arith) in omega arith
+
+smaller_none : (x : ℕ) (l : List ℕ) → ((y : ℕ) → Among y l → x ≤ y) → smaller x l ≡ 0
+smaller_none x [] h = refl
+smaller_none x (y ∷ l) h = let c = not_counted y x (h y (inl refl)) in let e = smaller_none x l (λ z m. h z (inr m)) in omega arith
+
+weak : (x : ℕ) (l : List ℕ) → ((y : ℕ) → Among y l → x < y) → (y : ℕ) → Among y l → x ≤ y
+weak x l h y m = let k = h y m in omega arith
+
+-- the entry with c smaller ones is that after the first c
+smaller_index : (c : ℕ) (l : List ℕ) → Ascends l → c < length l → smaller (get_or l c 0) l ≡ c
+smaller_index c [] a h = absurd (omega arith)
+smaller_index zero (x ∷ l) a h = let n = not_counted x x (omega arith) in let e = smaller_none x l (weak x l a.0) in omega arith
+smaller_index (suc c) (x ∷ l) a h =
+    let e = smaller_index c l a.1 (omega arith) in
+    let n = counted x (get_or l c 0) (a.0 (get_or l c 0) (among_get c 0 l (omega arith))) in
+    omega arith
+
+-- ---- from a code to its letters
+
+-- the letters are those that were left
+smaller-letters : (x : ℕ) (cs l : List ℕ) → IsCode cs → length l ≡ length cs → smaller x (letters_by_code cs l) ≡ smaller x l
+smaller-letters x [] l i e = refl
+smaller-letters x (c ∷ cs) l i e =
+    let i0 = i.0 in
+    let n = length-remove c l (omega arith) in
+    let r = smaller-letters x cs (remove l c) i.1 (omega arith) in
+    let s = smaller-remove x c l (omega arith) in
+    omega arith
+
+pub length-letters : (cs l : List ℕ) → IsCode cs → length l ≡ length cs → length (letters_by_code cs l) ≡ length l
+length-letters [] l i e = refl
+length-letters (c ∷ cs) l i e =
+    let i0 = i.0 in
+    let n = length-remove c l (omega arith) in
+    let r = length-letters cs (remove l c) i.1 (omega arith) in
+    omega arith
+
+code-letters : (cs l : List ℕ) → IsCode cs → length l ≡ length cs → Ascends l → code (letters_by_code cs l) ≡ cs
+code-letters [] [] i e a = refl
+code-letters [] (x ∷ l) i e a = absurd (omega arith)
+code-letters (c ∷ cs) l i e a =
+    let i0 = i.0 in
+    let n = length-remove c l (omega arith) in
+    let s = smaller-letters (get_or l c 0) cs (remove l c) i.1 (omega arith) in
+    let t = smaller-remove (get_or l c 0) c l (omega arith) in
+    let u = smaller_index c l a (omega arith) in
+    let z = not_counted (get_or l c 0) (get_or l c 0) (omega arith) in
+    ap₂ ◌∷◌ (omega arith) (code-letters cs (remove l c) i.1 (omega arith) (ascends_remove c l a))
+
+among-letters : (y : ℕ) (cs l : List ℕ) → IsCode cs → length l ≡ length cs → Among y (letters_by_code cs l) → Among y l
+among-letters y [] l i e m = m
+among-letters y (c ∷ cs) l i e m =
+    let i0 = i.0 in
+    let n = length-remove c l (omega arith) in
+    by (among_get c 0 l (omega arith)) m (among-letters y cs (remove l c) i.1 (omega arith))
+  where
+    by : Among (get_or l c 0) l → (y ≡ get_or l c 0) ⊎ Among y (letters_by_code cs (remove l c)) → (Among y (letters_by_code cs (remove l c)) → Among y (remove l c)) → Among y l
+    by g (inl d) rec = subst (λ z. Among z l) (sym d) g
+    by g (inr k) rec = among_remove y c l (rec k)
+
+removed_gone : (c : ℕ) (l : List ℕ) → Ascends l → c < length l → Among (get_or l c 0) (remove l c) → ⊥
+removed_gone c [] a h m = omega arith
+removed_gone zero (x ∷ l) a h m = let k = a.0 x m in omega arith
+removed_gone (suc c) (x ∷ l) a h (inl e) = let k = a.0 (get_or l c 0) (among_get c 0 l (omega arith)) in omega arith
+removed_gone (suc c) (x ∷ l) a h (inr m) = removed_gone c l a.1 (omega arith) m
+
+once_ascends : (l : List ℕ) → Ascends l → Once l
+once_ascends [] a = tt
+once_ascends (x ∷ l) a = (λ m. let k = a.0 x m in omega arith, once_ascends l a.1)
+
+once-letters : (cs l : List ℕ) → IsCode cs → length l ≡ length cs → Ascends l → Once (letters_by_code cs l)
+once-letters [] l i e a = once_ascends l a
+once-letters (c ∷ cs) l i e a =
+    let i0 = i.0 in
+    let n = length-remove c l (omega arith) in (
+      λ m. removed_gone c l a (omega arith) (among-letters (get_or l c 0) cs (remove l c) i.1 (omega arith) m),
+      once-letters cs (remove l c) i.1 (omega arith) (ascends_remove c l a),
+    )
+
+pub one_line_letters : (cs : List ℕ) → IsCode cs → IsOneLine (letters_by_code cs (places (length cs)))
+one_line_letters cs i =
+    let e = length_after 0 (length cs) in
+    let n = length-letters cs (places (length cs)) i e in
+    record {
+      letters = λ a m. let r = after_among 0 (length cs) a (among-letters a cs (places (length cs)) i e m) in let p = r.0 in let q = r.1 in (omega arith, omega arith);
+      once = once-letters cs (places (length cs)) i e (ascends_after 0 (length cs));
+    }
+
+pub one_line_from_code : (cs : List ℕ) → IsCode cs → IsOneLine (from_code cs)
+one_line_from_code cs i = one_line_kept (letters_by_code cs (places (length cs))) (one_line_letters cs i)
+
+-- ---- with zeros at the end
+
+code_zeros : (k : ℕ) (w : List ℕ) → IsOneLine w → code (w ++ after (length w) k) ≡ code w ++ replicate k 0
+code_zeros zero w o = ap code (append-nil w) ∙ sym (append-nil (code w))
+code_zeros (suc k) w o =
+    ap code (next_after w k)
+    ∙ code_zeros k (w ++ ((length w + 1) ∷ [])) (one_line_next w o)
+    ∙ ap (λ c. c ++ replicate k 0) (code_added (length w + 1) w (below_next w o))
+    ∙ append_assoc (code w) (0 ∷ []) (replicate k 0)
+
+pub code_from_code : (cs : List ℕ) → IsCode cs → (k : ℕ) × (code (from_code cs) ++ replicate k 0 ≡ cs)
+code_from_code cs i =
+    let u : List ℕ = letters_by_code cs (places (length cs)) in
+    let t = kept_whole (letters_by_code cs (places (length cs))) in (
+      t.0,
+      sym (code_zeros t.0 (from_code cs) (one_line_from_code cs i))
+          ∙ ap code (sym t.1)
+          ∙ code-letters cs (places (length cs)) i (length_after 0 (length cs)) (ascends_after 0 (length cs)),
+    )
+
+-- ---- and back
+
+-- as many entries below each number
+record IsRearranged (w l : List ℕ) : Type 0 where
+  pub lengths : length l ≡ length w
+  pub counts : (x : ℕ) → smaller x w ≡ smaller x l
+
+-- an entry of a rising list stands after the smaller ones
+found : (a : ℕ) (l : List ℕ) → Ascends l → smaller a l < smaller (suc a) l → get_or l (smaller a l) 0 ≡ a
+found a [] s h = absurd (omega arith)
+found a (y ∷ l) s h = elim (cases_lt y a) [
+  | inl k ↦
+      let p = counted y a k in
+      let q = counted y (suc a) (omega arith) in
+      let r = found a l s.1 (omega arith) in
+      let e : smaller a (y ∷ l) ≡ suc (smaller a l) = omega arith in
+      ap (λ n. get_or (y ∷ l) n 0) e ∙ r
+  | inr k ↦ elim (cases_eq y a) [
+    | inl d ↦
+        let p = not_counted y a k in
+        let z = smaller_none a l (λ x m. let g = s.0 x m in omega arith) in
+        let e : smaller a (y ∷ l) ≡ 0 = omega arith in
+        ap (λ n. get_or (y ∷ l) n 0) e ∙ d
+    | inr n ↦
+        let p = not_counted y (suc a) (omega arith) in
+        let z = smaller_none (suc a) l (λ x m. let g = s.0 x m in omega arith) in
+        absurd (omega arith)
+  ]
+]
+
+letters-code : (w l : List ℕ) → Ascends l → IsRearranged w l → letters_by_code (code w) l ≡ w
+letters-code [] [] s r = refl
+letters-code [] (x ∷ l) s r = absurd (let e = r.lengths in omega arith)
+letters-code (a ∷ w) l s r =
+    let rl = r.lengths in
+    let own = not_counted a a (omega arith) in
+    let here = r.counts a in
+    let next = r.counts (suc a) in
+    let up = counted a (suc a) (omega arith) in
+    let more = smaller_grows a w in
+    let c : smaller a w ≡ smaller a l = omega arith in
+    let inside = smaller_below_length a l (omega arith) in
+    let at = ap (λ n. get_or l n 0) c ∙ found a l s (omega arith) in
+    let n = length-remove (smaller a w) l (omega arith) in
+    ap₂ ◌∷◌ at (letters-code w (remove l (smaller a w)) (ascends_remove (smaller a w) l s) (record {
+      lengths = omega arith;
+      counts = λ x.
+          let t = smaller-remove x (smaller a w) l (omega arith) in
+          let u = r.counts x in
+          let v = ap (λ y. cond {A = ℕ} (nat_lt y x) 1 0) at in
+          omega arith;
+    }))
+  where
+    smaller_grows : (b : ℕ) (v : List ℕ) → smaller b v ≤ smaller (suc b) v
+    smaller_grows b [] = omega arith
+    smaller_grows b (y ∷ v) = let e = smaller_grows b v in elim (cases_lt y b) [
+      | inl k ↦ let p = counted y b k in let q = counted y (suc b) (omega arith) in omega arith
+      | inr k ↦ let p = not_counted y b k in omega arith
+    ]
+
+    smaller_below_length : (b : ℕ) (v : List ℕ) → smaller b v < smaller (suc b) v → smaller b v < length v
+    smaller_below_length b v h = let m = smaller_most (suc b) v in omega arith
+
+-- a permutation rearranges the places
+smaller_total : (x : ℕ) (w : List ℕ) → pos (smaller x w) ≡ total (λ b. pos (cond (nat_lt b x) 1 0)) w
+smaller_total x [] = refl
+smaller_total x (b ∷ w) = let e = smaller_total x w in omega (arith, ints)
+
+pub from_code-code : (w : List ℕ) → IsOneLine w → from_code (code w) ≡ kept w
+from_code-code w o =
+    ap (λ n. kept (letters_by_code (code w) (places n))) (length-code w)
+    ∙ ap kept (letters-code w (places (length w)) (ascends_after 0 (length w)) (record { lengths = length_after 0 (length w); counts = counts }))
+  where
+    inside : Within w (places (length w))
+    inside a m = let r = o.letters a m in let p = r.0 in let q = r.1 in among_after 0 (length w) a (omega arith) (omega arith)
+
+    counts : (x : ℕ) → smaller x w ≡ smaller x (places (length w))
+    counts x =
+        let e = total_within (λ b. pos (cond (nat_lt b x) 1 0)) (places (length w)) w o.once inside (sym (length_after 0 (length w))) in
+        let p = smaller_total x w in
+        let q = smaller_total x (places (length w)) in
+        omega (arith, ints)
+
+pub code_of_letters : (cs : List ℕ) → IsCode cs → code (letters_by_code cs (places (length cs))) ≡ cs
+code_of_letters cs i = code-letters cs (places (length cs)) i (length_after 0 (length cs)) (ascends_after 0 (length cs))

@@ -1,0 +1,210 @@
+-- The Schubert polynomial of a dominant list: where the code falls, it is the monomial of the code. And the code of a
+-- list with a fixed letter added.
+use Rattle.std.proofs.Common.{◌≡◌, ℕ, zero, suc, ◌+◌, ◌<◌, ◌≤◌, List, [], ◌∷◌, length, refl, sym, ◌∙◌, ap, ap₂, subst, arith, inl, inr, ◌⊎◌, cond, nat_lt, Bool, true, false, None, ℤ}
+use Rattle.std.proofs.lemmas.Int.{ints}
+use Rattle.std.proofs.lemmas.Bool.{cases_eq, cases_lt, lt-ltb, ltb-true, ltb-false}
+use lib.IntN.{+ℤ_idr}
+use Rattle.sym_model.specs.Sum.{Among, Once}
+use Rattle.sym_model.specs.Polynomial.{Same, pair, coefficient}
+use Rattle.sym_model.specs.Partition.{Falls}
+use Rattle.sym_model.specs.PlaceOrders.{smaller}
+use Rattle.sym_model.specs.Alternant.{staircase}
+use Rattle.sym_model.specs.BetaList.{rising_pairs}
+use Rattle.sym_model.specs.Permutation.{code, first_ascent}
+use Rattle.sym_model.specs.DividedDifference.{x_to, differences_after}
+use Rattle.sym_model.specs.Schubert.{schubert, schubert_over}
+use Rattle.sym_model.proofs.Ring.{one-product}
+use Rattle.sym_model.proofs.SortedParts.{Falls_tail}
+use Rattle.sym_model.proofs.Polynomials.{same_from_pair}
+use Rattle.schubert_laws.proofs.Climbs.{across}
+use Rattle.schubert_laws.proofs.Differences.{along, pair_differences}
+use Rattle.schubert_laws.proofs.Exchanges.{exchange_at, Rises, IsFirstAscent, first_ascent_cases, rising_pairs_exchange, length-exchange_at}
+use Rattle.schubert_laws.proofs.DifferenceLaws.{differences_respect}
+use Rattle.schubert_laws.proofs.Paths.{over_top, over_first}
+
+pub pair_x_to : (α : List ℕ) (φ : List ℕ → ℤ) → pair (x_to α) φ ≡ φ α
+pair_x_to α φ = +ℤ_idr _ ∙ one-product (φ α)
+
+-- ---- lists of different letters
+
+pub not_less : (x y : ℕ) → y ≤ x → nat_lt x y ≡ false
+not_less x y h = by (nat_lt x y) refl
+  where
+    by : (t : Bool) → nat_lt x y ≡ t → t ≡ false
+    by true e = absurd (omega (arith, ltb-true x y e))
+    by false e = refl
+
+pub counted : (x y : ℕ) → x < y → cond {A = ℕ} (nat_lt x y) 1 0 ≡ 1
+counted x y h = ap (λ t. cond t 1 0) (lt-ltb x y h)
+
+pub not_counted : (x y : ℕ) → y ≤ x → cond {A = ℕ} (nat_lt x y) 1 0 ≡ 0
+not_counted x y h = ap (λ t. cond t 1 0) (not_less x y h)
+
+pub smaller_exchange : (x k : ℕ) (w : List ℕ) → smaller x (exchange_at k w) ≡ smaller x w
+smaller_exchange x zero [] = refl
+smaller_exchange x zero (a ∷ []) = refl
+smaller_exchange x zero (a ∷ b ∷ w) = omega arith
+smaller_exchange x (suc k) [] = refl
+smaller_exchange x (suc k) (a ∷ w) = ap (λ n. cond (nat_lt a x) 1 0 + n) (smaller_exchange x k w)
+
+pub among_exchange : (x k : ℕ) (w : List ℕ) → Among x (exchange_at k w) → Among x w
+among_exchange x zero [] m = m
+among_exchange x zero (a ∷ []) m = m
+among_exchange x zero (a ∷ b ∷ w) (inl e) = inr (inl e)
+among_exchange x zero (a ∷ b ∷ w) (inr (inl e)) = inl e
+among_exchange x zero (a ∷ b ∷ w) (inr (inr m)) = inr (inr m)
+among_exchange x (suc k) [] m = m
+among_exchange x (suc k) (a ∷ w) (inl e) = inl e
+among_exchange x (suc k) (a ∷ w) (inr m) = inr (among_exchange x k w m)
+
+pub once_exchange : (k : ℕ) (w : List ℕ) → Once w → Once (exchange_at k w)
+once_exchange zero [] o = o
+once_exchange zero (a ∷ []) o = o
+once_exchange zero (a ∷ b ∷ w) o = (apart, (λ m. o.0 (inr m), o.1.1))
+  where
+    apart : Among b (a ∷ w) → ⊥
+    apart (inl e) = o.0 (inl (sym e))
+    apart (inr m) = o.1.0 m
+once_exchange (suc k) [] o = o
+once_exchange (suc k) (a ∷ w) o = (λ m. o.0 (among_exchange a k w m), once_exchange k w o.1)
+
+smaller_step : (a b : ℕ) (w : List ℕ) → a ≤ b → smaller a w ≤ smaller b w
+smaller_step a b [] h = omega arith
+smaller_step a b (c ∷ w) h = by (nat_lt c a) refl (nat_lt c b) refl (smaller_step a b w h)
+  where
+    by : (s : Bool) → nat_lt c a ≡ s → (t : Bool) → nat_lt c b ≡ t → smaller a w ≤ smaller b w → cond s 1 0 + smaller a w ≤ cond t 1 0 + smaller b w
+    by true e true d l = omega arith
+    by true e false d l = absurd (omega (arith, ltb-true c a e, ltb-false c b d))
+    by false e true d l = omega arith
+    by false e false d l = omega arith
+
+-- ---- no ascent: the code is the staircase
+
+-- each letter is greater than the next, since the letters differ and none rises
+pub smaller_of_all : (a : ℕ) (w : List ℕ) → ((x : ℕ) → Among x w → x < a) → smaller a w ≡ length w
+smaller_of_all a [] h = refl
+smaller_of_all a (b ∷ w) h =
+    let e = lt-ltb b a (h b (inl refl)) in
+    let r = smaller_of_all a w (λ x m. h x (inr m)) in
+    rw e (omega arith)
+
+pub greater_head : (a : ℕ) (w : List ℕ) → Once (a ∷ w) → ((k : ℕ) → Rises k (a ∷ w) → ⊥) → (x : ℕ) → Among x w → x < a
+greater_head a [] o n x m = absurd m
+greater_head a (b ∷ w) o n x m = by m (greater_head b w o.1 (λ k. n (suc k)))
+  where
+    below : b < a
+    below = elim (cases_lt b a) [ inl l ↦ l | inr l ↦ elim (cases_eq a b) [ inl e ↦ absurd (o.0 (inl e)) | inr d ↦ absurd (n 0 (strict d l)) ] ]
+      where
+        strict : (a ≡ b → ⊥) → a ≤ b → a < b
+        strict d l = omega arith
+
+    by : (x ≡ b) ⊎ Among x w → ((y : ℕ) → Among y w → y < b) → x < a
+    by (inl e) rest = let h = below in omega arith
+    by (inr k) rest = let h = below in let r = rest x k in omega arith
+
+pub code_no_ascent : (w : List ℕ) → Once w → ((k : ℕ) → Rises k w → ⊥) → code w ≡ staircase (length w)
+code_no_ascent [] o n = refl
+code_no_ascent (a ∷ w) o n = ap₂ ◌∷◌ (smaller_of_all a w (greater_head a w o n)) (code_no_ascent w o.1 (λ k. n (suc k)))
+
+abbrev first_or : ℕ → List ℕ → ℕ
+first_or d [] = d
+first_or d (a ∷ w) = a
+
+strict : (a b : ℕ) → (a ≡ b → ⊥) → (a < b → ⊥) → b < a
+strict a b d n = elim (cases_lt b a) [ inl l ↦ l | inr l ↦ absurd (n (omega arith)) ]
+
+-- ---- the step: with the first ascent exchanged the code has one more where the two entries were equal
+
+-- two entries after the first k are equal, and the first of them is one greater in the other list
+abbrev pub IsOneUp : ℕ → List ℕ → List ℕ → Type 0
+IsOneUp k [] d = ⊥
+IsOneUp zero (a ∷ []) d = ⊥
+IsOneUp zero (a ∷ b ∷ c) d = (a ≡ b) × (d ≡ suc a ∷ b ∷ c)
+IsOneUp (suc k) (a ∷ c) [] = ⊥
+IsOneUp (suc k) (a ∷ c) (b ∷ d) = (a ≡ b) × IsOneUp k c d
+
+climb_one : (φ : ℕ → ℕ → ℤ) (a n : ℕ) → n ≡ suc a → across φ n a ≡ φ a a
+climb_one φ a n e = rw e (omega (arith, ints))
+
+along_one_up : (k : ℕ) (c d : List ℕ) (φ : List ℕ → ℤ) → IsOneUp k c d → along k φ d ≡ φ c
+along_one_up k [] d φ u = absurd u
+along_one_up zero (a ∷ []) d φ u = absurd u
+along_one_up zero (a ∷ b ∷ c) d φ u =
+    ap (along 0 φ) u.1
+    ∙ climb_one (λ x y. φ (x ∷ y ∷ c)) b (suc a) (ap suc u.0)
+    ∙ ap (λ x. φ (x ∷ b ∷ c)) (sym u.0)
+along_one_up (suc k) (a ∷ c) [] φ u = absurd u
+along_one_up (suc k) (a ∷ c) (b ∷ d) φ u = along_one_up k c d (λ β. φ (b ∷ β)) u.1 ∙ ap (λ x. φ (x ∷ c)) (sym u.0)
+
+one_up : (k : ℕ) (w : List ℕ) → Falls (code w) → Rises k w → IsOneUp k (code w) (code (exchange_at k w))
+one_up k [] f r = absurd r
+one_up zero (a ∷ []) f r = absurd r
+one_up zero (a ∷ b ∷ w) f r =
+    let h = f.0 in
+    let s = smaller_step a b w (omega arith) in
+    let d = not_counted b a (omega arith) in
+    let u = counted a b r in
+    (omega arith, ap₂ (λ x y. x ∷ y ∷ code w) (omega arith) (omega arith))
+one_up (suc k) (a ∷ w) f r = (sym (smaller_exchange a k w), one_up k w (Falls_tail (smaller a w) (code w) f) r)
+
+smaller_below : (a b : ℕ) (w : List ℕ) → b < a → suc (smaller b w) ≤ smaller a (b ∷ w)
+smaller_below a b w h =
+    let e = counted b a h in
+    let s = smaller_step b a w (omega arith) in
+    omega arith
+
+falls_exchange : (k : ℕ) (w : List ℕ) → Once w → Falls (code w) → Rises k w → ((j : ℕ) → j < k → Rises j w → ⊥) → Falls (code (exchange_at k w))
+falls_exchange k [] o f r n = absurd r
+falls_exchange zero (a ∷ []) o f r n = absurd r
+falls_exchange zero (a ∷ b ∷ w) o f r n =
+    let u = one_up zero (a ∷ b ∷ w) f r in
+    let d = not_counted b a (omega arith) in
+    let e : smaller b w ≡ smaller a w = let h = u.0 in omega arith in
+    (omega (arith, e), subst (λ x. Falls (x ∷ code w)) e f.1)
+falls_exchange (suc zero) (a ∷ []) o f r n = absurd r
+falls_exchange (suc zero) (a ∷ b ∷ []) o f r n = absurd r
+falls_exchange (suc zero) (a ∷ b ∷ c ∷ w) o f r n =
+    let rest = falls_exchange zero (b ∷ c ∷ w) o.1 f.1 r (λ j h. absurd (omega arith)) in
+    let u = (one_up zero (b ∷ c ∷ w) f.1 r).1 in
+    let l = smaller_below a b (c ∷ w) (strict a b (λ e. o.0 (inl e)) (n zero (omega arith))) in
+    let x = smaller_exchange a zero (b ∷ c ∷ w) in
+    let h = ap (first_or 0) u in
+    (omega (arith, h), rest)
+falls_exchange (suc (suc k)) (a ∷ []) o f r n = absurd r
+falls_exchange (suc (suc k)) (a ∷ b ∷ w) o f r n =
+    let rest = falls_exchange (suc k) (b ∷ w) o.1 f.1 r (λ j h s. n (suc j) (omega arith) s) in
+    let x = smaller_exchange a (suc k) (b ∷ w) in
+    let y = smaller_exchange b k w in
+    let h = f.0 in
+    (omega arith, rest)
+
+-- ---- dominant lists
+
+pub over_exchange : (w : List ℕ) (k : ℕ) → schubert_over (x_to (staircase (length w))) (exchange_at k w) ≡ schubert (exchange_at k w)
+over_exchange w k = ap (λ n. schubert_over (x_to (staircase n)) (exchange_at k w)) (sym (length-exchange_at k w))
+
+difference_one_up : (k : ℕ) (c d : List ℕ) → IsOneUp k c d → Same (differences_after k (x_to d)) (x_to c)
+difference_one_up k c d u =
+    same_from_pair (differences_after k (x_to d)) (x_to c) (λ φ.
+    pair_differences k (x_to d) φ ∙ pair_x_to d (along k φ) ∙ along_one_up k c d φ u ∙ sym (pair_x_to c φ))
+
+dominant_within : (n : ℕ) (w : List ℕ) → rising_pairs w < n → Once w → Falls (code w) → Same (schubert w) (x_to (code w))
+dominant_within zero w b o f = absurd (omega arith)
+dominant_within (suc n) w b o f = by (first_ascent_cases w) (λ v c p q. dominant_within n v c p q)
+  where
+    by : ((j : ℕ) × IsFirstAscent w j) ⊎ ((first_ascent w ≡ None) × ((j : ℕ) → Rises j w → ⊥))
+        → ((v : List ℕ) → rising_pairs v < n → Once v → Falls (code v) → Same (schubert v) (x_to (code v))) → Same (schubert w) (x_to (code w))
+    by (inl found) rec α =
+        let k : ℕ = found.0 in
+        let r = found.1.rises in
+        let e = rising_pairs_exchange k w r in
+        ap (λ u. coefficient u α) (over_first (x_to (staircase (length w))) w k found.1 ∙ ap (differences_after k) (over_exchange w k))
+        ∙ differences_respect k (schubert (exchange_at k w)) (x_to (code (exchange_at k w)))
+        (rec (exchange_at k w) (omega arith) (once_exchange k w o) (falls_exchange k w o f r found.1.first)) α
+        ∙ difference_one_up k (code w) (code (exchange_at k w)) (one_up k w f r) α
+    by (inr none) rec α =
+        ap (λ u. coefficient u α) (over_top (x_to (staircase (length w))) (rising_pairs w) w none.0 ∙ ap x_to (sym (code_no_ascent w o none.1)))
+
+-- where the code of different letters falls, the Schubert polynomial is the monomial of the code
+pub dominant : (w : List ℕ) → Once w → Falls (code w) → Same (schubert w) (x_to (code w))
+dominant w o f = dominant_within (suc (rising_pairs w)) w (omega arith) o f

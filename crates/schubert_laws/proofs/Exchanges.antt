@@ -1,0 +1,136 @@
+-- Neighbours exchanged, and one entry raised, by recursion on the place, counted from 0.
+--     exchange_at k w     the entries after the first k and k + 1 exchanged: `exchanged` as a recursion
+--     raise k α           one more at the entry after the first k: the exponents of a product with a variable
+--     Rises k w           the entry after the first k is smaller than the next
+use Rattle.std.proofs.Common.{◌≡◌, ℕ, zero, suc, ◌+◌, ◌-◌, ◌<◌, ◌≤◌, List, [], ◌∷◌, ◌++◌, length, replicate, set, get_or, refl, ap, ap₂, arith, inl, inr, ◌⊎◌, cond, nat_lt, Bool, true, false, Some, None}
+use Rattle.std.specs.List.{swap}
+use Rattle.std.proofs.lemmas.Bool.{lt-ltb, ltb-true, ltb-false}
+use Rattle.sym_model.specs.Polynomial.{join}
+use Rattle.sym_model.specs.BetaList.{greater, rising_pairs}
+use Rattle.sym_model.specs.Permutation.{exchanged, first_ascent}
+
+abbrev pub exchange_at : ℕ → List ℕ → List ℕ
+exchange_at zero [] = []
+exchange_at zero (a ∷ []) = a ∷ []
+exchange_at zero (a ∷ b ∷ w) = b ∷ a ∷ w
+exchange_at (suc k) [] = []
+exchange_at (suc k) (a ∷ w) = a ∷ exchange_at k w
+
+abbrev pub raise : ℕ → List ℕ → List ℕ
+raise k [] = []
+raise zero (a ∷ α) = suc a ∷ α
+raise (suc k) (a ∷ α) = a ∷ raise k α
+
+abbrev pub Rises : ℕ → List ℕ → Type 0
+Rises k [] = ⊥
+Rises zero (a ∷ []) = ⊥
+Rises zero (a ∷ b ∷ w) = a < b
+Rises (suc k) (a ∷ w) = Rises k w
+
+pub length-exchange_at : (k : ℕ) (w : List ℕ) → length (exchange_at k w) ≡ length w
+length-exchange_at zero [] = refl
+length-exchange_at zero (a ∷ []) = refl
+length-exchange_at zero (a ∷ b ∷ w) = refl
+length-exchange_at (suc k) [] = refl
+length-exchange_at (suc k) (a ∷ w) = ap suc (length-exchange_at k w)
+
+pub exchange_twice : (k : ℕ) (w : List ℕ) → exchange_at k (exchange_at k w) ≡ w
+exchange_twice zero [] = refl
+exchange_twice zero (a ∷ []) = refl
+exchange_twice zero (a ∷ b ∷ w) = refl
+exchange_twice (suc k) [] = refl
+exchange_twice (suc k) (a ∷ w) = ap (λ v. a ∷ v) (exchange_twice k w)
+
+pub length-raise : (k : ℕ) (α : List ℕ) → length (raise k α) ≡ length α
+length-raise k [] = refl
+length-raise zero (a ∷ α) = refl
+length-raise (suc k) (a ∷ α) = ap suc (length-raise k α)
+
+-- the exponents of a product with a variable
+pub join_raise : (k : ℕ) (α : List ℕ) → k < length α → join (replicate k 0 ++ (1 ∷ [])) α ≡ raise k α
+join_raise k [] h = absurd (omega arith)
+join_raise zero (a ∷ α) h = let e : 1 + a ≡ suc a = omega arith in ap (λ b. b ∷ α) e
+join_raise (suc k) (a ∷ α) h = let e : 0 + a ≡ a = omega arith in ap₂ ◌∷◌ e (join_raise k α (omega arith))
+
+-- ---- `exchanged` is this exchange
+
+set_two : (k : ℕ) (w : List ℕ) (d : ℕ) → suc k < length w → set (set w k (get_or w (suc k) d)) (suc k) (get_or w k d) ≡ exchange_at k w
+set_two k [] d h = absurd (omega arith)
+set_two zero (a ∷ []) d h = absurd (omega arith)
+set_two zero (a ∷ b ∷ w) d h = refl
+set_two (suc k) (a ∷ w) d h = ap (λ v. a ∷ v) (set_two k w d (omega arith))
+
+swap_neighbours : (k : ℕ) (w : List ℕ) → suc k < length w → swap w k (suc k) ≡ exchange_at k w
+swap_neighbours k [] h = absurd (omega arith)
+swap_neighbours k (d ∷ w) h = set_two k (d ∷ w) d h
+
+pub exchanged_is : (k : ℕ) (w : List ℕ) → suc k < length w → exchanged (suc k) w ≡ exchange_at k w
+exchanged_is k w h =
+    let e : suc k - 1 ≡ k = omega arith in
+    let f : suc k + 1 - 1 ≡ suc k = omega arith in
+    rw (e, f) (swap_neighbours k w h)
+
+pub rises_within : (k : ℕ) (w : List ℕ) → Rises k w → suc k < length w
+rises_within k [] r = absurd r
+rises_within zero (a ∷ []) r = absurd r
+rises_within zero (a ∷ b ∷ w) r = omega arith
+rises_within (suc k) (a ∷ w) r = let h = rises_within k w r in omega arith
+
+-- ---- an ascent exchanged takes away one pair in rising order
+
+pub greater_exchange : (x k : ℕ) (w : List ℕ) → greater x (exchange_at k w) ≡ greater x w
+greater_exchange x zero [] = refl
+greater_exchange x zero (a ∷ []) = refl
+greater_exchange x zero (a ∷ b ∷ w) = omega arith
+greater_exchange x (suc k) [] = refl
+greater_exchange x (suc k) (a ∷ w) = ap (λ n. cond (nat_lt x a) 1 0 + n) (greater_exchange x k w)
+
+pub rising_pairs_exchange : (k : ℕ) (w : List ℕ) → Rises k w → rising_pairs w ≡ suc (rising_pairs (exchange_at k w))
+rising_pairs_exchange k [] r = absurd r
+rising_pairs_exchange zero (a ∷ []) r = absurd r
+rising_pairs_exchange zero (a ∷ b ∷ w) r =
+    let e = lt-ltb a b r in
+    let f : nat_lt b a ≡ false = not_less b a (omega arith) in
+    rw (e, f) (omega arith)
+  where
+    not_less : (x y : ℕ) → y ≤ x → nat_lt x y ≡ false
+    not_less x y h = by (nat_lt x y) refl
+      where
+        by : (t : Bool) → nat_lt x y ≡ t → t ≡ false
+        by true e = absurd (omega (arith, ltb-true x y e))
+        by false e = refl
+rising_pairs_exchange (suc k) (a ∷ w) r =
+    let h = rising_pairs_exchange k w r in
+    let g = greater_exchange a k w in
+    omega arith
+
+-- ---- the first ascent
+
+-- the first ascent is after the first k entries, and no entry before is smaller than the next
+pub record IsFirstAscent (w : List ℕ) (k : ℕ) : Type 0 where
+  pub is : first_ascent w ≡ Some (suc k)
+  pub rises : Rises k w
+  pub first : (j : ℕ) → j < k → Rises j w → ⊥
+
+pub first_ascent_cases : (w : List ℕ) → ((k : ℕ) × IsFirstAscent w k) ⊎ ((first_ascent w ≡ None) × ((k : ℕ) → Rises k w → ⊥))
+first_ascent_cases [] = inr (refl, λ k r. r)
+first_ascent_cases (a ∷ []) = inr (refl, none)
+  where
+    none : (k : ℕ) → Rises k (a ∷ []) → ⊥
+    none zero r = r
+    none (suc k) r = r
+first_ascent_cases (a ∷ b ∷ w) = by (nat_lt a b) refl (first_ascent_cases (b ∷ w))
+  where
+    by : (t : Bool) → nat_lt a b ≡ t → ((k : ℕ) × IsFirstAscent (b ∷ w) k) ⊎ ((first_ascent (b ∷ w) ≡ None) × ((k : ℕ) → Rises k (b ∷ w) → ⊥))
+        → ((k : ℕ) × IsFirstAscent (a ∷ b ∷ w) k) ⊎ ((first_ascent (a ∷ b ∷ w) ≡ None) × ((k : ℕ) → Rises k (a ∷ b ∷ w) → ⊥))
+    by true e rest = inl (0, record { is = rw e refl; rises = ltb-true a b e; first = λ j h r. absurd (omega arith) })
+    by false e (inl found) = inl (suc found.0, record { is = rw (e, found.1.is) refl; rises = found.1.rises; first = earlier })
+      where
+        earlier : (j : ℕ) → j < suc found.0 → Rises j (a ∷ b ∷ w) → ⊥
+        earlier zero h r = omega (arith, ltb-false a b e)
+        earlier (suc j) h r = found.1.first j (omega arith) r
+    by false e (inr none) = inr (rw (e, none.0) refl, no)
+      where
+        no : (k : ℕ) → Rises k (a ∷ b ∷ w) → ⊥
+        no zero r = omega (arith, ltb-false a b e)
+        no (suc k) r = none.1 k r

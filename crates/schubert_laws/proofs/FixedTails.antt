@@ -1,0 +1,183 @@
+-- Fixed letters: added to a permutation up to a place, and dropped at its end.
+--     one_line_added     with fixed letters added it is a permutation still
+--     schubert_added     and has the same Schubert polynomial in n variables, as has the kept list
+--     inversions_added   and as many inversions
+use Rattle.std.proofs.Common.{◌≡◌, ℕ, zero, suc, ◌+◌, ◌<◌, ◌≤◌, List, [], ◌∷◌, ◌++◌, length, refl, sym, ◌∙◌, ap, ap₂, subst, arith, inl, inr, cond, ◌==◌, Bool, true, false, length-append, append_assoc, eqb-true, eq-eqb}
+use Rattle.std.proofs.lemmas.List.{append-nil}
+use Rattle.std.proofs.lemmas.Bool.{cases_lt}
+use Rattle.sym_model.specs.Sum.{Among, Once}
+use Rattle.sym_model.specs.Polynomial.{Same, coefficient}
+use Rattle.sym_model.specs.Partition.{after}
+use Rattle.sym_model.specs.PlaceOrders.{smaller, inversions}
+use Rattle.sym_model.specs.BetaList.{greater, rising_pairs}
+use Rattle.sym_model.specs.Permutation.{IsOneLine, in_front_unless_fixed, without_fixed_from, kept}
+use Rattle.sym_model.specs.Schubert.{schubert_in}
+use Rattle.sym_model.proofs.Sums.{Among_from_append, Among-append_left, Among-append_right}
+use Rattle.schubert_laws.proofs.Dominant.{counted, not_counted}
+use Rattle.schubert_laws.proofs.FixedLetters.{once_added, smaller_added}
+use Rattle.schubert_laws.proofs.PathsFromOne.{below_next, fixed_letter_in}
+use Rattle.sym_model.proofs.AfterLists.{length_after, among_after}
+
+-- ---- the numbers after a
+
+pub after_more : (a j k : ℕ) → after a (j + k) ≡ after a j ++ after (a + j) k
+after_more a zero k = let e : 0 + k ≡ k = omega arith in let d : a ≡ a + 0 = omega arith in ap₂ after d e
+after_more a (suc j) k =
+    let e : suc j + k ≡ suc (j + k) = omega arith in
+    let d : a + 1 + j ≡ a + suc j = omega arith in
+    ap (after a) e ∙ ap (λ l. (a + 1) ∷ l) (after_more (a + 1) j k ∙ ap (λ b. after (a + 1) j ++ after b k) d)
+
+-- ---- fixed letters added one at a time
+
+pub one_line_next : (w : List ℕ) → IsOneLine w → IsOneLine (w ++ ((length w + 1) ∷ []))
+one_line_next w o = record { letters = letters; once = once_added (length w + 1) w o.once (below_next w o) }
+  where
+    letters : (a : ℕ) → Among a (w ++ ((length w + 1) ∷ [])) → (1 ≤ a) × (a ≤ length (w ++ ((length w + 1) ∷ [])))
+    letters a m =
+        let l = length-append w ((length w + 1) ∷ []) in
+        elim (Among_from_append a w ((length w + 1) ∷ []) m) [
+          | inl i ↦ let r = o.letters a i in let p = r.0 in let q = r.1 in (omega arith, omega arith)
+          | inr (inl e) ↦ (omega arith, omega arith)
+          | inr (inr e) ↦ absurd e
+        ]
+
+pub next_after : (w : List ℕ) (k : ℕ) → w ++ after (length w) (suc k) ≡ (w ++ ((length w + 1) ∷ [])) ++ after (length (w ++ ((length w + 1) ∷ []))) k
+next_after w k =
+    let l = length-append w ((length w + 1) ∷ []) in
+    let e : length (w ++ ((length w + 1) ∷ [])) ≡ length w + 1 = omega arith in
+    sym (append_assoc w ((length w + 1) ∷ []) (after (length w + 1) k)) ∙ ap (λ n. (w ++ ((length w + 1) ∷ [])) ++ after n k) (sym e)
+
+pub one_line_added : (k : ℕ) (w : List ℕ) → IsOneLine w → IsOneLine (w ++ after (length w) k)
+one_line_added zero w o = subst IsOneLine (sym (append-nil w)) o
+one_line_added (suc k) w o = subst IsOneLine (sym (next_after w k)) (one_line_added k (w ++ ((length w + 1) ∷ [])) (one_line_next w o))
+
+pub schubert_added : (k : ℕ) (w : List ℕ) (n : ℕ) → IsOneLine w → Same (schubert_in (w ++ after (length w) k) n) (schubert_in w n)
+schubert_added zero w n o = λ α. ap (λ v. coefficient (schubert_in v n) α) (append-nil w)
+schubert_added (suc k) w n o = λ α.
+    ap (λ v. coefficient (schubert_in v n) α) (next_after w k)
+    ∙ schubert_added k (w ++ ((length w + 1) ∷ [])) n (one_line_next w o) α
+    ∙ fixed_letter_in w n o α
+
+inversions_next : (m : ℕ) (w : List ℕ) → ((a : ℕ) → Among a w → a < m) → inversions (w ++ (m ∷ [])) ≡ inversions w
+inversions_next m [] h = refl
+inversions_next m (a ∷ w) h = let e = inversions_next m w (λ b i. h b (inr i)) in let s = smaller_added a m w (h a (inl refl)) in omega arith
+
+pub inversions_added : (k : ℕ) (w : List ℕ) → IsOneLine w → inversions (w ++ after (length w) k) ≡ inversions w
+inversions_added zero w o = ap inversions (append-nil w)
+inversions_added (suc k) w o =
+    ap inversions (next_after w k)
+    ∙ inversions_added k (w ++ ((length w + 1) ∷ [])) (one_line_next w o)
+    ∙ inversions_next (length w + 1) w (below_next w o)
+
+-- ---- fixed letters dropped
+
+-- what is dropped are the numbers that follow
+abbrev pub IsTail : ℕ → List ℕ → List ℕ → Type 0
+IsTail p v w = (k : ℕ) × (w ≡ v ++ after (p + length v) k)
+
+dropped_last : (p i a : ℕ) (w : List ℕ) (t : Bool) → (a == i) ≡ t → i ≡ p + 1 → IsTail (p + 1) [] w → IsTail p (cond t [] (a ∷ [])) (a ∷ w)
+dropped_last p i a w true e d r = let q = eqb-true a i e in (suc r.0, ap₂ ◌∷◌ (omega arith) (r.1 ∙ ap (λ n. after n r.0) (omega arith)))
+dropped_last p i a w false e d r = (r.0, ap (λ u. a ∷ u) (r.1 ∙ ap (λ n. after n r.0) (omega arith)))
+
+dropped : (p i : ℕ) (w : List ℕ) → i ≡ p + 1 → IsTail p (without_fixed_from i w) w
+dropped p i [] e = (0, refl)
+dropped p i (a ∷ w) e = by (without_fixed_from (i + 1) w) (dropped (p + 1) (i + 1) w (ap (λ n. n + 1) e))
+  where
+    by : (v : List ℕ) → IsTail (p + 1) v w → IsTail p (in_front_unless_fixed i a v) (a ∷ w)
+    by [] r = dropped_last p i a w (a == i) refl e r
+    by (b ∷ v) r = (r.0, ap (λ u. a ∷ u) (r.1 ∙ ap (λ n. (b ∷ v) ++ after n r.0) (omega arith)))
+
+pub kept_tail : (w : List ℕ) → IsTail 0 (kept w) w
+kept_tail [] = (0, refl)
+kept_tail (a ∷ w) =
+    let r = dropped 1 2 w refl in
+    (r.0, ap (λ u. a ∷ u) (r.1 ∙ ap (λ n. without_fixed_from 2 w ++ after n r.0) (omega arith)))
+
+once_front : (v u : List ℕ) → Once (v ++ u) → Once v
+once_front [] u o = tt
+once_front (a ∷ v) u o = (λ m. o.0 (Among-append_left a v u m), once_front v u o.1)
+
+once_apart : (v u : List ℕ) (x : ℕ) → Once (v ++ u) → Among x v → Among x u → ⊥
+once_apart [] u x o m n = m
+once_apart (a ∷ v) u x o (inl e) n = o.0 (Among-append_right a v u (subst (λ y. Among y u) e n))
+once_apart (a ∷ v) u x o (inr m) n = once_apart v u x o.1 m n
+
+one_line_front : (v : List ℕ) (k : ℕ) → IsOneLine (v ++ after (0 + length v) k) → IsOneLine v
+one_line_front v k o = record { letters = letters; once = once_front v (after (0 + length v) k) o.once }
+  where
+    letters : (a : ℕ) → Among a v → (1 ≤ a) × (a ≤ length v)
+    letters a m =
+        let l = length-append v (after (0 + length v) k) in
+        let n = length_after (0 + length v) k in
+        let r = o.letters a (Among-append_left a v (after (0 + length v) k) m) in
+        let p = r.0 in
+        let q = r.1 in (
+          p,
+          elim (cases_lt (length v) a) [
+            | inl f ↦ absurd (once_apart v (after (0 + length v) k) a o.once m (among_after (0 + length v) k a (omega arith) (omega arith)))
+            | inr f ↦ f
+          ],
+        )
+
+pub one_line_kept : (w : List ℕ) → IsOneLine w → IsOneLine (kept w)
+one_line_kept w o = let t = kept_tail w in one_line_front (kept w) t.0 (subst IsOneLine t.1 o)
+
+tail_from_zero : (v : List ℕ) (k : ℕ) → v ++ after (0 + length v) k ≡ v ++ after (length v) k
+tail_from_zero v k = let e : 0 + length v ≡ length v = omega arith in ap (λ n. v ++ after n k) e
+
+pub schubert_kept : (w : List ℕ) (n : ℕ) → IsOneLine w → Same (schubert_in (kept w) n) (schubert_in w n)
+schubert_kept w n o α =
+    let t = kept_tail w in
+    sym (schubert_added t.0 (kept w) n (one_line_kept w o) α) ∙ ap (λ v. coefficient (schubert_in v n) α) (sym (t.1 ∙ tail_from_zero (kept w) t.0))
+
+pub inversions_kept : (w : List ℕ) → IsOneLine w → inversions (kept w) ≡ inversions w
+inversions_kept w o =
+    let t = kept_tail w in
+    sym (inversions_added t.0 (kept w) (one_line_kept w o)) ∙ ap inversions (sym (t.1 ∙ tail_from_zero (kept w) t.0))
+
+-- ---- of different letters each pair rises or is an inversion
+
+pairs : ℕ → ℕ
+pairs zero = 0
+pairs (suc n) = n + pairs n
+
+greater_or_smaller : (a : ℕ) (w : List ℕ) → (Among a w → ⊥) → greater a w + smaller a w ≡ length w
+greater_or_smaller a [] n = refl
+greater_or_smaller a (b ∷ w) n =
+    let e = greater_or_smaller a w (λ m. n (inr m)) in
+    elim (cases_lt a b) [
+      | inl l ↦ let p = counted a b l in let q = not_counted b a (omega arith) in omega arith
+      | inr l ↦ let q = counted b a (strict (λ d. n (inl d)) l) in let p = not_counted a b l in omega arith
+    ]
+  where
+    strict : (a ≡ b → ⊥) → b ≤ a → b < a
+    strict d l = omega arith
+
+rising_or_inversion : (w : List ℕ) → Once w → rising_pairs w + inversions w ≡ pairs (length w)
+unfolding pairs
+rising_or_inversion [] o = refl
+rising_or_inversion (a ∷ w) o = let e = rising_or_inversion w o.1 in let g = greater_or_smaller a w o.0 in omega arith
+
+-- so w has one rising pair more than v exactly where it has one inversion less
+pub one_more_inversion : (w v : List ℕ) → Once w → Once v → length v ≡ length w → rising_pairs w ≡ suc (rising_pairs v) → inversions v ≡ inversions w + 1
+one_more_inversion w v o p l e = let a = rising_or_inversion w o in let b = rising_or_inversion v p in let c = ap pairs l in omega arith
+
+pub one_less_rising : (w v : List ℕ) → Once w → Once v → length v ≡ length w → inversions v ≡ inversions w + 1 → rising_pairs w ≡ suc (rising_pairs v)
+one_less_rising w v o p l e = let a = rising_or_inversion w o in let b = rising_or_inversion v p in let c = ap pairs l in omega arith
+
+-- ---- fixed letters change neither the kept letters nor the swaps
+
+dropped_added : (p i k : ℕ) (w : List ℕ) → i ≡ p + 1 → without_fixed_from i (w ++ after (p + length w) k) ≡ without_fixed_from i w
+dropped_added p i zero [] e = refl
+dropped_added p i (suc k) [] e =
+    let d : p + 0 + 1 ≡ i = omega arith in
+    let f : p + 0 + 1 ≡ p + 1 + 0 = omega arith in
+    let r = ap (λ n. without_fixed_from (i + 1) (after n k)) f ∙ dropped_added (p + 1) (i + 1) k [] (omega arith) in
+    ap (in_front_unless_fixed i (p + 0 + 1)) r ∙ ap (λ t. cond t [] ((p + 0 + 1) ∷ [])) (eq-eqb (p + 0 + 1) i d)
+dropped_added p i k (a ∷ w) e =
+    let f : p + length (a ∷ w) ≡ p + 1 + length w = omega arith in
+    ap (λ n. in_front_unless_fixed i a (without_fixed_from (i + 1) (w ++ after n k))) f ∙ ap (in_front_unless_fixed i a) (dropped_added (p + 1) (i + 1) k w (omega arith))
+
+pub kept_added : (w : List ℕ) (k : ℕ) → 0 < length w → kept (w ++ after (length w) k) ≡ kept w
+kept_added [] k h = absurd (omega arith)
+kept_added (a ∷ w) k h = let e : suc (length w) ≡ 1 + length w = omega arith in ap (λ n. a ∷ without_fixed_from 2 (w ++ after n k)) e ∙ ap (λ v. a ∷ v) (dropped_added 1 2 k w refl)

@@ -1,0 +1,240 @@
+-- Monk's rule for permutations in every number of variables, with places counted from 1.
+use Rattle.std.proofs.Common.{◌≡◌, ℕ, zero, suc, ◌+◌, ◌-◌, ◌<◌, ◌≤◌, max, List, [], ◌∷◌, ◌++◌, map, length, get_or, set, refl, sym, ◌∙◌, ap, ap₂, subst, arith, cond, ◌==◌, ℤ, pos, ◌+ℤ◌, neg_ℤ, length-append, append_assoc, eqb-true, eq-eqb}
+use Rattle.std.specs.List.{swap}
+use Rattle.std.proofs.Math.ListN.{get_or-append}
+use Rattle.std.proofs.lemmas.Int.{ints}
+use Rattle.std.proofs.lemmas.List.{append-nil}
+use Rattle.sym_model.specs.Sum.{total, Once}
+use Rattle.sym_model.specs.Polynomial.{Poly, Same, plus, negate, times, pair, nothing, resize, fits_in, restrict}
+use Rattle.sym_model.specs.Partition.{after}
+use Rattle.sym_model.specs.PlaceOrders.{inversions}
+use Rattle.sym_model.specs.Alternant.{staircase}
+use Rattle.sym_model.specs.BetaList.{rising_pairs}
+use Rattle.sym_model.specs.Permutation.{IsOneLine, kept, times_swap, covers_among, covers_up, covers_down}
+use Rattle.sym_model.specs.DividedDifference.{x_to, variable, variable_in}
+use Rattle.sym_model.specs.Schubert.{schubert, schubert_over, schubert_in, schuberts_in}
+use Rattle.sym_model.proofs.Exponents.{tests_agree}
+use Rattle.sym_model.proofs.Sums.{total_among, total_append, total_map, total_select, total_neg}
+use Rattle.sym_model.proofs.Polynomials.{pair_plus, pair_negate, pair_each, pair_restrict, pair_determined, same_from_pair, Same_refl, Same_sym, times_respects}
+use Rattle.sym_model.proofs.PolynomialLaws.{restrict-times}
+use Rattle.schubert_laws.proofs.DifferenceLaws.{variable_after}
+use Rattle.schubert_laws.proofs.DifferencesFromOne.{variable_is}
+use Rattle.schubert_laws.proofs.FixedTails.{after_more, one_line_added, schubert_added, inversions_added, schubert_kept, inversions_kept, one_more_inversion, one_less_rising}
+use Rattle.schubert_laws.proofs.PathsFromOne.{below_next}
+use Rattle.schubert_laws.proofs.Swaps.{swap_at, length-swap_at, default_free, among_swap, once_swap}
+use Rattle.schubert_laws.proofs.PlaceSums.{sum_below, sum_below_ext}
+use Rattle.schubert_laws.proofs.MonkStep.{covered, value, signed_up, signed_down, signed_same, covered_sym, IsMonk}
+use Rattle.schubert_laws.proofs.MonkRule.{no_factors, monk_last, over_swap}
+use Rattle.sym_model.proofs.AfterLists.{length_after, after_among}
+
+-- ---- std's swap is the swap of proofs
+
+sets_are_swap : (w : List ℕ) (i j d : ℕ) → i < length w → j < length w → set (set w i (get_or w j d)) j (get_or w i d) ≡ swap_at i j w
+sets_are_swap [] i j d h l = absurd (omega arith)
+sets_are_swap (x ∷ w) zero zero d h l = refl
+sets_are_swap (x ∷ w) zero (suc j) d h l = ap (λ y. y ∷ set w j x) (default_free w j d x (omega arith))
+sets_are_swap (x ∷ w) (suc i) zero d h l = ap (λ y. y ∷ set w i x) (default_free w i d x (omega arith))
+sets_are_swap (x ∷ w) (suc i) (suc j) d h l = ap (λ v. x ∷ v) (sets_are_swap w i j d (omega arith) (omega arith))
+
+pub swap_is : (w : List ℕ) (i j : ℕ) → i < length w → j < length w → swap w i j ≡ swap_at i j w
+swap_is [] i j h l = absurd (omega arith)
+swap_is (d ∷ w) i j h l = sets_are_swap (d ∷ w) i j d h l
+
+set_append : (w : List ℕ) (b x : ℕ) (z : List ℕ) → b < length w → set (w ++ z) b x ≡ set w b x ++ z
+set_append [] b x z h = absurd (omega arith)
+set_append (y ∷ w) zero x z h = refl
+set_append (y ∷ w) (suc b) x z h = ap (λ v. y ∷ v) (set_append w b x z (omega arith))
+
+one_append : (w : List ℕ) (b x : ℕ) (z : List ℕ) → b < length w → get_or (w ++ z) b x ∷ set (w ++ z) b x ≡ get_or w b x ∷ (set w b x ++ z)
+one_append w b x z h = ap₂ ◌∷◌ (get_or-append w z x b h) (set_append w b x z h)
+
+pub swap_at_append : (a b : ℕ) (w z : List ℕ) → a < length w → b < length w → swap_at a b (w ++ z) ≡ swap_at a b w ++ z
+swap_at_append a b [] z h l = absurd (omega arith)
+swap_at_append zero zero (x ∷ w) z h l = refl
+swap_at_append zero (suc b) (x ∷ w) z h l = one_append w b x z (omega arith)
+swap_at_append (suc a) zero (x ∷ w) z h l = one_append w a x z (omega arith)
+swap_at_append (suc a) (suc b) (x ∷ w) z h l = ap (λ v. x ∷ v) (swap_at_append a b w z (omega arith) (omega arith))
+
+pub one_line_swap : (a b : ℕ) (w : List ℕ) → a < length w → b < length w → IsOneLine w → IsOneLine (swap_at a b w)
+one_line_swap a b w h l o = record {
+  letters = λ x m. let r = o.letters x (among_swap x a b w h l m) in (r.0, subst (λ n. x ≤ n) (sym (length-swap_at a b w)) r.1);
+  once = once_swap a b w h l o.once;
+}
+
+-- ---- sums over places as sums over lists of places
+
+sum_after : (n a : ℕ) (f : ℕ → ℤ) → sum_below n (λ b. f (a + b)) ≡ total (λ i. f (i - 1)) (after a n)
+sum_after zero a f = refl
+sum_after (suc n) a f =
+    let d : a + 0 ≡ a + 1 - 1 = omega arith in
+    ap₂ ◌+ℤ◌ (ap f d) (sum_below_ext n (λ b. f (a + suc b)) (λ b. f (a + 1 + b)) (λ b h. let e : a + suc b ≡ a + 1 + b = omega arith in ap f e) ∙ sum_after n (a + 1) f)
+
+sum_split : (n q : ℕ) (f : ℕ → ℤ) → q < n
+    → sum_below n f ≡ total (λ i. f (i - 1)) (after 0 q) +ℤ (f q +ℤ total (λ i. f (i - 1)) (after (q + 1) (n - (q + 1))))
+sum_split n q f h =
+    let t : q + suc (n - (q + 1)) ≡ n = omega arith in
+    let e : 0 + q ≡ q = omega arith in
+    let d : q + 1 - 1 ≡ q = omega arith in
+    let a = sum_below_ext n f (λ b. f (0 + b)) (λ b l. let z : b ≡ 0 + b = omega arith in ap f z) in
+    let b = sum_after n 0 f in
+    let c = ap (λ l. total (λ i. f (i - 1)) l) (ap (after 0) (sym t) ∙ after_more 0 q (suc (n - (q + 1))) ∙ ap (λ s. after 0 q ++ after s (suc (n - (q + 1)))) e) in
+    let p = total_append (λ i. f (i - 1)) (after 0 q) ((q + 1) ∷ after (q + 1) (n - (q + 1))) in
+    let g = ap f d in
+    omega (arith, ints)
+
+-- ---- one term
+
+-- the test function of a restriction
+abbrev pub within : ℕ → (List ℕ → ℤ) → List ℕ → ℤ
+within n φ α = cond (fits_in n α) (φ (resize n α)) (pos 0)
+
+-- w with fixed letters up to k + 1 places more
+abbrev pub longer : List ℕ → ℕ → List ℕ
+longer w k = w ++ after (length w) (k + 1)
+
+abbrev pub top_of : List ℕ → Poly
+top_of w = x_to (staircase (length w))
+
+-- what φ gives on the Schubert polynomial in n variables, if v is a cover of w
+abbrev pub cover_value : ℕ → (List ℕ → ℤ) → List ℕ → List ℕ → ℤ
+cover_value n φ w v = cond (inversions v == inversions w + 1) (pair (schubert_in v n) φ) (pos 0)
+
+cover_tests : (n : ℕ) (φ : List ℕ → ℤ) (g : Poly) (ψ : List ℕ → ℤ) (w long v x : List ℕ) → Once long → Once v → length v ≡ length long
+    → inversions long ≡ inversions w → inversions x ≡ inversions v → pair (schubert_over g v) ψ ≡ pair (schubert_in x n) φ
+    → cond (rising_pairs long == suc (rising_pairs v)) (pair (schubert_over g v) ψ) (pos 0) ≡ cover_value n φ w x
+cover_tests n φ g ψ w long v x o p l e f q =
+    ap₂ (λ t z. cond t z (pos 0))
+    (tests_agree (rising_pairs long == suc (rising_pairs v)) (inversions x == inversions w + 1)
+    (λ t. let a = one_more_inversion long v o p l (eqb-true (rising_pairs long) (suc (rising_pairs v)) t) in eq-eqb (inversions x) (inversions w + 1) (omega arith))
+    (λ t. let a = eqb-true (inversions x) (inversions w + 1) t in eq-eqb (rising_pairs long) (suc (rising_pairs v)) (one_less_rising long v o p l (omega arith))))
+    q
+
+longer_split : (w : List ℕ) (k m : ℕ) → m ≤ k + 1 → longer w k ≡ (w ++ after (length w) m) ++ after (length (w ++ after (length w) m)) (k + 1 - m)
+longer_split w k m h =
+    let e : k + 1 ≡ m + (k + 1 - m) = omega arith in
+    let l = length-append w (after (length w) m) in
+    let a = length_after (length w) m in
+    let d : length w + m ≡ length (w ++ after (length w) m) = omega arith in
+    ap (λ t. w ++ after (length w) t) e
+    ∙ ap (λ t. w ++ t) (after_more (length w) m (k + 1 - m))
+    ∙ sym (append_assoc w (after (length w) m) (after (length w + m) (k + 1 - m)))
+    ∙ ap (λ t. (w ++ after (length w) m) ++ after t (k + 1 - m)) d
+
+-- a list u with fixed letters added up to a longer one, and its swap
+swap_added : (u : List ℕ) (t a b : ℕ) → a < length u → b < length u → swap_at a b (u ++ after (length u) t) ≡ swap_at a b u ++ after (length (swap_at a b u)) t
+swap_added u t a b h l = swap_at_append a b u (after (length u) t) h l ∙ ap (λ n. swap_at a b u ++ after n t) (sym (length-swap_at a b u))
+
+pair_within : (n : ℕ) (φ : List ℕ → ℤ) (a b : ℕ) (long : List ℕ) → pair (schubert_over (top_of long) (swap_at a b long)) (within n φ) ≡ pair (schubert_in (swap_at a b long) n) φ
+pair_within n φ a b long = ap (λ f. pair f (within n φ)) (over_swap a b long) ∙ sym (pair_restrict n (schubert (swap_at a b long)) φ)
+
+-- the term of places a and b of u with t fixed letters added is that of the kept swap of u
+term_added : (n : ℕ) (φ : List ℕ → ℤ) (w u : List ℕ) (t a b : ℕ) → IsOneLine u → a < length u → b < length u → inversions u ≡ inversions w
+    → covered (top_of (u ++ after (length u) t)) (within n φ) (u ++ after (length u) t) a b ≡ cover_value n φ w (kept (swap u a b))
+term_added n φ w u t a b o h l e =
+    let os = one_line_swap a b u h l o in
+    let ou = one_line_added t u o in
+    let sa = swap_added u t a b h l in
+    let k : kept (swap_at a b u) ≡ kept (swap u a b) = ap kept (sym (swap_is u a b h l)) in
+    let len = length-swap_at a b (u ++ after (length u) t) in
+    cover_tests n φ (top_of (u ++ after (length u) t)) (within n φ) w (u ++ after (length u) t) (swap_at a b (u ++ after (length u) t)) (kept (swap u a b))
+    ou.once
+    (subst Once (sym sa) (one_line_added t (swap_at a b u) os).once)
+    len
+    (inversions_added t u o ∙ e)
+    (ap inversions (sym k) ∙ inversions_kept (swap_at a b u) os ∙ sym (inversions_added t (swap_at a b u) os) ∙ ap inversions (sym sa))
+    (pair_within n φ a b (u ++ after (length u) t)
+    ∙ ap (λ v. pair (schubert_in v n) φ) sa
+    ∙ pair_determined (schubert_in (swap_at a b u ++ after (length (swap_at a b u)) t) n) (schubert_in (swap_at a b u) n) φ (schubert_added t (swap_at a b u) n os)
+    ∙ sym (pair_determined (schubert_in (kept (swap_at a b u)) n) (schubert_in (swap_at a b u) n) φ (schubert_kept (swap_at a b u) n os))
+    ∙ ap (λ v. pair (schubert_in v n) φ) k)
+
+pub cover_term : (n : ℕ) (φ : List ℕ → ℤ) (w : List ℕ) (k i j : ℕ) → IsOneLine w → 1 ≤ i → i < j → j ≤ length w + k + 1
+    → covered (top_of (longer w k)) (within n φ) (longer w k) (i - 1) (j - 1) ≡ cover_value n φ w (times_swap i j w)
+cover_term n φ w k i j o c h l =
+    let m : ℕ = j - length w in
+    let la = length-append w (after (length w) (j - length w)) in
+    let lb = length_after (length w) (j - length w) in
+    let s = longer_split w k (j - length w) (omega arith) in
+    subst (λ v. covered (top_of v) (within n φ) v (i - 1) (j - 1) ≡ cover_value n φ w (times_swap i j w)) (sym s)
+    (term_added n φ w (w ++ after (length w) (j - length w)) (k + 1 - (j - length w)) (i - 1) (j - 1)
+    (one_line_added (j - length w) w o) (omega arith) (omega arith) (inversions_added (j - length w) w o))
+
+-- ---- Monk's rule
+
+whole_longer : (w : List ℕ) (k : ℕ) → longer w k ≡ (w ++ after (length w) k) ++ ((length (w ++ after (length w) k) + 1) ∷ [])
+whole_longer w k =
+    let la = length-append w (after (length w) k) in
+    let lb = length_after (length w) k in
+    let d : length w + k + 1 ≡ length (w ++ after (length w) k) + 1 = omega arith in
+    ap (λ t. w ++ t) (after_more (length w) k 1)
+    ∙ sym (append_assoc w (after (length w) k) ((length w + k + 1) ∷ []))
+    ∙ ap (λ t. (w ++ after (length w) k) ++ (t ∷ [])) d
+
+monk_longer : (w : List ℕ) (k q : ℕ) → IsOneLine w → q < length w + k → IsMonk (top_of (longer w k)) no_factors (longer w k) q
+monk_longer w k q o h =
+    let v : List ℕ = w ++ after (length w) k in
+    let ov = one_line_added k w o in
+    let la = length-append w (after (length w) k) in
+    let lb = length_after (length w) k in
+    subst (λ u. IsMonk (top_of u) no_factors u q) (sym (whole_longer w k))
+    (monk_last (length (w ++ after (length w) k) + 1) q (w ++ after (length w) k) ov.once (below_next (w ++ after (length w) k) ov) (omega arith))
+
+-- the sum over the covers of a list of places
+pub pair_covers : (n : ℕ) (φ : List ℕ → ℤ) (w : List ℕ) (f : ℕ → List ℕ) (js : List ℕ)
+    → pair (schuberts_in (covers_among w (map f js)) n) φ ≡ total (λ j. cover_value n φ w (f j)) js
+pair_covers n φ w f js =
+    pair_each (λ (v : List ℕ). schubert_in v n) (covers_among w (map f js)) φ
+    ∙ total_select (λ (v : List ℕ). pair (schubert_in v n) φ) (λ (v : List ℕ). inversions v == inversions w + 1) (map f js)
+    ∙ total_map (cover_value n φ w) f js
+
+-- the left side
+pair_left : (n : ℕ) (φ : List ℕ → ℤ) (w : List ℕ) (k q : ℕ) → IsOneLine w
+    → pair (times (variable_in (suc q) n) (schubert_in w n)) φ ≡ pair (times (plus (variable_after q) nothing) (schubert (longer w k))) (within n φ)
+pair_left n φ w k q o =
+    pair_determined (times (variable_in (suc q) n) (schubert_in w n)) (times (variable_in (suc q) n) (schubert_in (longer w k) n)) φ
+    (times_respects (variable_in (suc q) n) (variable_in (suc q) n) (schubert_in w n) (schubert_in (longer w k) n) (Same_refl (variable_in (suc q) n))
+    (Same_sym (schubert_in (longer w k) n) (schubert_in w n) (schubert_added (k + 1) w n o)))
+    ∙ sym (pair_determined (restrict n (times (variable (suc q)) (schubert (longer w k)))) (times (variable_in (suc q) n) (schubert_in (longer w k) n)) φ (restrict-times n (variable (suc q)) (schubert (longer w k))))
+    ∙ pair_restrict n (times (variable (suc q)) (schubert (longer w k))) φ
+    ∙ ap (λ x. pair (times x (schubert (longer w k))) (within n φ)) (variable_is q (suc q) refl ∙ sym (append-nil (variable_after q)))
+
+monk_at : (n q k : ℕ) (w : List ℕ) → IsOneLine w → k ≡ max (length w) (suc q) - length w
+    → Same (times (variable_in (suc q) n) (schubert_in w n)) (plus (schuberts_in (covers_up (suc q) w) n) (negate (schuberts_in (covers_down (suc q) w) n)))
+monk_at n q k w o e =
+    same_from_pair (times (variable_in (suc q) n) (schubert_in w n)) (plus (schuberts_in (covers_up (suc q) w) n) (negate (schuberts_in (covers_down (suc q) w) n))) (λ φ.
+    let long : List ℕ = longer w k in
+    let len = length-append w (after (length w) (k + 1)) in
+    let len2 = length_after (length w) (k + 1) in
+    let a = pair_left n φ w k q o in
+    let b = monk_longer w k q o (omega arith) (within n φ) in
+    let c = sum_split (length (longer w k)) q (value (top_of (longer w k)) (within n φ) (longer w k) q) (omega arith) in
+    let here = signed_same q q (covered (top_of (longer w k)) (within n φ) (longer w k) q q) refl in
+    let down = total_among (λ i. value (top_of (longer w k)) (within n φ) (longer w k) q (i - 1)) (λ i. neg_ℤ (cover_value n φ w (times_swap i (suc q) w))) (after 0 q) (λ i m.
+    let r = after_among 0 q i m in let x = r.0 in let y = r.1 in
+    let z : suc q - 1 ≡ q = omega arith in
+    signed_down q (i - 1) (covered (top_of (longer w k)) (within n φ) (longer w k) q (i - 1)) (omega arith)
+    ∙ ap neg_ℤ (covered_sym (top_of (longer w k)) (within n φ) (longer w k) q (i - 1)
+    ∙ ap (covered (top_of (longer w k)) (within n φ) (longer w k) (i - 1)) (sym z)
+    ∙ cover_term n φ w k i (suc q) o (omega arith) (omega arith) (omega arith))) in
+    let up = total_among (λ j. value (top_of (longer w k)) (within n φ) (longer w k) q (j - 1)) (λ j. cover_value n φ w (times_swap (suc q) j w)) (after (q + 1) (length (longer w k) - (q + 1))) (λ j m.
+    let r = after_among (q + 1) (length (longer w k) - (q + 1)) j m in let x = r.0 in let y = r.1 in
+    let z : suc q - 1 ≡ q = omega arith in
+    signed_up q (j - 1) (covered (top_of (longer w k)) (within n φ) (longer w k) q (j - 1)) (omega arith)
+    ∙ ap (λ t. covered (top_of (longer w k)) (within n φ) (longer w k) t (j - 1)) (sym z)
+    ∙ cover_term n φ w k (suc q) j o (omega arith) (omega arith) (omega arith)) in
+    let neg = total_neg (λ i. cover_value n φ w (times_swap i (suc q) w)) (after 0 q) in
+    let plus_is = pair_plus (schuberts_in (covers_up (suc q) w) n) (negate (schuberts_in (covers_down (suc q) w) n)) φ in
+    let neg_is = pair_negate (schuberts_in (covers_down (suc q) w) n) φ in
+    let s1 : q + 1 ≡ suc q = omega arith in
+    let s2 : length (longer w k) - (q + 1) ≡ max (length w) (suc q) + 1 - suc q = omega arith in
+    let s3 : q ≡ suc q - 1 = omega arith in
+    let ups = pair_covers n φ w (λ j. times_swap (suc q) j w) (after (suc q) (max (length w) (suc q) + 1 - suc q)) in
+    let downs = pair_covers n φ w (λ i. times_swap i (suc q) w) (after 0 (suc q - 1)) in
+    let u = ap (λ l. total (λ j. cover_value n φ w (times_swap (suc q) j w)) l) (ap₂ after s1 s2) in
+    let d = ap (λ t. total (λ i. cover_value n φ w (times_swap i (suc q) w)) (after 0 t)) s3 in
+    omega (arith, ints))
+
+pub monk_in : (w : List ℕ) (r n : ℕ) → IsOneLine w → 1 ≤ r
+    → Same (times (variable_in r n) (schubert_in w n)) (plus (schuberts_in (covers_up r w) n) (negate (schuberts_in (covers_down r w) n)))
+monk_in w zero n o h = λ α. absurd (omega arith)
+monk_in w (suc q) n o h = monk_at n q (max (length w) (suc q) - length w) w o refl

@@ -1,0 +1,297 @@
+-- Two entries of a list in each other's place, by recursion on their places, counted from 0, and what that does to
+-- counts of pairs.
+--     swap_at a b w        the entries at places a and b in each other's place
+--     moved k a            the place to which the exchange after the first k entries takes place a
+--     exchange_swap        such an exchange of a swapped list swaps the moved places of the exchanged list
+--     raises, lowers       swapping a falling pair makes more pairs rise; swapping a rising one no more
+use Rattle.std.proofs.Common.{◌≡◌, ℕ, zero, suc, ◌+◌, ◌<◌, ◌≤◌, List, [], ◌∷◌, length, get_or, set, refl, sym, ◌∙◌, ap, ap₂, subst, arith, inl, inr, ◌⊎◌, cond, nat_lt, length-set}
+use Rattle.std.proofs.lemmas.Bool.{cases_eq, cases_lt}
+use Rattle.sym_model.specs.Sum.{Among, Once}
+use Rattle.sym_model.specs.PlaceOrders.{smaller}
+use Rattle.sym_model.specs.BetaList.{greater, rising_pairs}
+use Rattle.schubert_laws.proofs.Exchanges.{exchange_at}
+use Rattle.schubert_laws.proofs.Dominant.{counted, not_counted}
+
+abbrev pub swap_at : ℕ → ℕ → List ℕ → List ℕ
+swap_at a b [] = []
+swap_at zero zero (x ∷ w) = x ∷ w
+swap_at zero (suc b) (x ∷ w) = get_or w b x ∷ set w b x
+swap_at (suc a) zero (x ∷ w) = get_or w a x ∷ set w a x
+swap_at (suc a) (suc b) (x ∷ w) = x ∷ swap_at a b w
+
+abbrev pub moved : ℕ → ℕ → ℕ
+moved zero zero = suc zero
+moved zero (suc zero) = zero
+moved zero (suc (suc a)) = suc (suc a)
+moved (suc k) zero = zero
+moved (suc k) (suc a) = suc (moved k a)
+
+pub swap_at_sym : (a b : ℕ) (w : List ℕ) → swap_at a b w ≡ swap_at b a w
+swap_at_sym a b [] = refl
+swap_at_sym zero zero (x ∷ w) = refl
+swap_at_sym zero (suc b) (x ∷ w) = refl
+swap_at_sym (suc a) zero (x ∷ w) = refl
+swap_at_sym (suc a) (suc b) (x ∷ w) = ap (λ v. x ∷ v) (swap_at_sym a b w)
+
+pub length-swap_at : (a b : ℕ) (w : List ℕ) → length (swap_at a b w) ≡ length w
+length-swap_at a b [] = refl
+length-swap_at zero zero (x ∷ w) = refl
+length-swap_at zero (suc b) (x ∷ w) = ap suc (length-set w b x)
+length-swap_at (suc a) zero (x ∷ w) = ap suc (length-set w a x)
+length-swap_at (suc a) (suc b) (x ∷ w) = ap suc (length-swap_at a b w)
+
+-- ---- moved places
+
+pub moved_twice : (k a : ℕ) → moved k (moved k a) ≡ a
+moved_twice zero zero = refl
+moved_twice zero (suc zero) = refl
+moved_twice zero (suc (suc a)) = refl
+moved_twice (suc k) zero = refl
+moved_twice (suc k) (suc a) = ap suc (moved_twice k a)
+
+pub moved_within : (k a n : ℕ) → suc k < n → a < n → moved k a < n
+moved_within zero zero n h l = h
+moved_within zero (suc zero) n h l = omega arith
+moved_within zero (suc (suc a)) n h l = l
+moved_within (suc k) zero n h l = l
+moved_within (suc k) (suc a) zero h l = absurd (omega arith)
+moved_within (suc k) (suc a) (suc n) h l = let m = moved_within k a n (omega arith) (omega arith) in omega arith
+
+-- the order of two places stays, but for the two that are exchanged
+pub moved_order : (k a b : ℕ) → a < b → (a ≡ k → b ≡ suc k → ⊥) → moved k a < moved k b
+moved_order k a zero h d = absurd (omega arith)
+moved_order zero zero (suc zero) h d = absurd (d refl refl)
+moved_order zero zero (suc (suc b)) h d = omega arith
+moved_order zero (suc zero) (suc zero) h d = absurd (omega arith)
+moved_order zero (suc zero) (suc (suc b)) h d = omega arith
+moved_order zero (suc (suc a)) (suc zero) h d = absurd (omega arith)
+moved_order zero (suc (suc a)) (suc (suc b)) h d = h
+moved_order (suc k) zero (suc b) h d = omega arith
+moved_order (suc k) (suc a) (suc b) h d = let m = moved_order k a b (omega arith) (λ p q. d (ap suc p) (ap suc q)) in omega arith
+
+pub get_moved : (k a d : ℕ) (w : List ℕ) → suc k < length w → get_or (exchange_at k w) (moved k a) d ≡ get_or w a d
+get_moved k a d [] h = absurd (omega arith)
+get_moved zero a d (x ∷ []) h = absurd (omega arith)
+get_moved zero zero d (x ∷ y ∷ w) h = refl
+get_moved zero (suc zero) d (x ∷ y ∷ w) h = refl
+get_moved zero (suc (suc a)) d (x ∷ y ∷ w) h = refl
+get_moved (suc k) zero d (x ∷ w) h = refl
+get_moved (suc k) (suc a) d (x ∷ w) h = get_moved k a d w (omega arith)
+
+set_moved : (k a v : ℕ) (w : List ℕ) → suc k < length w → set (exchange_at k w) (moved k a) v ≡ exchange_at k (set w a v)
+set_moved k a v [] h = absurd (omega arith)
+set_moved zero a v (x ∷ []) h = absurd (omega arith)
+set_moved zero zero v (x ∷ y ∷ w) h = refl
+set_moved zero (suc zero) v (x ∷ y ∷ w) h = refl
+set_moved zero (suc (suc a)) v (x ∷ y ∷ w) h = refl
+set_moved (suc k) zero v (x ∷ w) h = refl
+set_moved (suc k) (suc a) v (x ∷ w) h = ap (λ u. x ∷ u) (set_moved k a v w (omega arith))
+
+pub exchange_swap : (k a b : ℕ) (w : List ℕ) → suc k < length w → exchange_at k (swap_at a b w) ≡ swap_at (moved k a) (moved k b) (exchange_at k w)
+exchange_swap k a b [] h = absurd (omega arith)
+exchange_swap zero a b (x ∷ []) h = absurd (omega arith)
+exchange_swap zero zero zero (x ∷ y ∷ w) h = refl
+exchange_swap zero zero (suc zero) (x ∷ y ∷ w) h = refl
+exchange_swap zero zero (suc (suc b)) (x ∷ y ∷ w) h = refl
+exchange_swap zero (suc zero) zero (x ∷ y ∷ w) h = refl
+exchange_swap zero (suc zero) (suc zero) (x ∷ y ∷ w) h = refl
+exchange_swap zero (suc zero) (suc (suc b)) (x ∷ y ∷ w) h = refl
+exchange_swap zero (suc (suc a)) zero (x ∷ y ∷ w) h = refl
+exchange_swap zero (suc (suc a)) (suc zero) (x ∷ y ∷ w) h = refl
+exchange_swap zero (suc (suc a)) (suc (suc b)) (x ∷ y ∷ w) h = refl
+exchange_swap (suc k) zero zero (x ∷ w) h = refl
+exchange_swap (suc k) zero (suc b) (x ∷ w) h = ap₂ ◌∷◌ (sym (get_moved k b x w (omega arith))) (sym (set_moved k b x w (omega arith)))
+exchange_swap (suc k) (suc a) zero (x ∷ w) h = ap₂ ◌∷◌ (sym (get_moved k a x w (omega arith))) (sym (set_moved k a x w (omega arith)))
+exchange_swap (suc k) (suc a) (suc b) (x ∷ w) h = ap (λ v. x ∷ v) (exchange_swap k a b w (omega arith))
+
+-- the two exchanged places
+pub swap_neighbour : (k : ℕ) (w : List ℕ) → suc k < length w → swap_at k (suc k) w ≡ exchange_at k w
+swap_neighbour k [] h = absurd (omega arith)
+swap_neighbour zero (x ∷ []) h = absurd (omega arith)
+swap_neighbour zero (x ∷ y ∷ w) h = refl
+swap_neighbour (suc k) (x ∷ w) h = ap (λ v. x ∷ v) (swap_neighbour k w (omega arith))
+
+-- within a list the default does not matter
+pub default_free : (v : List ℕ) (i p q : ℕ) → i < length v → get_or v i p ≡ get_or v i q
+default_free [] i p q m = absurd (omega arith)
+default_free (y ∷ v) zero p q m = refl
+default_free (y ∷ v) (suc i) p q m = default_free v i p q (omega arith)
+
+-- ---- counts
+
+greater_set : (a b x : ℕ) (w : List ℕ) → cond (nat_lt a (get_or w b x)) 1 0 + greater a (set w b x) ≡ cond (nat_lt a x) 1 0 + greater a w
+greater_set a b x [] = refl
+greater_set a zero x (y ∷ w) = omega arith
+greater_set a (suc b) x (y ∷ w) = let e = greater_set a b x w in omega arith
+
+pub greater_swap : (c a b : ℕ) (w : List ℕ) → greater c (swap_at a b w) ≡ greater c w
+greater_swap c a b [] = refl
+greater_swap c zero zero (x ∷ w) = refl
+greater_swap c zero (suc b) (x ∷ w) = greater_set c b x w
+greater_swap c (suc a) zero (x ∷ w) = greater_set c a x w
+greater_swap c (suc a) (suc b) (x ∷ w) = ap (λ n. cond (nat_lt c x) 1 0 + n) (greater_swap c a b w)
+
+smaller_set : (a b x : ℕ) (w : List ℕ) → cond (nat_lt (get_or w b x) a) 1 0 + smaller a (set w b x) ≡ cond (nat_lt x a) 1 0 + smaller a w
+smaller_set a b x [] = refl
+smaller_set a zero x (y ∷ w) = omega arith
+smaller_set a (suc b) x (y ∷ w) = let e = smaller_set a b x w in omega arith
+
+pub smaller_swap : (c a b : ℕ) (w : List ℕ) → smaller c (swap_at a b w) ≡ smaller c w
+smaller_swap c a b [] = refl
+smaller_swap c zero zero (x ∷ w) = refl
+smaller_swap c zero (suc b) (x ∷ w) = smaller_set c b x w
+smaller_swap c (suc a) zero (x ∷ w) = smaller_set c a x w
+smaller_swap c (suc a) (suc b) (x ∷ w) = ap (λ n. cond (nat_lt x c) 1 0 + n) (smaller_swap c a b w)
+
+counts_more : (x y z : ℕ) → y ≤ x → cond {A = ℕ} (nat_lt x z) 1 0 ≤ cond {A = ℕ} (nat_lt y z) 1 0
+counts_more x y z h = elim (cases_lt x z) [
+  | inl l ↦ let p = counted x z l in let q = counted y z (omega arith) in omega arith
+  | inr l ↦ let p = not_counted x z l in omega arith
+]
+
+-- a greater entry in the place of a smaller one
+greater_more : (z b x d : ℕ) (w : List ℕ) → b < length w → get_or w b d < x → greater z w ≤ greater z (set w b x)
+greater_more z b x d [] l h = absurd (omega arith)
+greater_more z zero x d (y ∷ w) l h = elim (cases_lt z y) [
+  | inl m ↦ let p = counted z y m in let q = counted z x (omega arith) in omega arith
+  | inr m ↦ let p = not_counted z y m in omega arith
+]
+greater_more z (suc b) x d (y ∷ w) l h = let e = greater_more z b x d w (omega arith) h in omega arith
+
+raises_first : (x b d : ℕ) (w : List ℕ) → b < length w → get_or w b d < x
+    → greater x w + rising_pairs w < greater (get_or w b d) (set w b x) + rising_pairs (set w b x)
+raises_first x b d [] l h = absurd (omega arith)
+raises_first x zero d (y ∷ w) l h =
+    let p = counted y x h in
+    let q = not_counted x y (omega arith) in
+    omega arith
+raises_first x (suc b) d (z ∷ w) l h =
+    let r = raises_first x b d w (omega arith) h in
+    let m = greater_more z b x d w (omega arith) h in
+    let c = counts_more x (get_or w b d) z (omega arith) in
+    omega arith
+
+-- swapping a falling pair makes more pairs rise
+pub raises : (a b d : ℕ) (w : List ℕ) → a < b → b < length w → get_or w b d < get_or w a d → rising_pairs w < rising_pairs (swap_at a b w)
+raises a b d [] o l h = absurd (omega arith)
+raises zero zero d (x ∷ w) o l h = absurd (omega arith)
+raises zero (suc b) d (x ∷ w) o l h =
+    let e = default_free w b d x (omega arith) in
+    let r = raises_first x b x w (omega arith) (subst (λ y. y < x) e h) in
+    r
+raises (suc a) zero d (x ∷ w) o l h = absurd (omega arith)
+raises (suc a) (suc b) d (x ∷ w) o l h =
+    let r = raises a b d w (omega arith) (omega arith) h in
+    let e = greater_swap x a b w in
+    omega arith
+
+-- ---- swapping twice, and the swapped entries
+
+set_back : (w : List ℕ) (b x d : ℕ) → b < length w → set (set w b x) b (get_or w b d) ≡ w
+set_back [] b x d h = absurd (omega arith)
+set_back (y ∷ w) zero x d h = refl
+set_back (y ∷ w) (suc b) x d h = ap (λ v. y ∷ v) (set_back w b x d (omega arith))
+
+get_set : (w : List ℕ) (b x d : ℕ) → b < length w → get_or (set w b x) b d ≡ x
+get_set [] b x d h = absurd (omega arith)
+get_set (y ∷ w) zero x d h = refl
+get_set (y ∷ w) (suc b) x d h = get_set w b x d (omega arith)
+
+pub swap_twice : (a b : ℕ) (w : List ℕ) → a < length w → b < length w → swap_at a b (swap_at a b w) ≡ w
+swap_twice a b [] l m = refl
+swap_twice zero zero (x ∷ w) l m = refl
+swap_twice zero (suc b) (x ∷ w) l m = ap₂ ◌∷◌ (get_set w b x (get_or w b x) (omega arith)) (set_back w b x x (omega arith))
+swap_twice (suc a) zero (x ∷ w) l m = ap₂ ◌∷◌ (get_set w a x (get_or w a x) (omega arith)) (set_back w a x x (omega arith))
+swap_twice (suc a) (suc b) (x ∷ w) l m = ap (λ v. x ∷ v) (swap_twice a b w (omega arith) (omega arith))
+
+pub get_swap_left : (a b d : ℕ) (w : List ℕ) → a < length w → b < length w → get_or (swap_at a b w) a d ≡ get_or w b d
+get_swap_left a b d [] l m = absurd (omega arith)
+get_swap_left zero zero d (x ∷ w) l m = refl
+get_swap_left zero (suc b) d (x ∷ w) l m = default_free w b x d (omega arith)
+get_swap_left (suc a) zero d (x ∷ w) l m = get_set w a x d (omega arith)
+get_swap_left (suc a) (suc b) d (x ∷ w) l m = get_swap_left a b d w (omega arith) (omega arith)
+
+pub get_swap_right : (a b d : ℕ) (w : List ℕ) → a < length w → b < length w → get_or (swap_at a b w) b d ≡ get_or w a d
+get_swap_right a b d w l m = ap (λ v. get_or v b d) (swap_at_sym a b w) ∙ get_swap_left b a d w m l
+
+-- swapping a pair that does not fall makes no more pairs rise
+pub lowers : (a b d : ℕ) (w : List ℕ) → a < b → b < length w → get_or w a d ≤ get_or w b d → rising_pairs (swap_at a b w) ≤ rising_pairs w
+lowers a b d w o l h = elim (cases_eq (get_or w a d) (get_or w b d)) [
+  | inl e ↦ let f = ap rising_pairs (swap_equal a b d w (omega arith) l e) in omega arith
+  | inr n ↦
+      let p = get_swap_left a b d w (omega arith) l in
+      let q = get_swap_right a b d w (omega arith) l in
+      let s = length-swap_at a b w in
+      let r = raises a b d (swap_at a b w) o (omega arith) (omega arith) in
+      let t = ap rising_pairs (swap_twice a b w (omega arith) l) in
+      omega arith
+]
+  where
+    set_same : (v : List ℕ) (i x p : ℕ) → i < length v → get_or v i p ≡ x → set v i x ≡ v
+    set_same [] i x p m e = refl
+    set_same (y ∷ v) zero x p m e = ap (λ z. z ∷ v) (sym e)
+    set_same (y ∷ v) (suc i) x p m e = ap (λ u. y ∷ u) (set_same v i x p (omega arith) e)
+
+    swap_equal : (i j p : ℕ) (v : List ℕ) → i < length v → j < length v → get_or v i p ≡ get_or v j p → swap_at i j v ≡ v
+    swap_equal i j p [] m n e = refl
+    swap_equal zero zero p (x ∷ v) m n e = refl
+    swap_equal zero (suc j) p (x ∷ v) m n e =
+        let g : get_or v j x ≡ x = default_free v j x p (omega arith) ∙ sym e in
+        ap₂ ◌∷◌ g (set_same v j x x (omega arith) g)
+    swap_equal (suc i) zero p (x ∷ v) m n e =
+        let g : get_or v i x ≡ x = default_free v i x p (omega arith) ∙ e in
+        ap₂ ◌∷◌ g (set_same v i x x (omega arith) g)
+    swap_equal (suc i) (suc j) p (x ∷ v) m n e = ap (λ u. x ∷ u) (swap_equal i j p v (omega arith) (omega arith) e)
+
+-- ---- different entries stay different
+
+among_set : (z b x : ℕ) (w : List ℕ) → Among z (set w b x) → (z ≡ x) ⊎ Among z w
+among_set z b x [] m = absurd m
+among_set z zero x (y ∷ w) (inl e) = inl e
+among_set z zero x (y ∷ w) (inr m) = inr (inr m)
+among_set z (suc b) x (y ∷ w) (inl e) = inr (inl e)
+among_set z (suc b) x (y ∷ w) (inr m) = elim (among_set z b x w m) [ inl e ↦ inl e | inr k ↦ inr (inr k) ]
+
+pub among_get : (b d : ℕ) (w : List ℕ) → b < length w → Among (get_or w b d) w
+among_get b d [] h = absurd (omega arith)
+among_get zero d (y ∷ w) h = inl refl
+among_get (suc b) d (y ∷ w) h = inr (among_get b d w (omega arith))
+
+-- the entry that was replaced stands nowhere else
+replaced : (b d x : ℕ) (w : List ℕ) → b < length w → Once w → Among (get_or w b d) (set w b x) → get_or w b d ≡ x
+replaced b d x [] h o m = absurd m
+replaced zero d x (y ∷ w) h o (inl e) = e
+replaced zero d x (y ∷ w) h o (inr m) = absurd (o.0 m)
+replaced (suc b) d x (y ∷ w) h o (inl e) = absurd (o.0 (subst (λ z. Among z w) e (among_get b d w (omega arith))))
+replaced (suc b) d x (y ∷ w) h o (inr m) = replaced b d x w (omega arith) o.1 m
+
+once_set : (b x : ℕ) (w : List ℕ) → Once w → (Among x w → ⊥) → Once (set w b x)
+once_set b x [] o n = tt
+once_set zero x (y ∷ w) o n = (λ m. n (inr m), o.1)
+once_set (suc b) x (y ∷ w) o n = (apart, once_set b x w o.1 (λ m. n (inr m)))
+  where
+    apart : Among y (set w b x) → ⊥
+    apart m = elim (among_set y b x w m) [ inl e ↦ n (inl (sym e)) | inr k ↦ o.0 k ]
+
+once_first : (b x : ℕ) (w : List ℕ) → b < length w → Once (x ∷ w) → Once (get_or w b x ∷ set w b x)
+once_first b x w h o =
+    (λ m. o.0 (subst (λ z. Among z w) (replaced b x x w h o.1 m) (among_get b x w h)), once_set b x w o.1 o.0)
+
+among_first : (z b x : ℕ) (w : List ℕ) → b < length w → Among z (get_or w b x ∷ set w b x) → Among z (x ∷ w)
+among_first z b x w h (inl e) = inr (subst (λ y. Among y w) (sym e) (among_get b x w h))
+among_first z b x w h (inr m) = elim (among_set z b x w m) [ inl e ↦ inl e | inr k ↦ inr k ]
+
+pub among_swap : (z a b : ℕ) (w : List ℕ) → a < length w → b < length w → Among z (swap_at a b w) → Among z w
+among_swap z a b [] l h m = m
+among_swap z zero zero (x ∷ w) l h m = m
+among_swap z zero (suc b) (x ∷ w) l h m = among_first z b x w (omega arith) m
+among_swap z (suc a) zero (x ∷ w) l h m = among_first z a x w (omega arith) m
+among_swap z (suc a) (suc b) (x ∷ w) l h (inl e) = inl e
+among_swap z (suc a) (suc b) (x ∷ w) l h (inr m) = inr (among_swap z a b w (omega arith) (omega arith) m)
+
+pub once_swap : (a b : ℕ) (w : List ℕ) → a < length w → b < length w → Once w → Once (swap_at a b w)
+once_swap a b [] l h o = o
+once_swap zero zero (x ∷ w) l h o = o
+once_swap zero (suc b) (x ∷ w) l h o = once_first b x w (omega arith) o
+once_swap (suc a) zero (x ∷ w) l h o = once_first a x w (omega arith) o
+once_swap (suc a) (suc b) (x ∷ w) l h o = (λ m. o.0 (among_swap x a b w (omega arith) (omega arith) m), once_swap a b w (omega arith) (omega arith) o.1)
