@@ -1,0 +1,212 @@
+-- A power sum times an augmented monomial symmetric polynomial.
+use Rattle.std.proofs.Common.{◌≡◌, ℕ, zero, suc, ◌+◌, ◌*◌, ◌<◌, ◌≤◌, ◌⊎◌, ◌==◌, Bool, true, false, cond, ◌||◌, List, [], ◌∷◌, map, nat_le, sym, ◌∙◌, ap, ap₂, refl, inl, inr, arith, ℤ, pos, ◌+ℤ◌, ◌*ℤ◌}
+use Rattle.std.proofs.lemmas.Int.{ints}
+use Rattle.std.proofs.lemmas.Bool.{cases_lt, cases_eq, cases_Bool, eq-eqb, eqb-true, ne_eqb, leb-false, or_right, both_ways}
+use Rattle.sym_model.specs.Sum.{total, each, Among}
+use Rattle.sym_model.specs.Polynomial.{Same, scale, plus, times, pair}
+use Rattle.sym_model.specs.Partition.{IsPartition, insert_part}
+use Rattle.sym_model.specs.Bases.{has, monomial, power_sum_of}
+use Rattle.sym_model.specs.Schur.{times_in}
+use Rattle.sym_model.specs.Weight.{factorial}
+use Rattle.sym_model.specs.RaisedPart.{raise, distinct, without_one}
+use Rattle.sym_model.specs.WholeTerms.{combined}
+use Rattle.monomial_laws.specs.Majorant.{factorials}
+use Rattle.monomial_laws.specs.PowerSumProduct.{raised_terms}
+use Rattle.basis_change_laws.specs.AugmentedMonomial.{multiplicity_factorials, augmented}
+use Rattle.sym_model.proofs.Ring.{product_assoc, distributes_left}
+use lib.IntN.{*ℤ_comm}
+use Rattle.sym_model.proofs.Sums.{total_ext, total_among, total_map, total_exchange, total_scale}
+use Rattle.sym_model.proofs.Exponents.{tests_agree}
+use Rattle.sym_model.proofs.Polynomials.{pair_scale, pair_plus, pair_each, pair_determined, same_from_pair}
+use Rattle.sym_model.proofs.PolynomialLaws.{times-scale}
+use Rattle.sym_model.proofs.SortedParts.{times_in-insert_part, insert_part-without_one, has_from-times_in, has-zero, without_one-zero}
+use Rattle.sym_model.proofs.WholeTerms.{pair_of_combined}
+use Rattle.monomial_laws.proofs.PowerSums.{total_distinct-only, total_times_in, power_sum_times_monomial}
+use Rattle.monomial_laws.proofs.PowerSumLists.{has_from-distinct}
+
+-- ---- multiplicities
+
+counted : (k c : ℕ) (l : List ℕ) → c ≡ k → times_in k (c ∷ l) ≡ suc (times_in k l)
+counted k c l e = ap (λ (b : Bool). cond {A = ℕ} b 1 0 + times_in k l) (eq-eqb c k e) ∙ omega arith
+
+passed : (k c : ℕ) (l : List ℕ) → (c ≡ k → ⊥) → times_in k (c ∷ l) ≡ times_in k l
+passed k c l n = ap (λ (b : Bool). cond {A = ℕ} b 1 0 + times_in k l) (ne_eqb c k n) ∙ omega arith
+
+same_whole : (m n : ℕ) → pos m ≡ pos n → m ≡ n
+same_whole m n e = omega (arith, ints)
+
+times_in-distinct : (k : ℕ) (l : List ℕ) → times_in k (distinct l) ≡ cond (has k l) 1 0
+times_in-distinct k l = same_whole (times_in k (distinct l)) (cond (has k l) 1 0) (sym (total_times_in k (distinct l)) ∙ total_distinct-only (λ b. pos 1) k l ∙ by (has k l))
+  where
+    by : (b : Bool) → cond b (pos 1) (pos 0) ≡ pos (cond b 1 0)
+    by true = refl
+    by false = refl
+
+-- one number more changes no factorial but its own
+factorials_without : (c : ℕ) (l D : List ℕ) → times_in c D ≡ 0 → factorials (map (λ b. times_in b (c ∷ l)) D) ≡ factorials (map (λ b. times_in b l) D)
+factorials_without c l [] z = refl
+factorials_without c l (b ∷ D) z = by (cases_eq b c) (factorials_without c l D)
+  where
+    by : (b ≡ c) ⊎ (b ≡ c → ⊥) → (times_in c D ≡ 0 → factorials (map (λ d. times_in d (c ∷ l)) D) ≡ factorials (map (λ d. times_in d l) D))
+        → factorial (times_in b (c ∷ l)) * factorials (map (λ d. times_in d (c ∷ l)) D) ≡ factorial (times_in b l) * factorials (map (λ d. times_in d l) D)
+    by (inl e) later = absurd (let t = counted c b D e in omega arith)
+    by (inr n) later = ap₂ ◌*◌ (ap factorial (passed b c l (λ e. n (sym e)))) (later (sym (passed c b D n) ∙ z))
+
+product_swap : (x y z : ℕ) → x * (y * z) ≡ y * (x * z)
+product_swap x y z = omega arith
+
+factorials_with : (c : ℕ) (l D : List ℕ) → times_in c D ≡ 1 → factorials (map (λ b. times_in b (c ∷ l)) D) ≡ times_in c (c ∷ l) * factorials (map (λ b. times_in b l) D)
+factorials_with c l [] z = absurd (omega arith)
+factorials_with c l (b ∷ D) z = by (cases_eq b c) (factorials_with c l D)
+  where
+    here : (d : ℕ) → d ≡ c → factorial (times_in d (c ∷ l)) ≡ times_in c (c ∷ l) * factorial (times_in d l)
+    here d e =
+        let x = counted d c l (sym e) in
+        let y = counted c c l refl in
+        ap factorial x ∙ ap₂ ◌*◌ (ap (λ i. suc (times_in i l)) e ∙ sym y) refl
+
+    by : (b ≡ c) ⊎ (b ≡ c → ⊥) → (times_in c D ≡ 1 → factorials (map (λ d. times_in d (c ∷ l)) D) ≡ times_in c (c ∷ l) * factorials (map (λ d. times_in d l) D))
+        → factorial (times_in b (c ∷ l)) * factorials (map (λ d. times_in d (c ∷ l)) D) ≡ times_in c (c ∷ l) * (factorial (times_in b l) * factorials (map (λ d. times_in d l) D))
+    by (inl e) later =
+        let t = counted c b D e in
+        ap₂ ◌*◌ (here b e) (factorials_without c l D (omega arith)) ∙ product_right (times_in c (c ∷ l)) (factorial (times_in b l)) (factorials (map (λ d. times_in d l) D))
+      where
+        product_right : (x y w : ℕ) → (x * y) * w ≡ x * (y * w)
+        product_right x y w = omega arith
+    by (inr n) later =
+        ap₂ ◌*◌ (ap factorial (passed b c l (λ e. n (sym e)))) (later (sym (passed c b D n) ∙ z))
+        ∙ product_swap (factorial (times_in b l)) (times_in c (c ∷ l)) (factorials (map (λ d. times_in d l) D))
+
+-- one number more: the factor is how often it then stands there
+pub multiplicity_factorials-cons : (c : ℕ) (l : List ℕ) → multiplicity_factorials (c ∷ l) ≡ times_in c (c ∷ l) * multiplicity_factorials l
+multiplicity_factorials-cons c l = by (cases_Bool (has c l))
+  where
+    by : (has c l ≡ true) ⊎ (has c l ≡ false) → factorials (map (λ b. times_in b (c ∷ l)) (cond (has c l) (distinct l) (c ∷ distinct l))) ≡ times_in c (c ∷ l) * multiplicity_factorials l
+    by (inl e) =
+        ap (λ (t : Bool). factorials (map (λ b. times_in b (c ∷ l)) (cond t (distinct l) (c ∷ distinct l)))) e
+        ∙ factorials_with c l (distinct l) (times_in-distinct c l ∙ ap (λ (t : Bool). cond t 1 0) e)
+    by (inr e) =
+        let once = counted c c l refl in
+        let none : times_in c l ≡ 0 = no_more (cases_lt 0 (times_in c l)) in
+        let single : times_in c (c ∷ l) ≡ 1 = omega arith in
+        ap (λ (t : Bool). factorials (map (λ b. times_in b (c ∷ l)) (cond t (distinct l) (c ∷ distinct l)))) e
+        ∙ ap₂ ◌*◌ (ap factorial single ∙ sym single) (factorials_without c l (distinct l) (times_in-distinct c l ∙ ap (λ (t : Bool). cond t 1 0) e))
+      where
+        no_more : (0 < times_in c l) ⊎ (times_in c l ≤ 0) → times_in c l ≡ 0
+        no_more (inl h) = absurd (both_ways (has c l) e (has_from-times_in c l h))
+        no_more (inr h) = omega arith
+
+-- ---- a part put in
+
+pub multiplicity_factorials-insert : (a : ℕ) (parts : List ℕ) → 0 < a → multiplicity_factorials (insert_part a parts) ≡ times_in a (insert_part a parts) * multiplicity_factorials parts
+multiplicity_factorials-insert zero parts h = absurd (omega arith)
+multiplicity_factorials-insert (suc a) [] h = multiplicity_factorials-cons (suc a) []
+multiplicity_factorials-insert (suc a) (b ∷ parts) h = by (nat_le b (suc a)) refl (multiplicity_factorials-insert (suc a) parts (omega arith))
+  where
+    by : (t : Bool) → nat_le b (suc a) ≡ t → multiplicity_factorials (insert_part (suc a) parts) ≡ times_in (suc a) (insert_part (suc a) parts) * multiplicity_factorials parts
+        → multiplicity_factorials (cond t (suc a ∷ b ∷ parts) (b ∷ insert_part (suc a) parts)) ≡ times_in (suc a) (cond t (suc a ∷ b ∷ parts) (b ∷ insert_part (suc a) parts)) * multiplicity_factorials (b ∷ parts)
+    by true e later = multiplicity_factorials-cons (suc a) (b ∷ parts)
+    by false e later =
+        let g = leb-false b (suc a) e in
+        let x = multiplicity_factorials-cons b (insert_part (suc a) parts) in
+        let y = multiplicity_factorials-cons b parts in
+        let u : times_in b (b ∷ insert_part (suc a) parts) ≡ times_in b (b ∷ parts) =
+        counted b b (insert_part (suc a) parts) refl ∙ ap suc (times_in-insert_part b (suc a) parts (omega arith) ∙ ap (λ (t : Bool). cond {A = ℕ} t 1 0 + times_in b parts) (ne_eqb (suc a) b (λ d. absurd (omega arith))) ∙ omega arith) ∙ sym (counted b b parts refl) in
+        let v = passed (suc a) b (insert_part (suc a) parts) (λ d. absurd (omega arith)) in
+        x
+        ∙ ap₂ ◌*◌ u later
+        ∙ product_swap (times_in b (b ∷ parts)) (times_in (suc a) (insert_part (suc a) parts)) (multiplicity_factorials parts)
+        ∙ ap₂ ◌*◌ (sym v) (sym y)
+
+-- a part b made a + b
+raise_factor : (a b : ℕ) (parts : List ℕ) → 0 < a → IsPartition parts → has b parts ≡ true
+    → times_in b parts * multiplicity_factorials (raise a b parts) ≡ multiplicity_factorials parts * times_in (a + b) (raise a b parts)
+raise_factor a zero parts h p e = absurd (both_ways (has 0 parts) (has-zero parts p.positive) e)
+raise_factor a (suc b) parts h p e =
+    let back = insert_part-without_one (suc b) parts (omega arith) p.falls e in
+    let x = multiplicity_factorials-insert (a + suc b) (without_one (suc b) parts) (omega arith) in
+    let y = multiplicity_factorials-insert (suc b) (without_one (suc b) parts) (omega arith) in
+    let z : multiplicity_factorials parts ≡ times_in (suc b) parts * multiplicity_factorials (without_one (suc b) parts) = ap multiplicity_factorials (sym back) ∙ y ∙ ap (λ l. times_in (suc b) l * multiplicity_factorials (without_one (suc b) parts)) back in
+    ap (λ i. times_in (suc b) parts * i) x
+    ∙ product_turn (times_in (suc b) parts) (times_in (a + suc b) (raise a (suc b) parts)) (multiplicity_factorials (without_one (suc b) parts))
+    ∙ ap (λ i. i * times_in (a + suc b) (raise a (suc b) parts)) (sym z)
+  where
+    product_turn : (u v w : ℕ) → u * (v * w) ≡ (u * w) * v
+    product_turn u v w = omega arith
+
+-- ---- sums over the parts
+
+test_sym : (a b : ℕ) → (a == b) ≡ (b == a)
+test_sym a b = tests_agree (a == b) (b == a) (λ e. eq-eqb b a (sym (eqb-true a b e))) (λ e. eq-eqb a b (sym (eqb-true b a e)))
+
+pull_factor : (t : Bool) (x : ℤ) → cond t (pos 1) (pos 0) *ℤ x ≡ cond t x (pos 0)
+pull_factor true x = omega (arith, ints)
+pull_factor false x = omega (arith, ints)
+
+has_member : (c : ℕ) (l : List ℕ) → Among c l → has c l ≡ true
+has_member c [] m = absurd m
+has_member c (d ∷ l) (inl e) = ap (λ (t : Bool). t || has c l) (eq-eqb d c (sym e))
+has_member c (d ∷ l) (inr m) = or_right (d == c) (has c l) (has_member c l m)
+
+-- a sum over the parts is a sum over the different parts, each as often as it stands there
+total_parts : (g : ℕ → ℤ) (l : List ℕ) → total (λ (b : ℕ). pos (times_in b l) *ℤ g b) (distinct l) ≡ total g l
+total_parts g l =
+    total_ext (λ (b : ℕ). pos (times_in b l) *ℤ g b) (λ (b : ℕ). total (λ (c : ℕ). cond (b == c) (g b) (pos 0)) l) spread (distinct l)
+    ∙ total_exchange (λ (b c : ℕ). cond (b == c) (g b) (pos 0)) (distinct l) l
+    ∙ total_among (λ (c : ℕ). total (λ (b : ℕ). cond (b == c) (g b) (pos 0)) (distinct l)) g l
+    (λ c m. total_distinct-only g c l ∙ ap (λ (t : Bool). cond t (g c) (pos 0)) (has_member c l m))
+  where
+    spread : (b : ℕ) → pos (times_in b l) *ℤ g b ≡ total (λ (c : ℕ). cond (b == c) (g b) (pos 0)) l
+    spread b =
+        ap (λ x. x *ℤ g b) (sym (total_times_in b l))
+        ∙ *ℤ_comm (total (λ (c : ℕ). cond (c == b) (pos 1) (pos 0)) l) (g b)
+        ∙ sym (total_scale (g b) (λ (c : ℕ). cond (c == b) (pos 1) (pos 0)) l)
+        ∙ total_ext (λ (c : ℕ). g b *ℤ cond (c == b) (pos 1) (pos 0)) (λ (c : ℕ). cond (b == c) (g b) (pos 0))
+        (λ c. *ℤ_comm (g b) (cond (c == b) (pos 1) (pos 0)) ∙ pull_factor (c == b) (g b) ∙ ap (λ (t : Bool). cond t (g b) (pos 0)) (test_sym c b)) l
+
+-- ---- the law
+
+pub power_sum_times_augmented : (a n : ℕ) (parts : List ℕ) → 0 < a → IsPartition parts
+    → Same (times (power_sum_of a n) (augmented parts n)) (plus (augmented (insert_part a parts) n) (each (λ b. augmented (raise a b parts) n) parts))
+power_sum_times_augmented a n parts h p =
+    same_from_pair (times (power_sum_of a n) (augmented parts n)) (plus (augmented (insert_part a parts) n) (each (λ b. augmented (raise a b parts) n) parts)) (λ φ.
+    pair_determined (times (power_sum_of a n) (augmented parts n)) (scale (pos (multiplicity_factorials parts)) (times (power_sum_of a n) (monomial parts n))) φ (times-scale (pos (multiplicity_factorials parts)) (power_sum_of a n) (monomial parts n))
+    ∙ pair_scale (pos (multiplicity_factorials parts)) (times (power_sum_of a n) (monomial parts n)) φ
+    ∙ ap (λ x. pos (multiplicity_factorials parts) *ℤ x) (
+    pair_determined (times (power_sum_of a n) (monomial parts n)) (combined (λ label. monomial label n) (raised_terms a parts)) φ (power_sum_times_monomial a n parts h p)
+    ∙ pair_of_combined (λ label. monomial label n) (raised_terms a parts) φ
+    ∙ total_map (λ (t : List ℕ × ℤ). t.1 *ℤ pair (monomial t.0 n) φ) (λ (b : ℕ). (raise a b parts, pos (times_in (a + b) (raise a b parts)))) (distinct (0 ∷ parts))
+    ∙ ap (λ (l : List ℕ). total (λ (b : ℕ). pos (times_in (a + b) (raise a b parts)) *ℤ pair (monomial (raise a b parts) n) φ) l) different)
+    ∙ distributes_left (pos (multiplicity_factorials parts)) (pos (times_in (a + 0) (raise a 0 parts)) *ℤ pair (monomial (raise a 0 parts) n) φ) (total (λ (b : ℕ). pos (times_in (a + b) (raise a b parts)) *ℤ pair (monomial (raise a b parts) n) φ) (distinct parts))
+    ∙ ap₂ ◌+ℤ◌ (put_in φ) (made_greater φ)
+    ∙ sym (pair_plus (augmented (insert_part a parts) n) (each (λ b. augmented (raise a b parts) n) parts) φ
+    ∙ ap₂ ◌+ℤ◌ (pair_scale (pos (multiplicity_factorials (insert_part a parts))) (monomial (insert_part a parts) n) φ)
+    (pair_each (λ (b : ℕ). augmented (raise a b parts) n) parts φ ∙ total_ext (λ (b : ℕ). pair (augmented (raise a b parts) n) φ) (λ (b : ℕ). pos (multiplicity_factorials (raise a b parts)) *ℤ pair (monomial (raise a b parts) n) φ) (λ b. pair_scale (pos (multiplicity_factorials (raise a b parts))) (monomial (raise a b parts) n) φ) parts)))
+  where
+    different : distinct (0 ∷ parts) ≡ 0 ∷ distinct parts
+    different = ap (λ (t : Bool). cond t (distinct parts) (0 ∷ distinct parts)) (has-zero parts p.positive)
+
+    nothing_raised : raise a 0 parts ≡ insert_part a parts
+    nothing_raised = let e : a + 0 ≡ a = omega arith in ap₂ insert_part e (without_one-zero parts p.positive)
+
+    put_in : (φ : List ℕ → ℤ) → pos (multiplicity_factorials parts) *ℤ (pos (times_in (a + 0) (raise a 0 parts)) *ℤ pair (monomial (raise a 0 parts) n) φ) ≡ pos (multiplicity_factorials (insert_part a parts)) *ℤ pair (monomial (insert_part a parts) n) φ
+    put_in φ =
+        let e : a + 0 ≡ a = omega arith in
+        ap₂ (λ (i : ℕ) (l : List ℕ). pos (multiplicity_factorials parts) *ℤ (pos (times_in i l) *ℤ pair (monomial l n) φ)) e nothing_raised
+        ∙ sym (product_assoc (pos (multiplicity_factorials parts)) (pos (times_in a (insert_part a parts))) (pair (monomial (insert_part a parts) n) φ))
+        ∙ ap (λ i. pos i *ℤ pair (monomial (insert_part a parts) n) φ) (turned (multiplicity_factorials parts) (times_in a (insert_part a parts)) ∙ sym (multiplicity_factorials-insert a parts h))
+      where
+        turned : (x y : ℕ) → x * y ≡ y * x
+        turned x y = omega arith
+
+    made_greater : (φ : List ℕ → ℤ)
+        → pos (multiplicity_factorials parts) *ℤ total (λ (b : ℕ). pos (times_in (a + b) (raise a b parts)) *ℤ pair (monomial (raise a b parts) n) φ) (distinct parts)
+        ≡ total (λ (b : ℕ). pos (multiplicity_factorials (raise a b parts)) *ℤ pair (monomial (raise a b parts) n) φ) parts
+    made_greater φ =
+        sym (total_scale (pos (multiplicity_factorials parts)) (λ (b : ℕ). pos (times_in (a + b) (raise a b parts)) *ℤ pair (monomial (raise a b parts) n) φ) (distinct parts))
+        ∙ total_among (λ (b : ℕ). pos (multiplicity_factorials parts) *ℤ (pos (times_in (a + b) (raise a b parts)) *ℤ pair (monomial (raise a b parts) n) φ))
+        (λ (b : ℕ). pos (times_in b parts) *ℤ (pos (multiplicity_factorials (raise a b parts)) *ℤ pair (monomial (raise a b parts) n) φ)) (distinct parts)
+        (λ b m. sym (product_assoc (pos (multiplicity_factorials parts)) (pos (times_in (a + b) (raise a b parts))) (pair (monomial (raise a b parts) n) φ))
+        ∙ ap (λ i. pos i *ℤ pair (monomial (raise a b parts) n) φ) (sym (raise_factor a b parts h p (has_from-distinct b parts m)))
+        ∙ product_assoc (pos (times_in b parts)) (pos (multiplicity_factorials (raise a b parts))) (pair (monomial (raise a b parts) n) φ))
+        ∙ total_parts (λ (b : ℕ). pos (multiplicity_factorials (raise a b parts)) *ℤ pair (monomial (raise a b parts) n) φ) parts

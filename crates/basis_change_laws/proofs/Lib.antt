@@ -1,0 +1,2 @@
+pub mod NewtonIdentities
+pub mod AugmentedMonomials

@@ -1,0 +1,141 @@
+-- A list with whole coefficients, each divided by D (specs/ExpressionTerms).
+--     expansion_divided       the fractions stand for the list divided by D
+--     divided-bound           a bound of the whole coefficient is one of the fraction
+use Rattle.std.proofs.Common.{◌≡◌, ◌⊎◌, ℕ, ◌*◌, ◌/◌, ◌<◌, ◌≤◌, cond, List, [], ◌∷◌, map, sym, ◌∙◌, ap, ap₂, subst, refl, inl, inr, arith, ℤ, pos, ◌+ℤ◌, ◌*ℤ◌}
+use Rattle.std.specs.Prelude.{nat_abs}
+use Rattle.std.specs.Int.{◌∣◌}
+use Rattle.std.proofs.lemmas.Int.{unsigned_abs-mul}
+use Rattle.std.proofs.Math.Nat.{div-mul_cancel, dvd-mul_right, dvd-mul_left}
+use Rattle.std.proofs.lemmas.Nat.Gcd.{dvd_trans}
+use Rattle.sym_model.specs.Sum.{Among, Once}
+use Rattle.sym_model.specs.Polynomial.{Term, Poly, same, coefficient, Same, plus, scale}
+use Rattle.sym_model.specs.Bases.{monomial}
+use Rattle.sym_model.specs.Expansion.{Basis, Terms, Fraction, denominators, cleared, IsExpansionOf}
+use Rattle.sym_model.specs.WholeTerms.{WholeTerms}
+use Rattle.monomial_laws.specs.ExpressionTerms.{in_monomials, IsList, over}
+use Rattle.sym_model.proofs.Ring.{product_assoc}
+use Rattle.sym_model.proofs.Sums.{total_none, total_map, Among-map}
+use Rattle.sym_model.proofs.Exponents.{same_from, same_apart, same_or_not}
+use Rattle.sym_model.proofs.Polynomials.{coefficient_scale, Same_trans, Same_sym, scale_respects}
+use Rattle.sym_model.proofs.WholeTerms.{combined_respects}
+use Rattle.monomial_laws.proofs.ExpressionTerms.{list-scale}
+use native.Mathlib.Nat.{mul-le-mul_left}
+use lib.IntN.{+ℤ_idl, +ℤ_idr, *ℤ_comm, *ℤ-zero}
+
+-- the labels of a list of terms
+abbrev pub labels_of : Terms (List ℕ) → List (List ℕ)
+labels_of terms = map (λ (t : List ℕ × Fraction). t.0) terms
+
+-- ---- the coefficients of a list over a common denominator
+
+pub over-missing : (q : ℕ) (terms : Terms (List ℕ)) (label : List ℕ) → (Among label (labels_of terms) → ⊥) → coefficient (over q terms) label ≡ pos 0
+over-missing q terms label h =
+    total_map (λ (t : Term). cond (same t.0 label) t.1 (pos 0)) (λ (t : List ℕ × Fraction). (t.0, t.1.0 *ℤ pos (q / t.1.1))) terms
+    ∙ total_none (λ (t : List ℕ × Fraction). cond (same t.0 label) (t.1.0 *ℤ pos (q / t.1.1)) (pos 0)) terms
+    (λ t m. ap (λ b. cond b (t.1.0 *ℤ pos (q / t.1.1)) (pos 0)) (same_apart t.0 label (λ e. h (subst (λ l. Among l (labels_of terms)) e (Among-map (λ (u : List ℕ × Fraction). u.0) t terms m)))))
+
+pub over-there : (q : ℕ) (terms : Terms (List ℕ)) → Once (labels_of terms) → (t : List ℕ × Fraction) → Among t terms → coefficient (over q terms) t.0 ≡ t.1.0 *ℤ pos (q / t.1.1)
+over-there q [] o t m = absurd m
+over-there q (u ∷ terms) o t (inl e) =
+    ap₂ ◌+ℤ◌
+    (ap (λ b. cond b (u.1.0 *ℤ pos (q / u.1.1)) (pos 0)) (same_from u.0 t.0 (ap (λ (v : List ℕ × Fraction). v.0) (sym e))))
+    (over-missing q terms t.0 (λ m. o.0 (subst (λ l. Among l (labels_of terms)) (ap (λ (v : List ℕ × Fraction). v.0) e) m)))
+    ∙ +ℤ_idr (u.1.0 *ℤ pos (q / u.1.1))
+    ∙ ap (λ (v : List ℕ × Fraction). v.1.0 *ℤ pos (q / v.1.1)) (sym e)
+over-there q (u ∷ terms) o t (inr m) =
+    ap₂ ◌+ℤ◌
+    (ap (λ b. cond b (u.1.0 *ℤ pos (q / u.1.1)) (pos 0)) (same_apart u.0 t.0 (λ e. o.0 (subst (λ l. Among l (labels_of terms)) (sym e) (Among-map (λ (v : List ℕ × Fraction). v.0) t terms m)))))
+    (over-there q terms o.1 t m)
+    ∙ +ℤ_idl (t.1.0 *ℤ pos (q / t.1.1))
+
+-- a label is one of the list, or it is not
+pub among_or_not : (label : List ℕ) (terms : Terms (List ℕ)) → ((t : List ℕ × Fraction) × Among t terms × (t.0 ≡ label)) ⊎ (Among label (labels_of terms) → ⊥)
+among_or_not label [] = inr (λ m. m)
+among_or_not label (t ∷ terms) = by (same_or_not t.0 label) (among_or_not label terms)
+  where
+    by : (t.0 ≡ label) ⊎ (t.0 ≡ label → ⊥) → ((u : List ℕ × Fraction) × Among u terms × (u.0 ≡ label)) ⊎ (Among label (labels_of terms) → ⊥)
+        → ((u : List ℕ × Fraction) × Among u (t ∷ terms) × (u.0 ≡ label)) ⊎ (Among label (labels_of (t ∷ terms)) → ⊥)
+    by (inl e) r = inl (t, inl refl, e)
+    by (inr n) (inl u) = inl (u.0, inr u.1, u.2)
+    by (inr n) (inr none) = inr (λ m. not_here m)
+      where
+        not_here : Among label (labels_of (t ∷ terms)) → ⊥
+        not_here (inl e) = n (sym e)
+        not_here (inr m) = none m
+
+-- each denominator divides their product
+pub divides-denominators : (terms : Terms (List ℕ)) (t : List ℕ × Fraction) → Among t terms → t.1.1 ∣ denominators terms
+divides-denominators [] t m = absurd m
+divides-denominators (u ∷ terms) t (inl e) = subst (λ (v : List ℕ × Fraction). v.1.1 ∣ (u.1.1 * denominators terms)) (sym e) (dvd-mul_right u.1.1 (denominators terms))
+divides-denominators (u ∷ terms) t (inr m) = dvd_trans t.1.1 (divides-denominators terms t m) (dvd-mul_left (denominators terms) u.1.1)
+
+-- ---- the list divided by D
+
+-- each term of the list is D times smaller than the whole coefficient of its label, and labels that are missing have none
+pub record IsDivided (D : ℕ) (whole : WholeTerms) (terms : Terms (List ℕ)) : Type 0 where
+  pub once : Once (labels_of terms)
+  pub positive : 0 < denominators terms
+  pub there : (t : List ℕ × Fraction) → Among t terms → t.1.0 *ℤ pos D ≡ coefficient whole t.0 *ℤ pos t.1.1
+  pub missing : (label : List ℕ) → (Among label (labels_of terms) → ⊥) → coefficient whole label ≡ pos 0
+
+coefficient_divided : (D : ℕ) (whole : WholeTerms) (terms : Terms (List ℕ)) → IsDivided D whole terms → (label : List ℕ)
+    → pos D *ℤ coefficient (over (denominators terms) terms) label ≡ pos (denominators terms) *ℤ coefficient whole label
+coefficient_divided D whole terms d label = by (among_or_not label terms)
+  where
+    q : ℕ
+    q = denominators terms
+
+    by : ((t : List ℕ × Fraction) × Among t terms × (t.0 ≡ label)) ⊎ (Among label (labels_of terms) → ⊥) → pos D *ℤ coefficient (over (denominators terms) terms) label ≡ pos (denominators terms) *ℤ coefficient whole label
+    by (inl (t, m, e)) =
+        ap (λ l. pos D *ℤ coefficient (over (denominators terms) terms) l) (sym e)
+        ∙ ap (λ z. pos D *ℤ z) (over-there (denominators terms) terms d.once t m)
+        ∙ sum (t.1.0) (coefficient whole t.0) D t.1.1 (denominators terms / t.1.1) (denominators terms) (d.there t m) (div-mul_cancel t.1.1 (divides-denominators terms t m))
+        ∙ ap (λ l. pos (denominators terms) *ℤ coefficient whole l) e
+      where
+        sum : (n w : ℤ) (D den r q : ℕ) → n *ℤ pos D ≡ w *ℤ pos den → r * den ≡ q → pos D *ℤ (n *ℤ pos r) ≡ pos q *ℤ w
+        sum n w D den r q a b =
+            sym (product_assoc (pos D) n (pos r))
+            ∙ ap (λ z. z *ℤ pos r) (*ℤ_comm (pos D) n ∙ a)
+            ∙ product_assoc w (pos den) (pos r)
+            ∙ ap (λ k. w *ℤ pos k) (let c : den * r ≡ q = omega arith in c)
+            ∙ *ℤ_comm w (pos q)
+    by (inr n) =
+        ap (λ z. pos D *ℤ z) (over-missing (denominators terms) terms label n) ∙ *ℤ-zero (pos D)
+        ∙ sym (ap (λ z. pos (denominators terms) *ℤ z) (d.missing label n) ∙ *ℤ-zero (pos (denominators terms)))
+
+pub cleared-over : (q n : ℕ) (terms : Terms (List ℕ)) → cleared (λ label. monomial label n) q terms ≡ in_monomials (over q terms) n
+cleared-over q n [] = refl
+cleared-over q n (t ∷ terms) = ap (plus (scale (t.1.0 *ℤ pos (q / t.1.1)) (monomial t.0 n))) (cleared-over q n terms)
+
+-- the fractions stand for the list divided by D, in every number of variables
+pub expansion_divided : (D : ℕ) (whole : WholeTerms) (terms : Terms (List ℕ)) (f : ℕ → Poly) → IsDivided D whole terms → IsList whole f → (n : ℕ) → IsExpansionOf Basis.monomials terms n (f n) D
+expansion_divided D whole terms f d h n =
+    let q = denominators terms in
+    let left = in_monomials (over q terms) n in
+    record {
+      positive = d.positive;
+      equal =
+          subst (λ g. Same (scale (pos D) g) (scale (pos (denominators terms)) (f n))) (sym (cleared-over (denominators terms) n terms))
+          (Same_trans (scale (pos D) left) (in_monomials (scale (pos D) (over q terms)) n) (scale (pos q) (f n))
+          (Same_sym (in_monomials (scale (pos D) (over q terms)) n) (scale (pos D) left) (list-scale (pos D) (over q terms) n))
+          (Same_trans (in_monomials (scale (pos D) (over q terms)) n) (in_monomials (scale (pos q) whole) n) (scale (pos q) (f n))
+          (combined_respects (λ label. monomial label n) (scale (pos D) (over q terms)) (scale (pos q) whole)
+          (λ label. coefficient_scale (pos D) (over q terms) label ∙ coefficient_divided D whole terms d label ∙ sym (coefficient_scale (pos q) whole label)))
+          (Same_trans (in_monomials (scale (pos q) whole) n) (scale (pos q) (in_monomials whole n)) (scale (pos q) (f n))
+          (list-scale (pos q) whole n)
+          (scale_respects (pos q) (in_monomials whole n) (f n) (h n)))));
+    }
+
+-- ---- bounds
+
+-- a fraction that is c/D, by its size
+pub divided-size : (num c : ℤ) (den D : ℕ) → num *ℤ pos D ≡ c *ℤ pos den → nat_abs num * D ≡ nat_abs c * den
+divided-size num c den D e = sym (unsigned_abs-mul num (pos D)) ∙ ap nat_abs e ∙ unsigned_abs-mul c (pos den)
+
+-- a bound of c is one of the fraction times D
+pub divided-bound : (num c : ℤ) (den D F B : ℕ) → num *ℤ pos D ≡ c *ℤ pos den → nat_abs c * F ≤ B → nat_abs num * D * F ≤ B * den
+divided-bound num c den D F B e h =
+    let size = divided-size num c den D e in
+    let m = mul-le-mul_left den h in
+    let s = ap (λ k. k * F) size in
+    omega arith

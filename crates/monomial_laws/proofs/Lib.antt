@@ -1,0 +1,12 @@
+pub mod PowerSums
+pub mod PowerSumLists
+pub mod PowerSumCoefficients
+pub mod Splits
+pub mod Powers
+pub mod SchurMajorants
+pub mod Majorants
+pub mod Arrangements
+pub mod ExpressionTerms
+pub mod AtomTerms
+pub mod DividedTerms
+pub mod WeightBounds

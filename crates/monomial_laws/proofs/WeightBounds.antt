@@ -1,0 +1,272 @@
+-- The weight of an expression bounds every number of its conversion into m (specs/ExpressionTerms).
+--     coefficient_within_growth      a coefficient is at most N times the growth at the degree
+--     product_within_growth          so is a coefficient of the product of two lists with absolute values
+--     weight-sum_left .. -product_right      no part of an expression has a greater weight than the whole
+use Rattle.std.proofs.Common.{◌≡◌, ◌⊎◌, ℕ, zero, suc, ◌+◌, ◌-◌, ◌*◌, ◌/◌, ◌^◌, ◌<◌, ◌≤◌, max, cond, List, [], ◌∷◌, length, sym, ◌∙◌, ap, ap₂, subst, refl, inl, inr, arith, ℤ, pos, ◌+ℤ◌, ◌*ℤ◌}
+use Rattle.std.specs.Prelude.{nat_abs, ◌≤ℤ◌}
+use Rattle.std.proofs.lemmas.Int.{ints}
+use Rattle.std.proofs.lemmas.Nat.{mul-le}
+use Rattle.std.proofs.lemmas.Bool.{cases_lt, cases_eq}
+use Rattle.sym_model.specs.Sum.{Among, Once}
+use Rattle.sym_model.specs.Polynomial.{Poly, coefficient, times}
+use Rattle.sym_model.specs.Partition.{size, sorted_parts}
+use Rattle.sym_model.specs.Expansion.{Basis}
+use Rattle.sym_model.specs.Expression.{Tree, number, fraction, atom, negation, sum, difference, product, degree, lcm, denominator}
+use Rattle.sym_model.specs.Weight.{factorial, growth, numerator, weight}
+use Rattle.sym_model.specs.WholeTerms.{WholeTerms, labels}
+use Rattle.monomial_laws.specs.MonomialProduct.{splits, product_coefficient}
+use Rattle.monomial_laws.specs.Majorant.{IsBounded, powers}
+use Rattle.monomial_laws.specs.ExpressionTerms.{in_monomials, absolute, HasDenominators}
+use Rattle.sym_model.proofs.Sums.{total_among}
+use Rattle.sym_model.proofs.Exponents.{same_from, same_apart, same_or_not}
+use Rattle.sym_model.proofs.Polynomials.{coefficient_outside}
+use Rattle.monomial_laws.proofs.PowerSumCoefficients.{coefficient-monomial_terms}
+use Rattle.monomial_laws.proofs.Splits.{coefficient_times, length-splits, In-monomial_terms}
+use Rattle.monomial_laws.proofs.Powers.{factorials-positive}
+use Rattle.monomial_laws.proofs.Majorants.{bounded-times, coefficient_bound, coefficient-higher}
+use Rattle.std.specs.Int.{◌∣◌}
+use Rattle.sym_model.specs.Canonical.{gcd}
+use Rattle.sym_model.proofs.GreatestCommonDivisors.{IsGcd-gcd}
+use native.Mathlib.Nat.{div-mul_cancel, dvd-mul_left, mul-le-mul_left, pow-suc, pow-zero}
+use lib.IntN.{+ℤ_idl}
+
+-- ---- the growth
+
+power-mono_base : (a b d : ℕ) → a ≤ b → a ^ d ≤ b ^ d
+power-mono_base a b zero h = rw (pow-zero a, pow-zero b) (omega arith)
+power-mono_base a b (suc d) h = let p = mul-le (a ^ d) a (b ^ d) b (power-mono_base a b d h) h in rw (pow-suc a d, pow-suc b d) p
+
+factorial-within : (d : ℕ) → factorial d ≤ suc d ^ d
+factorial-within zero = omega arith
+factorial-within (suc d) =
+    let p = power-mono_base (suc d) (suc (suc d)) d (omega arith) in
+    let q = factorial-within d in
+    let r = mul-le (suc d) (factorial d) (suc (suc d)) (suc (suc d) ^ d) (omega arith) (omega arith) in
+    rw (pow-suc (suc (suc d)) d) (omega arith)
+
+-- d! is at most the growth into m
+pub factorial-within_growth : (d : ℕ) → factorial d ≤ growth Basis.monomials d
+factorial-within_growth zero = omega arith
+factorial-within_growth (suc d) =
+    let p = factorial-within d in
+    let q = mul-le-mul_left (suc d) p in
+    rw (pow-suc (suc d) d) (omega arith)
+
+growth-more : (d : ℕ) → growth Basis.monomials d ≤ growth Basis.monomials (suc d)
+growth-more zero = omega arith
+growth-more (suc d) =
+    let p = power-mono_base (suc d) (suc (suc d)) (suc d) (omega arith) in
+    let q = mul-le-mul_left (suc (suc d) ^ suc d) (let one : 1 ≤ suc (suc d) = omega arith in one) in
+    rw (pow-suc (suc (suc d)) (suc d)) (omega arith)
+
+growth-mono_more : (d j : ℕ) → growth Basis.monomials d ≤ growth Basis.monomials (j + d)
+growth-mono_more d zero = let e : 0 + d ≡ d = omega arith in rw e (omega arith)
+growth-mono_more d (suc j) = let e : suc j + d ≡ suc (j + d) = omega arith in let h = growth-mono_more d j in let k = growth-more (j + d) in rw e (omega arith)
+
+pub growth-mono : (d e : ℕ) → d ≤ e → growth Basis.monomials d ≤ growth Basis.monomials e
+growth-mono d e h = let i : (e - d) + d ≡ e = omega arith in subst (λ k. growth Basis.monomials d ≤ growth Basis.monomials k) i (growth-mono_more d (e - d))
+
+pub growth-positive : (d : ℕ) → 0 < growth Basis.monomials d
+growth-positive d = let h = growth-mono 0 d (omega arith) in omega arith
+
+-- ---- coefficients
+
+-- what is bounded by N at the degree d has no coefficient above N times the growth at d
+pub coefficient_within_growth : (N d n : ℕ) (f : Poly) → IsBounded N d n f → (α : List ℕ) → length α ≡ n → nat_abs (coefficient f α) ≤ N * growth Basis.monomials d
+coefficient_within_growth N d n f b α e = by (cases_lt d (size α))
+  where
+    by : (d < size α) ⊎ (size α ≤ d) → nat_abs (coefficient f α) ≤ N * growth Basis.monomials d
+    by (inl h) = let z = ap nat_abs (coefficient-higher N d n f b α e h) in omega (arith, z)
+    by (inr h) =
+        let p = coefficient_bound N d n f b α e in
+        let q = factorial-within_growth (size α) in
+        let r = growth-mono (size α) d h in
+        let s = mul-le-mul_left N (let t : factorial (size α) ≤ growth Basis.monomials d = omega arith in t) in
+        let u = mul-le-mul_left (nat_abs (coefficient f α)) (factorials-positive α) in
+        omega arith
+
+-- a list with its coefficients made positive
+absolute-missing : (terms : WholeTerms) (label : List ℕ) → (Among label (labels terms) → ⊥) → (coefficient terms label ≡ pos 0) × (coefficient (absolute terms) label ≡ pos 0)
+absolute-missing [] label h = (refl, refl)
+absolute-missing (t ∷ terms) label h =
+    let r = absolute-missing terms label (λ m. h (inr m)) in
+    let z = same_apart t.0 label (λ e. h (inl (sym e))) in (
+      ap (λ b. cond b t.1 (pos 0) +ℤ coefficient terms label) z ∙ +ℤ_idl (coefficient terms label) ∙ r.0,
+      ap (λ b. cond b (pos (nat_abs t.1)) (pos 0) +ℤ coefficient (absolute terms) label) z ∙ +ℤ_idl (coefficient (absolute terms) label) ∙ r.1,
+    )
+
+pub coefficient-absolute : (terms : WholeTerms) (label : List ℕ) → Once (labels terms) → coefficient (absolute terms) label ≡ pos (nat_abs (coefficient terms label))
+coefficient-absolute [] label o = refl
+coefficient-absolute (t ∷ terms) label o = by (same_or_not t.0 label) (coefficient-absolute terms label o.1)
+  where
+    by : (t.0 ≡ label) ⊎ (t.0 ≡ label → ⊥) → coefficient (absolute terms) label ≡ pos (nat_abs (coefficient terms label)) → coefficient (absolute (t ∷ terms)) label ≡ pos (nat_abs (coefficient (t ∷ terms) label))
+    by (inl e) r =
+        let m = absolute-missing terms label (λ m. o.0 (subst (λ l. Among l (labels terms)) (sym e) m)) in
+        rw (same_from t.0 label e, m.0, m.1) (omega (arith, ints))
+    by (inr n) r =
+        rw (same_apart t.0 label n, +ℤ_idl (coefficient terms label), +ℤ_idl (coefficient (absolute terms) label)) r
+
+-- it has the same bound
+pub bounded-absolute : (N d n : ℕ) (terms : WholeTerms) → Once (labels terms) → IsBounded N d n (in_monomials terms n) → IsBounded N d n (in_monomials (absolute terms) n)
+bounded-absolute N d n terms o b = record {
+  exponents = b.exponents;
+  few = b.few;
+  low = b.low;
+  majorant = λ α. by α (cases_eq (length α) n);
+}
+  where
+    nonnegative : (x : ℤ) (y : ℤ) → pos (nat_abs x) ≤ℤ y → pos 0 ≤ℤ y
+    nonnegative x y h = omega (arith, ints)
+
+    by : (α : List ℕ) → (length α ≡ n) ⊎ (length α ≡ n → ⊥) → pos (nat_abs (coefficient (in_monomials (absolute terms) n) α)) ≤ℤ coefficient (powers b.exponents n) α
+    by α (inl e) =
+        subst (λ z. pos (nat_abs z) ≤ℤ coefficient (powers b.exponents n) α)
+        (sym (coefficient-monomial_terms (absolute terms) n α e ∙ coefficient-absolute terms (sorted_parts α) o ∙ ap (λ z. pos (nat_abs z)) (sym (coefficient-monomial_terms terms n α e))))
+        (twice (coefficient (in_monomials terms n) α) (coefficient (powers b.exponents n) α) (b.majorant α))
+      where
+        twice : (x y : ℤ) → pos (nat_abs x) ≤ℤ y → pos (nat_abs (pos (nat_abs x))) ≤ℤ y
+        twice x y h = omega (arith, ints)
+    by α (inr e) =
+        subst (λ z. pos (nat_abs z) ≤ℤ coefficient (powers b.exponents n) α)
+        (sym (coefficient_outside n (in_monomials (absolute terms) n) α (In-monomial_terms (absolute terms) n) e))
+        (nonnegative (coefficient (in_monomials terms n) α) (coefficient (powers b.exponents n) α) (b.majorant α))
+
+-- the coefficients of a product of lists are those of the polynomial
+pub coefficient-list_product : (A B : WholeTerms) (ν : List ℕ) → coefficient (times (in_monomials A (length ν)) (in_monomials B (length ν))) ν ≡ product_coefficient A B ν
+coefficient-list_product A B ν =
+    let n = length ν in
+    coefficient_times n (in_monomials A n) (in_monomials B n) ν (In-monomial_terms A n) (In-monomial_terms B n) refl
+    ∙ total_among
+    (λ (s : List ℕ × List ℕ). coefficient (in_monomials A n) s.0 *ℤ coefficient (in_monomials B n) s.1)
+    (λ (s : List ℕ × List ℕ). coefficient A (sorted_parts s.0) *ℤ coefficient B (sorted_parts s.1))
+    (splits ν)
+    (λ s m. let k = length-splits ν s m in ap₂ ◌*ℤ◌ (coefficient-monomial_terms A n s.0 k.0) (coefficient-monomial_terms B n s.1 k.1))
+
+-- so the product of two lists with absolute values has no coefficient above the product of the bounds
+pub product_within_growth : (N M d e : ℕ) (A B : WholeTerms) → Once (labels A) → Once (labels B)
+    → ((n : ℕ) → IsBounded N d n (in_monomials A n)) → ((n : ℕ) → IsBounded M e n (in_monomials B n))
+    → (ν : List ℕ) → nat_abs (product_coefficient (absolute A) (absolute B) ν) ≤ N * M * growth Basis.monomials (d + e)
+product_within_growth N M d e A B o p h k ν =
+    let n = length ν in
+    subst (λ z. nat_abs z ≤ N * M * growth Basis.monomials (d + e)) (coefficient-list_product (absolute A) (absolute B) ν)
+    (coefficient_within_growth (N * M) (d + e) n (times (in_monomials (absolute A) n) (in_monomials (absolute B) n))
+    (bounded-times N M d e n (in_monomials (absolute A) n) (in_monomials (absolute B) n) (In-monomial_terms (absolute A) n) (In-monomial_terms (absolute B) n)
+    (bounded-absolute N d n A o (h n)) (bounded-absolute M e n B p (k n)))
+    ν refl)
+
+-- ---- weights
+
+-- the common multiple of two positive numbers
+pub lcm-left : (a b : ℕ) → 0 < a → lcm a b / a * a ≡ lcm a b
+lcm-left a b h =
+    let g = IsGcd-gcd a b in
+    let p = div-mul_cancel (gcd a b) {m = a} g.0 in
+    let q = div-mul_cancel (gcd a b) {m = b} g.1 in
+    let e : b / gcd a b * a ≡ lcm a b = ap (λ k. b / gcd a b * k) (sym p) ∙ (let r : b / gcd a b * (a / gcd a b * gcd a b) ≡ a / gcd a b * (b / gcd a b * gcd a b) = omega arith in r) ∙ ap (λ k. a / gcd a b * k) q in
+    div-mul_cancel a {m = lcm a b} (subst (λ k. a ∣ k) e (dvd-mul_left a (b / gcd a b)))
+
+pub lcm-right : (a b : ℕ) → lcm a b / b * b ≡ lcm a b
+lcm-right a b = div-mul_cancel b {m = lcm a b} (dvd-mul_left b (a / gcd a b))
+
+positive_factor : (q a m : ℕ) → q * a ≡ m → 0 < m → 0 < q
+positive_factor zero a m e h = absurd (let z : 0 * a ≡ 0 = omega arith in omega arith)
+positive_factor (suc q) a m e h = omega arith
+
+pub lcm-positive : (a b : ℕ) → 0 < a → 0 < b → 0 < lcm a b
+lcm-positive a b h k =
+    let g = IsGcd-gcd a b in
+    let p = div-mul_cancel (gcd a b) {m = a} g.0 in
+    let q = positive_factor (a / gcd a b) (gcd a b) a p h in
+    let r = mul-le (suc zero) (suc zero) (a / gcd a b) b (omega arith) (omega arith) in
+    omega arith
+
+pub denominator-positive : (e : Tree) → HasDenominators e → 0 < denominator e
+denominator-positive (number a) h = omega arith
+denominator-positive (fraction a b) h = h
+denominator-positive (atom basis parts) h = omega arith
+denominator-positive (negation e) h = denominator-positive e h
+denominator-positive (sum e f) h = lcm-positive (denominator e) (denominator f) (denominator-positive e h.0) (denominator-positive f h.1)
+denominator-positive (difference e f) h = lcm-positive (denominator e) (denominator f) (denominator-positive e h.0) (denominator-positive f h.1)
+denominator-positive (product e f) h =
+    let r = mul-le (suc zero) (suc zero) (denominator e) (denominator f) (denominator-positive e h.0) (denominator-positive f h.1) in omega arith
+
+-- the number that completes a denominator to the common multiple is positive
+pub complement_left : (e f : Tree) → HasDenominators e → HasDenominators f → 0 < lcm (denominator e) (denominator f) / denominator e
+complement_left e f h k =
+    positive_factor (lcm (denominator e) (denominator f) / denominator e) (denominator e) (lcm (denominator e) (denominator f))
+    (lcm-left (denominator e) (denominator f) (denominator-positive e h)) (lcm-positive (denominator e) (denominator f) (denominator-positive e h) (denominator-positive f k))
+
+pub complement_right : (e f : Tree) → HasDenominators e → HasDenominators f → 0 < lcm (denominator e) (denominator f) / denominator f
+complement_right e f h k =
+    positive_factor (lcm (denominator e) (denominator f) / denominator f) (denominator f) (lcm (denominator e) (denominator f))
+    (lcm-right (denominator e) (denominator f)) (lcm-positive (denominator e) (denominator f) (denominator-positive e h) (denominator-positive f k))
+
+pub numerator-positive : (e : Tree) → HasDenominators e → 0 < numerator e
+numerator-positive (number a) h = omega arith
+numerator-positive (fraction a b) h = omega arith
+numerator-positive (atom basis parts) h = omega arith
+numerator-positive (negation e) h = numerator-positive e h
+numerator-positive (sum e f) h =
+    let q = lcm (denominator e) (denominator f) / denominator e in
+    let r = mul-le (suc zero) (suc zero) (numerator e) q (numerator-positive e h.0) (complement_left e f h.0 h.1) in omega arith
+numerator-positive (difference e f) h =
+    let q = lcm (denominator e) (denominator f) / denominator e in
+    let r = mul-le (suc zero) (suc zero) (numerator e) q (numerator-positive e h.0) (complement_left e f h.0 h.1) in omega arith
+numerator-positive (product e f) h =
+    let r = mul-le (suc zero) (suc zero) (numerator e) (numerator f) (numerator-positive e h.0) (numerator-positive f h.1) in omega arith
+
+three : (a b c x y z : ℕ) → a ≤ x → b ≤ y → c ≤ z → a * b * c ≤ x * y * z
+three a b c x y z h k l = mul-le (a * b) c (x * y) z (mul-le a b x y h k) l
+
+times_more : (a b : ℕ) → 0 < b → a ≤ a * b
+times_more a b h = let p = mul-le-mul_left a h in omega arith
+
+-- both parts of a sum or a difference have no greater weight
+pub weight-left : (e f : Tree) → HasDenominators e → HasDenominators f → weight Basis.monomials e ≤ weight Basis.monomials (sum e f)
+weight-left e f h k =
+    let q = lcm (denominator e) (denominator f) / denominator e in
+    let r = lcm (denominator e) (denominator f) / denominator f in
+    let n = times_more (numerator e) q (complement_left e f h k) in
+    let d = times_more (denominator e) q (complement_left e f h k) in
+    let m = lcm-left (denominator e) (denominator f) (denominator-positive e h) in
+    three (numerator e) (denominator e) (growth Basis.monomials (degree e))
+    (numerator e * q + numerator f * r) (lcm (denominator e) (denominator f)) (growth Basis.monomials (max (degree e) (degree f)))
+    (omega arith) (omega arith) (growth-mono (degree e) (max (degree e) (degree f)) (omega arith))
+
+pub weight-right : (e f : Tree) → HasDenominators e → HasDenominators f → weight Basis.monomials f ≤ weight Basis.monomials (sum e f)
+weight-right e f h k =
+    let q = lcm (denominator e) (denominator f) / denominator e in
+    let r = lcm (denominator e) (denominator f) / denominator f in
+    let n = times_more (numerator f) r (complement_right e f h k) in
+    let d = times_more (denominator f) r (complement_right e f h k) in
+    let m = lcm-right (denominator e) (denominator f) in
+    three (numerator f) (denominator f) (growth Basis.monomials (degree f))
+    (numerator e * q + numerator f * r) (lcm (denominator e) (denominator f)) (growth Basis.monomials (max (degree e) (degree f)))
+    (omega arith) (omega arith) (growth-mono (degree f) (max (degree e) (degree f)) (omega arith))
+
+-- and both factors of a product
+pub weight-left_factor : (e f : Tree) → HasDenominators e → HasDenominators f → weight Basis.monomials e ≤ weight Basis.monomials (product e f)
+weight-left_factor e f h k =
+    three (numerator e) (denominator e) (growth Basis.monomials (degree e))
+    (numerator e * numerator f) (denominator e * denominator f) (growth Basis.monomials (degree e + degree f))
+    (times_more (numerator e) (numerator f) (numerator-positive f k)) (times_more (denominator e) (denominator f) (denominator-positive f k))
+    (growth-mono (degree e) (degree e + degree f) (omega arith))
+
+pub weight-right_factor : (e f : Tree) → HasDenominators e → HasDenominators f → weight Basis.monomials f ≤ weight Basis.monomials (product e f)
+weight-right_factor e f h k =
+    let n = times_more (numerator f) (numerator e) (numerator-positive e h) in
+    let d = times_more (denominator f) (denominator e) (denominator-positive e h) in
+    three (numerator f) (denominator f) (growth Basis.monomials (degree f))
+    (numerator e * numerator f) (denominator e * denominator f) (growth Basis.monomials (degree e + degree f))
+    (omega arith) (omega arith)
+    (growth-mono (degree f) (degree e + degree f) (omega arith))
+
+-- the weight is at least N times the growth, and at least D
+pub growth-within_weight : (e : Tree) → HasDenominators e → numerator e * growth Basis.monomials (degree e) ≤ weight Basis.monomials e
+growth-within_weight e h = mul-le (numerator e) (growth Basis.monomials (degree e)) (numerator e * denominator e) (growth Basis.monomials (degree e)) (times_more (numerator e) (denominator e) (denominator-positive e h)) (omega arith)
+
+pub denominator-within_weight : (e : Tree) → HasDenominators e → denominator e ≤ weight Basis.monomials e
+denominator-within_weight e h =
+    let p = times_more (denominator e) (numerator e) (numerator-positive e h) in
+    let q = times_more (numerator e * denominator e) (growth Basis.monomials (degree e)) (growth-positive (degree e)) in
+    omega arith

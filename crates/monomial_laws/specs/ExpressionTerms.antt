@@ -1,0 +1,72 @@
+-- Expressions as lists of terms in m, with no fraction on the way (this project's own).
+--
+-- An expression E with the denominator D stands for V/D, V being its cleared value, a polynomial with whole coefficients.
+-- A conversion into m keeps D and a list of labels with whole coefficients that is V:
+--   a number, a fraction     the one term of the empty label
+--   an atom                  e_k, h_k and p_k as lists, multiplied over the parts
+--   a negation               each coefficient negated
+--   a sum, a difference      both lists times what is lacking to the least common multiple, then term by term
+--   a product                `product_coefficient` of the two lists
+-- and at the end it divides each coefficient by D, in lowest terms. So every number on the way is a coefficient of a part
+-- of the expression, and the weight bounds it.
+use Rattle.std.specs.Prelude.{ℕ, ◌*◌, ◌≤◌, ◌/◌, ◌<◌, ℤ, pos, nat_abs, ◌*ℤ◌, List, [], ◌∷◌, map, replicate}
+use Rattle.std.specs.Int.{◌∣◌}
+use Rattle.sym_model.specs.Sum.{Among}
+use Rattle.sym_model.specs.Partition.{size}
+use Rattle.sym_model.specs.Weight.{factorial}
+use Rattle.monomial_laws.specs.Majorant.{factorials}
+use Rattle.sym_model.specs.Polynomial.{Poly, Same}
+use Rattle.sym_model.specs.Bases.{monomial}
+use Rattle.sym_model.specs.PartitionList.{partitions_of}
+use Rattle.sym_model.specs.Expansion.{Terms, Fraction}
+use Rattle.sym_model.specs.Expression.{Tree, number, fraction, atom, negation, sum, difference, product, cleared_value}
+use Rattle.sym_model.specs.WholeTerms.{WholeTerms, combined}
+
+-- the polynomial in n variables of a list of terms in m
+abbrev pub in_monomials : WholeTerms → ℕ → Poly
+in_monomials terms n = combined (λ label. monomial label n) terms
+
+-- the list is a family of polynomials, one for each number of variables
+abbrev pub IsList : WholeTerms → (ℕ → Poly) → Type 0
+IsList terms f = (n : ℕ) → Same (in_monomials terms n) (f n)
+
+-- the list is the cleared value of the expression
+abbrev pub IsCleared : WholeTerms → Tree → Type 0
+IsCleared terms e = IsList terms (cleared_value e)
+
+-- e_k as a list: the partition of k ones
+abbrev pub elementary_terms : ℕ → WholeTerms
+elementary_terms k = (replicate k 1, pos 1) ∷ []
+
+-- h_k as a list: all partitions of k
+abbrev pub complete_terms : ℕ → WholeTerms
+complete_terms k = map (λ (parts : List ℕ). (parts, pos 1)) (partitions_of k)
+
+-- p_k as a list, for k ≥ 1: the partition of one part
+abbrev pub power_sum_terms_of : ℕ → WholeTerms
+power_sum_terms_of k = ((k ∷ []), pos 1) ∷ []
+
+-- the labels with the absolute values of their coefficients
+abbrev pub absolute : WholeTerms → WholeTerms
+absolute terms = map (λ (t : List ℕ × ℤ). (t.0, pos (nat_abs t.1))) terms
+
+-- the coefficients of a list over a common denominator q: num·(q/den) for each label
+abbrev pub over : ℕ → Terms (List ℕ) → WholeTerms
+over q terms = map (λ (t : List ℕ × Fraction). (t.0, t.1.0 *ℤ pos (q / t.1.1))) terms
+
+-- each fraction of the expression has a positive denominator
+abbrev pub HasDenominators : Tree → Type 0
+HasDenominators (number a) = Unit {0}
+HasDenominators (fraction a b) = 0 < b
+HasDenominators (atom basis parts) = Unit {0}
+HasDenominators (negation e) = HasDenominators e
+HasDenominators (sum e f) = HasDenominators e × HasDenominators f
+HasDenominators (difference e f) = HasDenominators e × HasDenominators f
+HasDenominators (product e f) = HasDenominators e × HasDenominators f
+
+-- the list is bounded by N and D: the denominator of each coefficient c divides D, and |c|·D ≤ N·d!/Π λ_i! for its label λ of
+-- size d
+abbrev pub AreBounded : ℕ → ℕ → Terms (List ℕ) → Type 0
+AreBounded N D terms =
+    (t : List ℕ × Fraction) → Among t terms
+    → (t.1.1 ∣ D) × (nat_abs t.1.0 * D * factorials t.0 ≤ N * factorial (size t.0) * t.1.1)

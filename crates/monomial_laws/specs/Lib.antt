@@ -1,0 +1,5 @@
+pub mod PowerSumProduct
+pub mod LoweredPart
+pub mod MonomialProduct
+pub mod Majorant
+pub mod ExpressionTerms

@@ -1,0 +1,26 @@
+//! Products of monomial symmetric polynomials.
+
+ghost use Rattle.std.specs.Prelude.{◌≡◌, ℕ, pos, List, [], ◌∷◌};
+ghost use Rattle.sym_model.specs.Polynomial.{Same, coefficient, times};
+ghost use Rattle.sym_model.specs.Partition.{IsPartition};
+ghost use Rattle.sym_model.specs.Bases.{monomial};
+ghost use Rattle.sym_model.specs.WholeTerms.{WholeTerms, combined};
+ghost use Rattle.monomial_laws.specs.MonomialProduct.{arrangements, product_coefficient};
+
+/// The product of two monomial symmetric polynomials has each partition ν as often as ν is an
+/// arrangement of the one label plus an arrangement of the other, in every number of variables; so
+/// two lists of terms are multiplied coefficient by coefficient, over all pairs of their labels.
+///
+/// Examples: m_(1)·m_(1) = m_(2) + 2·m_(1,1), and m_(2,1)·m_(1) has m_(2,1,1) twice.
+pub fn monomial_product_law()
+    ensures product { (left right : List ℕ) (terms : WholeTerms)
+        → ((ν : List ℕ) → IsPartition ν → coefficient terms ν ≡ pos (arrangements left right ν))
+        → (n : ℕ) → Same (times (monomial left n) (monomial right n)) (combined (λ label. monomial label n) terms) }
+    ensures lists { (left right terms : WholeTerms)
+        → ((ν : List ℕ) → IsPartition ν → coefficient terms ν ≡ product_coefficient left right ν)
+        → (n : ℕ) → Same (times (combined (λ label. monomial label n) left) (combined (λ label. monomial label n) right))
+        (combined (λ label. monomial label n) terms) }
+    ensures square { arrangements (1 ∷ []) (1 ∷ []) (2 ∷ []) ≡ 1 }
+    ensures apart { arrangements (1 ∷ []) (1 ∷ []) (1 ∷ 1 ∷ []) ≡ 2 }
+    ensures two_ones { arrangements (2 ∷ 1 ∷ []) (1 ∷ []) (2 ∷ 1 ∷ 1 ∷ []) ≡ 2 }
+{}
