@@ -1,11 +1,10 @@
--- What a source and a sink in memory do, over plain lists.
+-- What sources and sinks in memory do, over plain lists.
 use Rattle.std.proofs.Common.{◌≡◌, ℕ, ◌+◌, ◌<◌, ◌≤◌, min, max, List, [], ◌∷◌, ◌++◌, length, take, drop, Some, refl, sym, ◌∙◌, ap, arith, length-append}
 use Rattle.std.proofs.lemmas.List.{take-append-drop}
 use Rattle.std.proofs.Math.Seq.{take-append_seam}
 use Rattle.std.proofs.lemmas.Grind.{common_steps}
 use Rattle.calc_base.specs.Source.{Takes}
 use Rattle.calc_base.specs.Sink.{greatest_length, AppendsPrefix}
-use Rattle.calc_base.specs.Store.{Store, told_length}
 
 -- the first bytes of what is left, moved to the front of a buffer
 pub Takes-front : (rest later filled behind buffer : List ℕ) (piece count : ℕ)
@@ -32,16 +31,17 @@ Takes-front rest later filled behind buffer piece count front back whole number 
     nothing [] e = refl
     nothing (x ∷ xs) e = cc
 
--- a store whose bytes grew by some of the piece
-pub Store-appends : (s t : Store) (piece : List ℕ) (count : ℕ) → t.bytes ≡ s.bytes ++ take count piece
-    → AppendsPrefix (λ s. Some s.bytes) told_length s t piece
-Store-appends s t piece count grew = record {
+-- a sink that tells its bytes, which grew by some of the piece
+pub appends_some : {S : Type 0} (bytes : S → List ℕ) (old new : S) (piece : List ℕ) (count : ℕ)
+    → bytes new ≡ bytes old ++ take count piece
+    → AppendsPrefix (λ s. Some (bytes s)) (λ s. Some (min (length (bytes s)) greatest_length)) old new piece
+appends_some bytes old new piece count grew = record {
   front = take count piece;
   is_prefix = record { rest = drop count piece; joined = take-append-drop count piece };
   appends = record {
     bytes = ap Some grew;
-    number = ap Some (number (length s.bytes) (length (take count piece)) (length t.bytes) greatest_length
-        (ap length grew ∙ length-append s.bytes (take count piece)));
+    number = ap Some (number (length (bytes old)) (length (take count piece)) (length (bytes new)) greatest_length
+        (ap length grew ∙ length-append (bytes old) (take count piece)));
   };
 }
   where

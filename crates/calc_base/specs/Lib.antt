@@ -1,9 +1,11 @@
--- What the outside of the calculator is to it: sources, sinks, listers, and how a text goes to a sink.
+-- What the outside of the calculator is to it: sources, sinks, listers, and how a text is put to a sink.
 pub mod Fault
 pub mod Source
 pub mod Sink
-pub mod Goes
+pub mod Puts
 pub mod Status
 pub mod Supply
 pub mod Store
 pub mod Edge
+pub mod Fixed
+pub mod Tally

@@ -1,6 +1,6 @@
 -- A sink in memory, as its contracts see it.
 use Rattle.std.specs.Prelude.{ℕ, ◌-◌, List, [], ◌++◌, length, take, min, Option, Some, cond, Bool, false, not, ◌||◌, nat_lt}
-use Rattle.calc_base.specs.Fault.{counted_up}
+use Rattle.calc_base.specs.Fault.{counted_up, faults_after}
 use Rattle.calc_base.specs.Sink.{greatest_length}
 use Rattle.calc_base.specs.Supply.{is_listed}
 
@@ -31,19 +31,15 @@ abbrev pub put_fails : Store → List ℕ → Bool
 put_fails s piece = fails_now s || nat_lt (room_left s) (length piece)
 
 -- what a put of this piece appends: nothing at a listed call, and otherwise what fits
-abbrev pub kept : Store → List ℕ → List ℕ
-kept s piece = cond (fails_now s) [] (take (room_left s) piece)
-
--- the count of faults after a call that failed or not
-abbrev pub failed_after : ℕ → Bool → ℕ
-failed_after failed fails = cond fails (counted_up failed) failed
+abbrev pub fitting_front : Store → List ℕ → List ℕ
+fitting_front s piece = cond (fails_now s) [] (take (room_left s) piece)
 
 -- a store after a put of this piece
 abbrev pub after_put : Store → List ℕ → Store
 after_put s piece = record s {
-  bytes = s.bytes ++ kept s piece;
+  bytes = s.bytes ++ fitting_front s piece;
   calls = counted_up s.calls;
-  failed = failed_after s.failed (put_fails s piece);
+  failed = faults_after s.failed (put_fails s piece);
   finished = false;
 }
 
@@ -51,6 +47,6 @@ after_put s piece = record s {
 abbrev pub after_finish : Store → Store
 after_finish s = record s {
   calls = counted_up s.calls;
-  failed = failed_after s.failed (fails_now s);
+  failed = faults_after s.failed (fails_now s);
   finished = not (fails_now s);
 }

@@ -3,7 +3,9 @@
 #![tactic(auto)]
 
 mod calls;
+mod count_sink;
 mod faults;
+mod fixed_sink;
 mod lister;
 mod mem_sink;
 mod mem_source;
@@ -12,10 +14,13 @@ mod source;
 mod status;
 mod std_in;
 mod std_out;
+mod word;
 mod words;
 mod writing;
 
+pub use count_sink::CountSink;
 pub use faults::{NoMemory, SinkFault, SourceFault, SumFault};
+pub use fixed_sink::FixedSink;
 pub use lister::Lister;
 pub use mem_sink::MemSink;
 pub use mem_source::MemSource;
@@ -24,6 +29,7 @@ pub use source::Source;
 pub use status::Status;
 pub use std_in::StdIn;
 pub use std_out::StdOut;
+pub use word::Word;
 pub use words::{Basis, Place, Weight, WordsFault};
 pub use writing::{finish_if, put_if, put_result};
 

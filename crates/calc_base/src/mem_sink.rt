@@ -1,6 +1,6 @@
 // A sink into memory, which fails at chosen calls and where its room ends.
 ghost use Rattle.std.specs.Prelude.{◌≡◌, ◌≤◌, [], Some, false, IfOk, OnOk, OnErr, is_ok, is_err, refl, length as list_length, vec_capacity};
-ghost use Rattle.calc_base.specs.Fault.{HasCause};
+ghost use Rattle.calc_base.specs.Fault.{CountsFaults};
 ghost use Rattle.calc_base.specs.Sink.{Appends, AppendsPrefix};
 ghost use Rattle.calc_base.specs.Store.{Store, told_length, fails_now, put_fails, after_put, after_finish};
 
@@ -84,7 +84,7 @@ impl Sink for MemSink {
             (Appends (λ s. Some s.bytes) told_length self.old self.new bytes.now) }
         ensures err { OnErr result
             (AppendsPrefix (λ s. Some s.bytes) told_length self.old self.new bytes.now) }
-        ensures cause { HasCause self.old.failed self.new.failed result }
+        ensures counts { CountsFaults self.old.failed self.new.failed result }
         ensures settled { self.new.finished ≡ false }
 
         // What this one does.
@@ -110,7 +110,7 @@ impl Sink for MemSink {
     fn finish(&mut self) -> Result<(), SinkFault>
         // What each sink owes.
         ensures same { Appends (λ s. Some s.bytes) told_length self.old self.new [] }
-        ensures cause { HasCause self.old.failed self.new.failed result }
+        ensures counts { CountsFaults self.old.failed self.new.failed result }
         ensures settled { self.new.finished ≡ is_ok result }
 
         // What this one does.

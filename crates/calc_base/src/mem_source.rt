@@ -1,8 +1,8 @@
 // A source over bytes in memory, which fails at chosen calls.
 ghost use Rattle.std.specs.Prelude.{◌≡◌, ◌<◌, ◌≤◌, Some, length, take, drop, IfOk, OnErr, is_err};
-ghost use Rattle.calc_base.specs.Fault.{HasCause};
+ghost use Rattle.calc_base.specs.Fault.{CountsFaults};
 ghost use Rattle.calc_base.specs.Source.{Takes, Spends};
-ghost use Rattle.calc_base.specs.Supply.{Supply, is_listed, given_count, after_take};
+ghost use Rattle.calc_base.specs.Supply.{Supply, is_listed, given_count, after_take, filled_buffer};
 
 use crate::calls::Calls;
 use crate::{NoMemory, Source, SourceFault};
@@ -79,12 +79,13 @@ impl Source for MemSource {
         ensures ok { IfOk result (Takes (Some self.old.rest) (Some self.new.rest) buf.new) }
         ensures err { OnErr result (Some self.new.rest ≡ Some self.old.rest) }
         ensures spends { Spends (length self.old.rest) (length self.new.rest) result }
-        ensures cause { HasCause self.old.failed self.new.failed result }
+        ensures counts { CountsFaults self.old.failed self.new.failed result }
 
         // What this one does.
         ensures fails { is_err result ≡ is_listed self.old.fails self.old.calls }
         ensures given { IfOk result (λ count. count ≡ given_count self.old (length buf.new)) }
         ensures after { self.new ≡ after_take self.old result }
+        ensures buffer { buf.new ≡ filled_buffer self.old result buf.old }
     {
         if self.calls.begin() {
             self.calls.fault();

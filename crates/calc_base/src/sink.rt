@@ -1,6 +1,6 @@
 // Where bytes go.
 ghost use Rattle.std.specs.Prelude.{◌≡◌, ℕ, List, [], Bool, false, is_ok, OnOk, OnErr, Option};
-ghost use Rattle.calc_base.specs.Fault.{HasCause};
+ghost use Rattle.calc_base.specs.Fault.{CountsFaults};
 ghost use Rattle.calc_base.specs.Sink.{Appends, AppendsPrefix, IsCounted};
 
 use crate::SinkFault;
@@ -19,17 +19,18 @@ pub trait Sink {
     /// Whether the last call was a `finish` that answered `Ok`.
     ghost settled: { Self → Bool };
 
-    /// Appends the piece. At an `Err` a prefix of it was appended, and the count of faults rose.
+    /// Appends the piece. At an `Err` a prefix of it was appended, and the count of faults rose by one, or stands at its
+    /// greatest value. At an `Ok` the count is as it was.
     fn put(&mut self, bytes: &[u8]) -> Result<(), SinkFault>
         ensures ok { OnOk result (Appends written length self.old self.new bytes.now) }
         ensures err { OnErr result (AppendsPrefix written length self.old self.new bytes.now) }
-        ensures cause { HasCause (faults self.old) (faults self.new) result }
+        ensures counts { CountsFaults (faults self.old) (faults self.new) result }
         ensures settled { settled self.new ≡ false };
 
-    /// Hands on what was put, and appends nothing. At an `Err` the count of faults rose.
+    /// Hands on what was put, and appends nothing. The count of faults goes as at `put`.
     fn finish(&mut self) -> Result<(), SinkFault>
         ensures same { Appends written length self.old self.new [] }
-        ensures cause { HasCause (faults self.old) (faults self.new) result }
+        ensures counts { CountsFaults (faults self.old) (faults self.new) result }
         ensures settled { settled self.new ≡ is_ok result };
 
     /// Where the bytes are told, so is their number.

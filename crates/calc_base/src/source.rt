@@ -1,6 +1,6 @@
 // Where bytes come from.
 ghost use Rattle.std.specs.Prelude.{◌≡◌, ◌<◌, ℕ, List, length, IfOk, OnErr, Option};
-ghost use Rattle.calc_base.specs.Fault.{HasCause};
+ghost use Rattle.calc_base.specs.Fault.{CountsFaults};
 ghost use Rattle.calc_base.specs.Source.{Takes, Spends};
 
 use crate::SourceFault;
@@ -17,11 +17,12 @@ pub trait Source {
     ghost faults: { Self → ℕ };
 
     /// Takes the next bytes to the front of `buf`, and answers how many: 0 only at the end of the input, where it
-    /// stays. At an `Err` no byte is given, and the count of faults rose.
+    /// stays. At an `Err` no byte is given, and the count of faults rose by one, or stands at its greatest value. At an
+    /// `Ok` the count is as it was.
     fn take(&mut self, buf: &mut [u8]) -> Result<usize, SourceFault>
         requires { 0 < length buf.old }
         ensures ok { IfOk result (Takes (left self.old) (left self.new) buf.new) }
         ensures err { OnErr result (left self.new ≡ left self.old) }
         ensures spends { Spends (allowance self.old) (allowance self.new) result }
-        ensures cause { HasCause (faults self.old) (faults self.new) result };
+        ensures counts { CountsFaults (faults self.old) (faults self.new) result };
 }

@@ -1,9 +1,8 @@
 // The source over the program's input.
-ghost use Rattle.std.specs.Prelude.{◌≡◌, ◌+◌, ◌^◌, ◌<◌, None, length, IfOk, OnErr, IsErr, is_err};
+ghost use Rattle.std.specs.Prelude.{◌≡◌, ◌+◌, ◌^◌, ◌<◌, None, length, IfOk, OnErr, IsErr};
 ghost use Rattle.std.specs.Io.KnownBytes.{ReadConsumes};
-ghost use Rattle.calc_base.specs.Fault.{HasCause};
+ghost use Rattle.calc_base.specs.Fault.{CountsFaults};
 ghost use Rattle.calc_base.specs.Source.{Takes, Spends};
-ghost use Rattle.calc_base.specs.Store.{failed_after};
 ghost use Rattle.calc_base.specs.Edge.{Intake};
 
 use crate::{Source, SourceFault};
@@ -53,7 +52,7 @@ impl<R: Read> Source for StdIn<R> {
         // What each source owes.
         ensures ok { IfOk result (Takes None None buf.new) }
         ensures spends { Spends self.old.allowance self.new.allowance result }
-        ensures cause { HasCause self.old.failed self.new.failed result }
+        ensures counts { CountsFaults self.old.failed self.new.failed result }
 
         // What this one does.
         ensures bytes { ReadConsumes (R.remaining self.old.reader) (R.remaining self.new.reader)
@@ -61,7 +60,6 @@ impl<R: Read> Source for StdIn<R> {
         ensures spent { IfOk result (λ count. self.new.allowance + count ≡ self.old.allowance) }
         ensures unspent { OnErr result (self.new.allowance ≡ self.old.allowance) }
         ensures exhausted { self.old.allowance ≡ 0 → IsErr result }
-        ensures counted { self.new.failed ≡ failed_after self.old.failed (is_err result) }
     {
         if self.allowance > 0 {
             let most = self.allowance.min(buf.len() as u64) as usize;
@@ -113,20 +111,6 @@ mod tests {
         assert_eq!(rt; source.take(&mut buf)?, 0);
         assert_eq!(rt; source.faults, 1);
         assert_eq!(rt; source.allowance, ALLOWANCE - 2);
-        Ok(())
-    }
-
-    #[test]
-    fn with_no_allowance_left_a_call_is_a_fault(rt: HostRuntime) -> Result<(), Fail> {
-        let mut source = StdIn {
-            reader: b"abc".as_slice(),
-            allowance: 2,
-            faults: 0,
-        };
-        let mut buf = [0; 4];
-        assert_eq!(rt; source.take(&mut buf)?, 2);
-        assert_eq!(rt; source.take(&mut buf), Err(SourceFault));
-        assert_eq!(rt; source.faults, 1);
         Ok(())
     }
 }

@@ -1,7 +1,7 @@
-// What no clause says: that calls succeed, faults in mid-stream, and the codes.
+// What no clause says: that calls succeed. And a fault in mid-stream, at each sink and source in memory.
 ghost use Rattle.std.specs.Prelude.{◌≡◌, ◌-◌, ◌≤◌, ℕ, List, [], ◌∷◌, length, map, min, drop, cond, true, IsTrue, slice_range, Option, Some, None};
 ghost use Rattle.std.specs.List.{flat_map};
-ghost use Rattle.calc_base.specs.Goes.{Goes, Prints};
+ghost use Rattle.calc_base.specs.Puts.{Puts, Prints};
 
 use super::*;
 use std::marker::Model;
@@ -9,7 +9,7 @@ use std::test::Fail;
 
 // A printer as the crates above write theirs: each letter, and a line feed behind it.
 fn put_lines<K: Sink>(well: bool, sink: &mut K, letters: &[u8]) -> bool
-    ensures { Goes K.written K.length K.faults well sink.old result sink.new
+    ensures { Puts K.written K.length K.faults well sink.old result sink.new
         (flat_map (λ letter. letter ∷ 10 ∷ []) letters.now) }
 {
     let mut well = well;
@@ -29,7 +29,7 @@ fn print_lines<K: Sink>(sink: &mut K, letters: &[u8]) -> Result<(), SinkFault>
 
 // A text, and the sink finished.
 fn deliver_lines<K: Sink>(sink: &mut K, letters: &[u8]) -> bool
-    ensures goes { Goes K.written K.length K.faults true sink.old result sink.new
+    ensures goes { Puts K.written K.length K.faults true sink.old result sink.new
         (flat_map (λ letter. letter ∷ 10 ∷ []) letters.now) }
     ensures settled { IsTrue result → K.settled sink.new ≡ true }
 {
@@ -39,7 +39,7 @@ fn deliver_lines<K: Sink>(sink: &mut K, letters: &[u8]) -> bool
 
 // The same over a lister: a line for each item, as long as all goes well.
 fn put_items<L: Lister, K: Sink>(well: bool, lister: &mut L, sink: &mut K) -> bool
-    ensures { Goes K.written K.length K.faults well sink.old result sink.new
+    ensures { Puts K.written K.length K.faults well sink.old result sink.new
         (flat_map (λ item. min (length item) 2 ∷ 10 ∷ []) (L.rest lister.old)) }
 {
     let mut well = well;
@@ -104,67 +104,44 @@ fn a_lister_goes_to_a_sink(rt: HostRuntime) -> Result<(), Fail> {
 }
 
 #[test]
-fn a_source_gives_its_bytes_in_pieces(rt: HostRuntime) -> Result<(), Fail> {
-    let mut source = MemSource::new(rt.alloc(), b"ab", 1, &[])?;
-    let mut buf = [0; 4];
-    for (count, first) in [(1, b'a'), (1, b'b'), (0, b'b')] {
-        assert_eq!(rt; source.take(&mut buf)?, count);
-        assert_eq!(rt; buf[0], first);
-    }
-    assert_eq!(rt; source.faults(), 0);
-    Ok(())
-}
-
-#[test]
-fn a_source_fails_at_a_listed_call_and_goes_on(rt: HostRuntime) -> Result<(), Fail> {
+fn a_source_gives_its_bytes_in_pieces_and_fails_where_it_is_told(
+    rt: HostRuntime,
+) -> Result<(), Fail> {
     let mut source = MemSource::new(rt.alloc(), b"abc", 2, &[1])?;
     let mut buf = [0; 4];
-    assert_eq!(rt; (source.take(&mut buf)?, buf[0], buf[1]), (2, b'a', b'b'));
+    assert_eq!(rt; source.take(&mut buf)?, 2);
     assert_eq!(rt; source.take(&mut buf), Err(SourceFault));
-    assert_eq!(rt; source.faults(), 1);
-    assert_eq!(rt; (source.take(&mut buf)?, buf[0]), (1, b'c'));
+    assert_eq!(rt; (buf, source.faults()), ([b'a', b'b', 0, 0], 1));
+    assert_eq!(rt; source.take(&mut buf)?, 1);
     assert_eq!(rt; source.take(&mut buf)?, 0);
-    Ok(())
-}
-
-#[test]
-fn a_sink_takes_what_fits(rt: HostRuntime) -> Result<(), Fail> {
-    let mut sink = MemSink::new(rt.alloc(), 3, &[])?;
-    sink.put(b"ab")?;
-    assert_eq!(rt; sink.put(b"cd"), Err(SinkFault));
-    assert_eq!(rt; sink.bytes(), b"abc".as_slice());
-    assert_eq!(rt; sink.faults(), 1);
+    assert_eq!(rt; (buf, source.faults()), ([b'c', b'b', 0, 0], 1));
     Ok(())
 }
 
 #[test]
 fn a_printer_stops_at_the_first_fault(rt: HostRuntime) -> Result<(), Fail> {
-    let mut sink = MemSink::new(rt.alloc(), 8, &[])?;
-    print_lines(&mut sink, b"a")?;
-    assert!(rt; deliver_lines(&mut sink, b"b"));
+    let mut sink = MemSink::new(rt.alloc(), 8, &[5])?;
+    assert!(rt; deliver_lines(&mut sink, b"a"));
+    assert_eq!(rt; print_lines(&mut sink, b"bc"), Err(SinkFault));
     assert_eq!(rt; sink.bytes(), b"a\nb\n".as_slice());
-    let mut faulty = MemSink::new(rt.alloc(), 8, &[2])?;
-    assert_eq!(rt; print_lines(&mut faulty, b"ab"), Err(SinkFault));
-    assert!(rt; !finish_if(false, &mut faulty));
-    assert_eq!(rt; faulty.bytes(), b"a\n".as_slice());
-    assert_eq!(rt; faulty.faults(), 1);
-    let mut unfinished = MemSink::new(rt.alloc(), 8, &[0])?;
-    assert!(rt; !finish_if(true, &mut unfinished));
+    assert_eq!(rt; sink.faults(), 1);
+    let mut unfinished = MemSink::new(rt.alloc(), 8, &[2])?;
+    assert!(rt; !deliver_lines(&mut unfinished, b"a"));
+    assert_eq!(rt;
+        (unfinished.bytes(), unfinished.faults()),
+        (b"a\n".as_slice(), 1)
+    );
     Ok(())
 }
 
 #[test]
-fn each_status_has_its_code(rt: HostRuntime) {
-    for (status, code) in [
-        (Status::Done, 0),
-        (Status::SomeRefused, 1),
-        (Status::Syntax, 2),
-        (Status::Range, 3),
-        (Status::Past, 4),
-        (Status::SinkFault, 5),
-        (Status::SourceFault, 6),
-        (Status::NoMemory, 7),
-    ] {
-        assert_eq!(rt; status.code(), code);
-    }
+fn sinks_without_memory_hold_or_count_the_bytes(rt: HostRuntime) {
+    let mut buffer = [0; 3];
+    let mut sink = FixedSink::new(&mut buffer);
+    assert!(rt; !deliver_lines(&mut sink, b"abc"));
+    assert_eq!(rt; sink.bytes(), b"a\nb".as_slice());
+    assert_eq!(rt; sink.faults(), 1);
+    let mut counter = CountSink::new();
+    assert!(rt; deliver_lines(&mut counter, b"abc"));
+    assert_eq!(rt; counter.count(), 6);
 }

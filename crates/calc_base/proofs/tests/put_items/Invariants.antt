@@ -1,5 +1,5 @@
 use Rattle.std.proofs.Common.{ℕ, [], ◌∷◌, List, length, min}
-use Rattle.calc_base.proofs.GoesListed.{GoesUpTo}
+use Rattle.calc_base.proofs.PutsListed.{PutsUpTo}
 use Rattle.calc_base.proofs.tests.put_items.Given as goal
 
 -- the line of an item
@@ -8,7 +8,7 @@ line item = min (length item) 2 ∷ 10 ∷ []
 
 abbrev pub invariant-loop-well : goal.invariant-loop-well
 invariant-loop-well g l =
-    GoesUpTo g.K.Sink.written g.K.Sink.length g.K.Sink.faults l.fn.well l.fn.sink l.well l.sink line
+    PutsUpTo g.K.Sink.written g.K.Sink.length g.K.Sink.faults l.fn.well l.fn.sink l.well l.sink line
     (g.L.Lister.rest l.fn.lister) (g.L.Lister.rest l.lister)
 
 abbrev pub decreases-loop-well : goal.decreases-loop-well

@@ -1,14 +1,14 @@
--- How texts that go to a sink one after another join: `Goes-then` for two, `Goes-as` for an equal text, `Goes-nothing`
--- where nothing was put, `Goes-finished` at a finish, `Goes-stopped` after a fault, `Goes-item` in a loop over a list,
--- and `Goes-prints` at a printer's end.
+-- How texts that are put to a sink one after another join: `Puts-then` for two, `Puts-as` for an equal text, `Puts-nothing`
+-- where nothing was put, `Puts-finished` at a finish, `Puts-stopped` after a fault, `Puts-item` in a loop over a list,
+-- and `Puts-prints` at a printer's end.
 use Rattle.std.proofs.Common.{◌≡◌, ℕ, ◌+◌, ◌<◌, min, max, List, [], ◌∷◌, ◌++◌, length, take, get_or, Option, Some, None, Bool, true, false, refl, sym, ◌∙◌, ap, subst, arith, append_assoc, append-nil, length-append}
 use Rattle.std.specs.Prelude.{Result, Ok, Err, is_ok}
 use Rattle.std.specs.List.{flat_map}
 use Rattle.std.proofs.lemmas.List.{take_more}
 use Rattle.std.proofs.lemmas.Grind.{flat_map-append}
-use Rattle.calc_base.specs.Fault.{Rose}
+use Rattle.calc_base.specs.Fault.{counted_up, Rose}
 use Rattle.calc_base.specs.Sink.{greatest_length, grown, longer, Appends, AppendsPrefix}
-use Rattle.calc_base.specs.Goes.{Goes, Prints}
+use Rattle.calc_base.specs.Puts.{Puts, Prints}
 
 -- appending two texts is appending them joined
 grown-grown : (told : Option (List ℕ)) (a b : List ℕ) → grown (grown told a) b ≡ grown told (a ++ b)
@@ -80,14 +80,16 @@ AppendsPrefix-whole {a = a} all = record { front = a; is_prefix = record { rest 
 -- ---- what several calls appended
 
 -- two texts, one after the other
-pub Goes-then : {S : Type 0} {written : S → Option (List ℕ)} {count : S → Option ℕ} {faults : S → ℕ}
+pub Puts-then : {S : Type 0} {written : S → Option (List ℕ)} {count : S → Option ℕ} {faults : S → ℕ}
     {before mid now : Bool} {old between new : S} {a b : List ℕ}
-    → Goes written count faults before old mid between a → Goes written count faults mid between now new b
-    → Goes written count faults before old now new (a ++ b)
-Goes-then {S = S} {written = written} {count = count} {faults = faults} {before = before} {mid = mid} {now = now}
+    → Puts written count faults before old mid between a → Puts written count faults mid between now new b
+    → Puts written count faults before old now new (a ++ b)
+Puts-then {S = S} {written = written} {count = count} {faults = faults} {before = before} {mid = mid} {now = now}
     {old = old} {between = between} {new = new} {a = a} {b = b} first second = record {
-      whole = λ well. let went : mid ≡ true = still mid now second.ill well in
+      whole = λ well. let went : mid ≡ true = goes_on mid now second.ill well in
           Appends-then (first.whole went) (second.whole well);
+      still = λ well. let went : mid ≡ true = goes_on mid now second.ill well in
+          second.still well ∙ first.still went;
       cut = λ began ended. by_cut mid refl began ended;
       rose = λ began ended. by_rose mid refl began ended;
       later = omega (arith, first.later, second.later);
@@ -95,9 +97,9 @@ Goes-then {S = S} {written = written} {count = count} {faults = faults} {before 
       ill = λ ill. second.ill (first.ill ill);
     }
   where
-    still : (m n : Bool) → (m ≡ false → n ≡ false) → n ≡ true → m ≡ true
-    still true n h well = refl
-    still false n h well = let stopped : n ≡ false = h refl in cc
+    goes_on : (m n : Bool) → (m ≡ false → n ≡ false) → n ≡ true → m ≡ true
+    goes_on true n h well = refl
+    goes_on false n h well = let stopped : n ≡ false = h refl in cc
 
     by_cut : (m : Bool) → mid ≡ m → before ≡ true → now ≡ false → AppendsPrefix written count old new (a ++ b)
     by_cut true went began ended = AppendsPrefix-then (first.whole went) (second.cut went ended)
@@ -107,22 +109,23 @@ Goes-then {S = S} {written = written} {count = count} {faults = faults} {before 
 
     by_rose : (m : Bool) → mid ≡ m → before ≡ true → now ≡ false → Rose (faults old) (faults new)
     by_rose true went began ended =
-        let risen : Rose (faults between) (faults new) = second.rose went ended in omega (arith, risen, first.later)
+        second.rose went ended ∙ ap counted_up (first.still went)
     by_rose false went began ended =
-        let risen : Rose (faults old) (faults between) = first.rose began went in omega (arith, risen, second.later)
+        ap faults (second.untouched went) ∙ first.rose began went
 
 -- the same text, written otherwise
-pub Goes-as : {S : Type 0} {written : S → Option (List ℕ)} {count : S → Option ℕ} {faults : S → ℕ}
+pub Puts-as : {S : Type 0} {written : S → Option (List ℕ)} {count : S → Option ℕ} {faults : S → ℕ}
     {before now : Bool} {old new : S} {a b : List ℕ} → a ≡ b
-    → Goes written count faults before old now new a → Goes written count faults before old now new b
-Goes-as {written = written} {count = count} {faults = faults} {before = before} {now = now} {old = old} {new = new} same goes =
-    let P : List ℕ → Type 0 = λ t. Goes written count faults before old now new t in subst P same goes
+    → Puts written count faults before old now new a → Puts written count faults before old now new b
+Puts-as {written = written} {count = count} {faults = faults} {before = before} {now = now} {old = old} {new = new} same goes =
+    let P : List ℕ → Type 0 = λ t. Puts written count faults before old now new t in subst P same goes
 
 -- nothing was put
-pub Goes-nothing : {S : Type 0} (written : S → Option (List ℕ)) (count : S → Option ℕ) (faults : S → ℕ) (before : Bool) (s : S)
-    → Goes written count faults before s before s []
-Goes-nothing written count faults before s = record {
+pub Puts-nothing : {S : Type 0} (written : S → Option (List ℕ)) (count : S → Option ℕ) (faults : S → ℕ) (before : Bool) (s : S)
+    → Puts written count faults before s before s []
+Puts-nothing written count faults before s = record {
   whole = λ well. Appends-nothing written count s;
+  still = λ well. refl;
   cut = λ began ended. AppendsPrefix-whole (Appends-nothing written count s);
   rose = λ began ended. let clash : true ≡ false = sym began ∙ ended in cc;
   later = omega arith;
@@ -131,29 +134,30 @@ Goes-nothing written count faults before s = record {
 }
 
 -- a printer that began well, and answers whether it ended so
-pub Goes-prints : {S E : Type 0} {written : S → Option (List ℕ)} {count : S → Option ℕ} {faults : S → ℕ}
+pub Puts-prints : {S E : Type 0} {written : S → Option (List ℕ)} {count : S → Option ℕ} {faults : S → ℕ}
     {now : Bool} {old new : S} {text : List ℕ} (result : Result (Unit {0}) E)
-    → Goes written count faults true old now new text → is_ok result ≡ now
+    → Puts written count faults true old now new text → is_ok result ≡ now
     → Prints written count faults old new text result
-Goes-prints {now = now} (Ok x) goes answer =
+Puts-prints {now = now} (Ok x) goes answer =
     let well : now ≡ true = sym answer in
-    record { whole = goes.whole well; cut = tt; cause = record { later = goes.later; failed = tt } }
-Goes-prints {now = now} (Err e) goes answer =
+    record { whole = goes.whole well; cut = tt; counted = record { still = goes.still well; rose = tt; later = goes.later } }
+Puts-prints {now = now} (Err e) goes answer =
     let ended : now ≡ false = sym answer in
-    record { whole = tt; cut = goes.cut refl ended; cause = record { later = goes.later; failed = goes.rose refl ended } }
+    record { whole = tt; cut = goes.cut refl ended; counted = record { still = tt; rose = goes.rose refl ended; later = goes.later } }
 
 -- a text and then the finish of the sink
-pub Goes-finished : {S : Type 0} {written : S → Option (List ℕ)} {count : S → Option ℕ} {faults : S → ℕ}
+pub Puts-finished : {S : Type 0} {written : S → Option (List ℕ)} {count : S → Option ℕ} {faults : S → ℕ}
     {before mid now : Bool} {old between new : S} {text : List ℕ}
-    → Goes written count faults before old mid between text → Goes written count faults mid between now new []
-    → Goes written count faults before old now new text
-Goes-finished {text = text} first finish = Goes-as (append-nil text) (Goes-then first finish)
+    → Puts written count faults before old mid between text → Puts written count faults mid between now new []
+    → Puts written count faults before old now new text
+Puts-finished {text = text} first finish = Puts-as (append-nil text) (Puts-then first finish)
 
 -- after a fault nothing more is put, whatever the text
-pub Goes-stopped : {S : Type 0} (written : S → Option (List ℕ)) (count : S → Option ℕ) (faults : S → ℕ) (s : S) (text : List ℕ)
-    → Goes written count faults false s false s text
-Goes-stopped written count faults s text = record {
+pub Puts-stopped : {S : Type 0} (written : S → Option (List ℕ)) (count : S → Option ℕ) (faults : S → ℕ) (s : S) (text : List ℕ)
+    → Puts written count faults false s false s text
+Puts-stopped written count faults s text = record {
   whole = λ well. let clash : false ≡ true = well in cc;
+  still = λ well. refl;
   cut = λ began ended. let clash : false ≡ true = began in cc;
   rose = λ began ended. let clash : false ≡ true = began in cc;
   later = omega arith;
@@ -162,14 +166,14 @@ Goes-stopped written count faults s text = record {
 }
 
 -- one more item of a list whose items go to the sink one after another: the step of a printer's loop
-pub Goes-item : {S X : Type 0} {written : S → Option (List ℕ)} {count : S → Option ℕ} {faults : S → ℕ}
+pub Puts-item : {S X : Type 0} {written : S → Option (List ℕ)} {count : S → Option ℕ} {faults : S → ℕ}
     {before mid now : Bool} {old between new : S} (text : X → List ℕ) (items : List X) (index : ℕ) (item : X)
     → index < length items
-    → Goes written count faults before old mid between (flat_map text (take index items))
-    → Goes written count faults mid between now new (text (get_or items index item))
-    → Goes written count faults before old now new (flat_map text (take (index + 1) items))
-Goes-item text items index item below first second =
-    Goes-as (sym one_more) (Goes-then first second)
+    → Puts written count faults before old mid between (flat_map text (take index items))
+    → Puts written count faults mid between now new (text (get_or items index item))
+    → Puts written count faults before old now new (flat_map text (take (index + 1) items))
+Puts-item text items index item below first second =
+    Puts-as (sym one_more) (Puts-then first second)
   where
     one_more : flat_map text (take (index + 1) items) ≡ flat_map text (take index items) ++ text (get_or items index item)
     one_more = ap (flat_map text) (take_more items index item below)

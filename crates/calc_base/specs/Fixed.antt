@@ -1,0 +1,27 @@
+-- A sink into a lent buffer, as its contracts see it (this project's own).
+use Rattle.std.specs.Prelude.{ℕ, ◌-◌, List, ◌++◌, length, take, min, Option, Some, Bool, false, nat_lt}
+use Rattle.calc_base.specs.Fault.{faults_after}
+use Rattle.calc_base.specs.Sink.{greatest_length}
+
+-- the bytes so far, for how many there is room in all, how often a put failed, and whether the last call finished the sink
+pub record Fixed : Type 0 where
+  pub bytes : List ℕ
+  pub room : ℕ
+  pub failed : ℕ
+  pub finished : Bool
+
+-- whether a put of this piece fails: it is longer than the room left
+abbrev pub is_too_long : Fixed → List ℕ → Bool
+is_too_long s piece = nat_lt (s.room - length s.bytes) (length piece)
+
+-- a fixed sink after a put of this piece, of which it appends what fits
+abbrev pub fixed_after_put : Fixed → List ℕ → Fixed
+fixed_after_put s piece = record s {
+  bytes = s.bytes ++ take (s.room - length s.bytes) piece;
+  failed = faults_after s.failed (is_too_long s piece);
+  finished = false;
+}
+
+-- the number of bytes, which a fixed sink tells
+abbrev pub fixed_length : Fixed → Option ℕ
+fixed_length s = Some (min (length s.bytes) greatest_length)

@@ -1,0 +1,84 @@
+// A sink that counts the bytes and keeps none.
+ghost use Rattle.std.specs.Prelude.{◌≡◌, [], None, Some, false, true, OnOk, OnErr, IsOk, is_ok};
+ghost use Rattle.calc_base.specs.Fault.{CountsFaults};
+ghost use Rattle.calc_base.specs.Sink.{Appends, AppendsPrefix};
+ghost use Rattle.calc_base.specs.Tally.{Tally, tally_after_put};
+
+use crate::{Sink, SinkFault};
+use std::marker::Model;
+
+/// A sink that counts the bytes, up to 2^128 - 1, and keeps none. No call fails.
+#[derive(Drop)]
+pub struct CountSink {
+    count: u128,
+    finished: bool,
+}
+
+impl Model for CountSink {
+    ghost Value = { Tally };
+
+    ghost view = { λ s. record { count = s.count; finished = s.finished } };
+}
+
+impl CountSink {
+    /// A sink without bytes.
+    pub fn new() -> CountSink
+        ensures { result ≡ record { count = 0; finished = false } }
+    {
+        CountSink {
+            count: 0,
+            finished: false,
+        }
+    }
+
+    /// The number of bytes that were put, or 2^128 - 1 where there were more.
+    pub fn count(&self) -> u128
+        ensures { result ≡ self.now.count }
+    {
+        self.count
+    }
+}
+
+impl Sink for CountSink {
+    ghost written = { λ _. None };
+
+    ghost length = { λ s. Some s.count };
+
+    ghost faults = { λ _. 0 };
+
+    ghost settled = { λ s. s.finished };
+
+    fn put(&mut self, bytes: &[u8]) -> Result<(), SinkFault>
+        // What each sink owes.
+        ensures ok { OnOk result
+            (Appends (λ _. None) (λ s. Some s.count) self.old self.new bytes.now) }
+        ensures err { OnErr result
+            (AppendsPrefix (λ _. None) (λ s. Some s.count) self.old self.new bytes.now) }
+        ensures counts { CountsFaults 0 0 result }
+        ensures settled { self.new.finished ≡ false }
+
+        // What this one does.
+        ensures never { IsOk result }
+        ensures after { self.new ≡ tally_after_put self.old bytes.now }
+    {
+        self.count = self.count.saturating_add(bytes.len() as u128);
+        self.finished = false;
+        Ok(())
+    }
+
+    fn finish(&mut self) -> Result<(), SinkFault>
+        // What each sink owes.
+        ensures same { Appends (λ _. None) (λ s. Some s.count) self.old self.new [] }
+        ensures counts { CountsFaults 0 0 result }
+        ensures settled { self.new.finished ≡ is_ok result }
+
+        // What this one does.
+        ensures never { IsOk result }
+        ensures after { self.new ≡ record { count = self.old.count; finished = true } }
+    {
+        self.finished = true;
+        Ok(())
+    }
+
+    ghost counted = { λ _. tt };
+}

@@ -1,0 +1,124 @@
+// A sink into a lent buffer.
+ghost use Rattle.std.specs.Prelude.{◌≡◌, ◌≤◌, ◌+◌, ◌-◌, ◌++◌, min, [], Some, false, true, OnOk, OnErr, IsOk, is_ok, is_err, take, length as list_length, refl};
+ghost use Rattle.calc_base.specs.Fault.{CountsFaults};
+ghost use Rattle.calc_base.specs.Sink.{Appends, AppendsPrefix};
+ghost use Rattle.calc_base.specs.Fixed.{Fixed, is_too_long, fixed_after_put, fixed_length};
+
+use crate::{Sink, SinkFault};
+use std::marker::Model;
+
+/// A sink into a lent buffer, that takes no memory.
+#[derive(Drop)]
+pub struct FixedSink<'a> {
+    buffer: &'a mut [u8],
+    filled: usize,
+    faults: u64,
+    finished: bool,
+}
+
+impl<'a> Model for FixedSink<'a> {
+    ghost Value = { Fixed };
+
+    ghost view = { λ s. record {
+      bytes = take s.filled s.buffer.now;
+      room = list_length s.buffer.now;
+      failed = s.faults;
+      finished = s.finished;
+    } };
+
+    ghost invariant = { λ s. s.filled ≤ list_length s.buffer.now };
+}
+
+impl<'a> FixedSink<'a> {
+    /// An empty sink with the room of the buffer.
+    pub fn new(buffer: &'a mut [u8]) -> FixedSink<'a>
+        ensures { result ≡ record {
+          bytes = [];
+          room = list_length buffer.old;
+          failed = 0;
+          finished = false;
+        } }
+    {
+        FixedSink {
+            buffer,
+            filled: 0,
+            faults: 0,
+            finished: false,
+        }
+    }
+
+    /// What was written.
+    pub fn bytes(&self) -> &[u8]
+        ensures { result.now ≡ self.now.bytes }
+    {
+        &self.buffer[..self.filled]
+    }
+
+    /// How many calls failed, up to 2^64 - 1.
+    pub fn faults(&self) -> u64
+        ensures { result ≡ self.now.failed }
+    {
+        self.faults
+    }
+}
+
+impl<'a> Sink for FixedSink<'a> {
+    ghost written = { λ s. Some s.bytes };
+
+    ghost length = { fixed_length };
+
+    ghost faults = { λ s. s.failed };
+
+    ghost settled = { λ s. s.finished };
+
+    fn put(&mut self, bytes: &[u8]) -> Result<(), SinkFault>
+        // What each sink owes.
+        ensures ok { OnOk result
+            (Appends (λ s. Some s.bytes) fixed_length self.old self.new bytes.now) }
+        ensures err { OnErr result
+            (AppendsPrefix (λ s. Some s.bytes) fixed_length self.old self.new bytes.now) }
+        ensures counts { CountsFaults self.old.failed self.new.failed result }
+        ensures settled { self.new.finished ≡ false }
+
+        // What this one does.
+        ensures fails { is_err result ≡ is_too_long self.old bytes.now }
+        ensures after { self.new ≡ fixed_after_put self.old bytes.now }
+    {
+        let fits = copy_what_fits(self.buffer, self.filled, bytes);
+        self.filled += fits;
+        self.finished = false;
+        if fits < bytes.len() {
+            self.faults = self.faults.saturating_add(1);
+            return Err(SinkFault);
+        }
+        Ok(())
+    }
+
+    fn finish(&mut self) -> Result<(), SinkFault>
+        // What each sink owes.
+        ensures same { Appends (λ s. Some s.bytes) fixed_length self.old self.new [] }
+        ensures counts { CountsFaults self.old.failed self.new.failed result }
+        ensures settled { self.new.finished ≡ is_ok result }
+
+        // What this one does.
+        ensures never { IsOk result }
+        ensures after { self.new ≡ record self.old { finished = true } }
+    {
+        self.finished = true;
+        Ok(())
+    }
+
+    ghost counted = { λ s. refl };
+}
+
+/// Copies the bytes behind those that are filled, as many as there is room for, and answers how many.
+fn copy_what_fits(buffer: &mut [u8], filled: usize, bytes: &[u8]) -> usize
+    requires { filled ≤ list_length buffer.old }
+    ensures count { result ≡ min (list_length buffer.old - filled) (list_length bytes.now) }
+    ensures copied { take (filled + result) buffer.new
+        ≡ take filled buffer.old ++ take result bytes.now }
+{
+    let fits = (buffer.len() - filled).min(bytes.len());
+    buffer[filled..filled + fits].copy_from_slice(&bytes[..fits]);
+    fits
+}
