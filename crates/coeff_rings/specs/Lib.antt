@@ -1,4 +1,4 @@
-pub mod Ratio
+pub mod Fractions
 pub mod Room
 pub mod Laws
 pub mod Answers

@@ -1,6 +1,6 @@
 //! Natural numbers of 128 bits.
 ghost use Rattle.std.specs.Prelude.{refl, ◌≡◌, ℕ, ◌+◌, ◌*◌, ◌^◌, ◌<◌, pos};
-ghost use Rattle.coeff_rings.specs.Ratio.{whole_count};
+ghost use Rattle.coeff_rings.specs.Fractions.{whole_count};
 ghost use Rattle.coeff_rings.specs.Checked.{checked_u128};
 ghost use Rattle.coeff_rings.specs.Proved.Fractions.{InLowestTerms-whole};
 ghost use Rattle.coeff_rings.specs.Proved.Whole.{zero_fits_u128, one_fits_u128, same_count, checked_u128-held, sum_answers_u128, sum_laws_u128};

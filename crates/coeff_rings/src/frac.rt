@@ -1,10 +1,11 @@
 //! Fractions of whole numbers of 128 bits, in lowest terms.
 ghost use Rattle.std.specs.Prelude.{refl, ◌≡◌, ℕ, ℤ, pos, neg_ℤ, ◌+◌, ◌*◌, ◌<◌, ◌^◌, ◌*ℤ◌, Bool, unsigned_abs, FitsSigned, SomeIff, IfSome};
-ghost use Rattle.std.specs.Int.{w128, IsGcd};
-ghost use Rattle.coeff_rings.specs.Ratio.{Ratio, whole, lowest_terms, greatest_common_divisor};
+ghost use Rattle.std.specs.Int.{w128, IsGcd, ◌∣◌};
+ghost use Rattle.sym_model.specs.Expansion.{Fraction};
+ghost use Rattle.coeff_rings.specs.Fractions.{whole, lowest_terms, greatest_common_divisor};
 ghost use Rattle.coeff_rings.specs.Signs.{signed, signs_differ};
-ghost use Rattle.coeff_rings.specs.Checked.{IsFraction, CommonFits, checked_i128, checked_fraction, checked_ratio_of, numerator_over_common, common_denominator, checked_ratio_sum, checked_ratio_difference, checked_ratio_product, checked_ratio_quotient, checked_ratio_negation};
-ghost use Rattle.coeff_rings.specs.Proved.FractionAnswers.{zero_is_fraction, one_is_fraction, sum_answers_fraction, sum_held_fraction, sum_laws_fraction, negation_answers_fraction, negation_held_fraction, difference_answers_fraction, difference_held_fraction, product_answers_fraction, product_held_fraction, ring_laws_fraction, quotient_held_fraction, field_laws_fraction};
+ghost use Rattle.coeff_rings.specs.Checked.{IsFraction, CommonFits, checked_i128, checked_fraction, checked_fraction_of, numerator_over_common, common_denominator, checked_fraction_sum, checked_fraction_difference, checked_fraction_product, checked_fraction_quotient, checked_fraction_negation};
+ghost use Rattle.coeff_rings.specs.Proved.FractionAnswers.{zero_is_fraction, one_is_fraction, sum_answers_fraction, sum_held_fraction, sum_laws_fraction, negation_answers_fraction, negation_held_fraction, difference_answers_fraction, difference_held_fraction, product_answers_fraction, product_held_fraction, ring_laws_fraction, quotient_answers_fraction, quotient_held_fraction, field_laws_fraction};
 
 use crate::digits::Digits;
 use crate::scalar::{Field, Ring, Scalar};
@@ -20,23 +21,23 @@ pub struct Frac {
 }
 
 impl Model for Frac {
-    ghost use Rattle.coeff_rings.specs.Ratio.{Ratio};
+    ghost use Rattle.sym_model.specs.Expansion.{Fraction};
     ghost use Rattle.coeff_rings.specs.Checked.{IsFraction};
 
-    ghost Value = { Ratio };
+    ghost Value = { Fraction };
 
-    ghost view = { λ f. record { num = f.num; den = f.den } };
+    ghost view = { λ f. (f.num, f.den) };
 
-    ghost invariant = { λ f. IsFraction (record { num = f.num; den = f.den }) };
+    ghost invariant = { λ f. IsFraction (f.num, f.den) };
 
-    ghost inverse = { λ r. record { num = r.num; den = r.den } };
+    ghost inverse = { λ r. record { num = r.0; den = r.1 } };
 }
 
 impl Frac {
     /// The fraction `num/den`, or `None` exactly where `den` is 0 or the reduced fraction with a
     /// positive denominator does not fit.
     pub fn new(num: i128, den: i128) -> Option<Frac>
-        ensures value { result ≡ checked_ratio_of num den }
+        ensures value { result ≡ checked_fraction_of num den }
         ensures held { IfSome result IsFraction }
     {
         if den == 0 {
@@ -51,7 +52,7 @@ impl Frac {
 
     /// The numerator.
     pub fn num(&self) -> i128
-        ensures value { result ≡ self.now.num }
+        ensures value { result ≡ self.now.0 }
         ensures held { IsFraction self.now }
     {
         self.num
@@ -59,15 +60,15 @@ impl Frac {
 
     /// The denominator, which is positive.
     pub fn den(&self) -> i128
-        ensures value { result ≡ pos self.now.den }
+        ensures value { result ≡ pos self.now.1 }
         ensures held { IsFraction self.now }
     {
         self.den as i128
     }
 
-    // The sizes of the two numbers.
+    /// The sizes of the two numbers.
     fn sizes(&self) -> Sizes
-        ensures value { result ≡ record { num = unsigned_abs self.now.num; den = self.now.den } }
+        ensures value { result ≡ record { num = unsigned_abs self.now.0; den = self.now.1 } }
         ensures lowest { (0 < result.den) × IsGcd result.num result.den 1 }
         ensures held { IsFraction self.now }
     {
@@ -87,7 +88,7 @@ impl Scalar for Frac {
 
     ghost is_held = { IsFraction };
 
-    ghost checked_sum = { checked_ratio_sum };
+    ghost checked_sum = { checked_fraction_sum };
 
     fn zero() -> Frac {
         Frac { num: 0, den: 1 }
@@ -104,7 +105,7 @@ impl Scalar for Frac {
     fn add(self, other: Frac) -> Option<Frac> {
         let common = over_common(self, other)?;
         let total = CheckedAdd::checked_add(&common.left, &common.right)?;
-        quotient(total, common.den)
+        quotient(total, common.den, common.divisor)
     }
 
     fn digits(&self, out: &mut Digits) {
@@ -132,11 +133,11 @@ impl Scalar for Frac {
 }
 
 impl Ring for Frac {
-    ghost checked_negation = { checked_ratio_negation };
+    ghost checked_negation = { checked_fraction_negation };
 
-    ghost checked_difference = { checked_ratio_difference };
+    ghost checked_difference = { checked_fraction_difference };
 
-    ghost checked_product = { checked_ratio_product };
+    ghost checked_product = { checked_fraction_product };
 
     fn from_whole(v: i128) -> Frac {
         Frac { num: v, den: 1 }
@@ -150,7 +151,7 @@ impl Ring for Frac {
     fn sub(self, other: Frac) -> Option<Frac> {
         let common = over_common(self, other)?;
         let total = CheckedSub::checked_sub(&common.left, &common.right)?;
-        quotient(total, common.den)
+        quotient(total, common.den, common.divisor)
     }
 
     fn mul(self, other: Frac) -> Option<Frac> {
@@ -169,7 +170,7 @@ impl Ring for Frac {
 
     ghost difference_held = { difference_held_fraction };
 
-    ghost product_answers = { product_answers_fraction };
+    ghost product_answers = { λ a b _ _. product_answers_fraction a b };
 
     ghost product_held = { product_held_fraction };
 
@@ -177,7 +178,7 @@ impl Ring for Frac {
 }
 
 impl Field for Frac {
-    ghost checked_quotient = { checked_ratio_quotient };
+    ghost checked_quotient = { checked_fraction_quotient };
 
     fn div(self, other: Frac) -> Option<Frac> {
         let divisor = other.sizes();
@@ -192,6 +193,8 @@ impl Field for Frac {
         )
     }
 
+    ghost quotient_answers = { λ a b _ _ _. quotient_answers_fraction a b };
+
     ghost quotient_held = { quotient_held_fraction };
 
     ghost field_laws = { field_laws_fraction };
@@ -204,15 +207,18 @@ struct Sizes {
     den: u128,
 }
 
-/// The numerators of two fractions over their least common denominator, and that denominator.
+/// The numerators of two fractions over their least common denominator, that denominator, and the greatest common
+/// divisor of the two denominators.
 #[derive(Clone, Copy)]
 struct Common {
     left: i128,
     right: i128,
     den: u128,
+    divisor: u128,
 }
 
 /// The greatest common divisor, by Euclid's algorithm.
+#[inline(never)]
 fn common_divisor(a: u128, b: u128) -> u128
     requires { 0 < b }
     ensures greatest { result ≡ greatest_common_divisor a b }
@@ -242,19 +248,39 @@ fn scaled(number: i128, factor: u128) -> Option<i128>
 }
 
 /// Two fractions over their least common denominator, where the three numbers fit.
+#[inline(always)]
 fn over_common(a: Frac, b: Frac) -> Option<Common>
     ensures held { IsFraction a × IsFraction b }
     ensures common { SomeIff result (CommonFits a b)
-        (record { left = numerator_over_common a b; right = numerator_over_common b a; den = common_denominator a b }) }
+        (record {
+          left = numerator_over_common a b;
+          right = numerator_over_common b a;
+          den = common_denominator a b;
+          divisor = greatest_common_divisor a.1 b.1;
+        }) }
 {
+    if a.den == b.den {
+        return Some(Common {
+            left: a.num,
+            right: b.num,
+            den: a.den,
+            divisor: a.den,
+        });
+    }
     let divisor = common_divisor(a.den, b.den);
-    let left = scaled(a.num, b.den / divisor)?;
+    let factor = b.den / divisor;
+    let left = scaled(a.num, factor)?;
     let right = scaled(b.num, a.den / divisor)?;
-    let den = CheckedMul::checked_mul(&a.den, &(b.den / divisor))?;
+    let den = CheckedMul::checked_mul(&a.den, &factor)?;
     if den > i128::MAX as u128 {
         return None;
     }
-    Some(Common { left, right, den })
+    Some(Common {
+        left,
+        right,
+        den,
+        divisor,
+    })
 }
 
 /// The whole number of a sign and a size, where it fits.
@@ -275,7 +301,7 @@ fn with_sign(negative: bool, size: u128) -> Option<i128>
 fn from_sizes(negative: bool, num: u128, den: u128) -> Option<Frac>
     requires positive { 0 < den }
     requires coprime { IsGcd num den 1 }
-    ensures { result ≡ checked_fraction (record { num = signed negative num; den = den }) }
+    ensures { result ≡ checked_fraction (signed negative num, den) }
 {
     let num = with_sign(negative, num)?;
     if den > i128::MAX as u128 {
@@ -293,12 +319,22 @@ fn reduced(negative: bool, num: u128, den: u128) -> Option<Frac>
     from_sizes(negative, num / divisor, den / divisor)
 }
 
-/// A whole number over a positive one in lowest terms, where it fits.
-fn quotient(num: i128, den: u128) -> Option<Frac>
-    requires { 0 < den }
+/// A whole number over a positive one in lowest terms, where it fits. Each common divisor of the two divides `divisor`,
+/// so that nothing is left to cancel where that is 1, and little to search where it is small.
+#[inline(always)]
+fn quotient(num: i128, den: u128, divisor: u128) -> Option<Frac>
+    requires positive { 0 < den }
+    requires small { den < 2 ^ 127 }
+    requires factor { divisor ∣ den }
+    requires common { (d : ℕ) → d ∣ unsigned_abs num → d ∣ den → d ∣ divisor }
     ensures { result ≡ checked_fraction (lowest_terms num den) }
 {
-    reduced(num < 0, num.unsigned_abs(), den)
+    if divisor == 1 {
+        return Some(Frac { num, den });
+    }
+    let size = num.unsigned_abs();
+    let shared = common_divisor(size, divisor);
+    from_sizes(num < 0, size / shared, den / shared)
 }
 
 /// The product of two fractions of sizes, each in lowest terms, with a sign, where it fits. What

@@ -1,10 +1,10 @@
 //! Whole numbers of 128 bits.
 ghost use Rattle.std.specs.Prelude.{refl, ◌≡◌, ℤ, pos, ◌+ℤ◌, ◌-ℤ◌, ◌*ℤ◌, neg_ℤ, FitsSigned};
 ghost use Rattle.std.specs.Int.{w128};
-ghost use Rattle.coeff_rings.specs.Ratio.{whole};
+ghost use Rattle.coeff_rings.specs.Fractions.{whole};
 ghost use Rattle.coeff_rings.specs.Checked.{checked_i128};
 ghost use Rattle.coeff_rings.specs.Proved.Fractions.{InLowestTerms-whole};
-ghost use Rattle.coeff_rings.specs.Proved.Whole.{zero_fits_i128, one_fits_i128, same_whole, checked_i128-held, sum_answers_i128, sum_laws_i128, negation_answers_i128, difference_answers_i128, product_answers_i128, ring_laws_i128};
+ghost use Rattle.coeff_rings.specs.Proved.Whole.{zero_fits_128_bits, one_fits_128_bits, same_whole, checked_i128-held, sum_answers_i128, sum_laws_i128, negation_answers_i128, difference_answers_i128, product_answers_i128, ring_laws_i128};
 
 use crate::digits::Digits;
 use crate::scalar::{Ring, Scalar};
@@ -73,9 +73,9 @@ impl Scalar for Int {
         out.put_signed(self.number);
     }
 
-    ghost zero_value = { (refl, zero_fits_i128) };
+    ghost zero_value = { (refl, zero_fits_128_bits) };
 
-    ghost one_value = { (refl, one_fits_i128) };
+    ghost one_value = { (refl, one_fits_128_bits) };
 
     ghost same_value = { same_whole };
 

@@ -15,6 +15,3 @@ pub use frac::Frac;
 pub use int::Int;
 pub use laws::{field_law, fraction_examples, lowest_terms_law};
 pub use scalar::{Field, Ring, Scalar};
-
-#[cfg(test)]
-mod tests;

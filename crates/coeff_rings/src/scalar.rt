@@ -5,7 +5,8 @@
 //! The laws under a trait's functions serve code over any scalar. Where they ask `is_held`, what is
 //! true of every scalar that a program meets, each function gives that of what it takes and answers.
 ghost use Rattle.std.specs.Prelude.{◌≡◌, ◌≢◌, ◌↔◌, ℕ, ℤ, pos, List, Option, IsTrue, IfSome};
-ghost use Rattle.coeff_rings.specs.Ratio.{Ratio, whole, InLowestTerms};
+ghost use Rattle.sym_model.specs.Expansion.{Fraction};
+ghost use Rattle.coeff_rings.specs.Fractions.{whole, InLowestTerms};
 ghost use Rattle.coeff_rings.specs.Answers.{AnswersSum, AnswersDifference, AnswersProduct, AnswersNegation, AnswersQuotient};
 ghost use Rattle.coeff_rings.specs.Laws.{SumLaws, RingLaws, FieldLaws};
 ghost use Rattle.coeff_rings.specs.Text.{decimal_text};
@@ -15,7 +16,7 @@ use crate::digits::Digits;
 /// Numbers that are added, tested for 0 and printed.
 pub trait Scalar: Copy {
     // The fraction that a scalar stands for.
-    ghost value: { Self → Ratio };
+    ghost value: { Self → Fraction };
 
     // The scalars 0 and 1.
     ghost zero: { Self };
@@ -137,13 +138,17 @@ pub trait Field: Ring {
     // The answer of `div`.
     ghost checked_quotient: { Self → Self → Option Self };
 
-    /// The quotient, or `None` where the type refuses it.
+    /// The quotient, or `None` where the type refuses it. It is there where the product of the first and one over the
+    /// second has room.
     fn div(self, other: Self) -> Option<Self>
         requires { Self.value other ≢ whole (pos 0) }
         ensures quotient { result ≡ checked_quotient self other }
         ensures answer { AnswersQuotient Self.value self other result }
         ensures held { Self.is_held self × Self.is_held other }
         ensures held_quotient { IfSome result Self.is_held };
+
+    ghost quotient_answers: { (a b : Self) → Self.is_held a → Self.is_held b → Self.value b ≢ whole (pos 0)
+        → AnswersQuotient Self.value a b (checked_quotient a b) };
 
     ghost quotient_held: { (a b : Self) → Self.is_held a → Self.is_held b → Self.value b ≢ whole (pos 0)
         → IfSome (checked_quotient a b) Self.is_held };

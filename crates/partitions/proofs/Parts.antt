@@ -101,17 +101,17 @@ pub rises-same : (xs : List ℕ) (a b : ℕ) → RisesFirstAt xs a → RisesFirs
 rises-same xs a b r s = omega (arith, rises-first xs a b r s, rises-first xs b a s r)
 
 -- a falling list without zeros at its end is a partition
-kept-positive : (a : ℕ) (xs : List ℕ) → (Falls xs → ArePositive xs) → Falls (in_front a xs) → ArePositive (in_front a xs)
-kept-positive zero [] p f = tt
-kept-positive (suc a) [] p f = (omega arith, tt)
-kept-positive zero (b ∷ xs) p f = let q = p f.1 in absurd (omega (arith, q.0, f.0))
-kept-positive (suc a) (b ∷ xs) p f = (omega arith, p f.1)
+in_front-positive : (a : ℕ) (xs : List ℕ) → (Falls xs → ArePositive xs) → Falls (in_front a xs) → ArePositive (in_front a xs)
+in_front-positive zero [] p f = tt
+in_front-positive (suc a) [] p f = (omega arith, tt)
+in_front-positive zero (b ∷ xs) p f = let q = p f.1 in absurd (omega (arith, q.0, f.0))
+in_front-positive (suc a) (b ∷ xs) p f = (omega arith, p f.1)
 
 pub without_last_zeros-ArePositive :
     (xs : List ℕ) → Falls (without_last_zeros xs) → ArePositive (without_last_zeros xs)
 without_last_zeros-ArePositive [] f = tt
 without_last_zeros-ArePositive (a ∷ xs) f =
-    kept-positive a (without_last_zeros xs) (without_last_zeros-ArePositive xs) f
+    in_front-positive a (without_last_zeros xs) (without_last_zeros-ArePositive xs) f
 
 pub without_last_zeros-IsPartition :
     (xs : List ℕ) → Falls (without_last_zeros xs) → IsPartition (without_last_zeros xs)

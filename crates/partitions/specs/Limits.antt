@@ -1,5 +1,5 @@
 -- What the type `Partition` holds, and which list of numbers is refused (this project's own).
-use Rattle.std.specs.Prelude.{ℕ, ◌-◌, ◌<◌, ◌≤◌, List, length, take, slice_index}
+use Rattle.std.specs.Prelude.{◌≡◌, ℕ, ◌-◌, ◌<◌, ◌≤◌, List, length, take, slice_index}
 use Rattle.sym_model.specs.Partition.{IsPartition, Falls, size, rows}
 
 -- a partition with at most 512 rows and at most 4096 cells
@@ -7,6 +7,11 @@ pub record IsWithinLimits (parts : List ℕ) : Type 0 where
   pub partition : IsPartition parts
   pub few : rows parts ≤ 512
   pub small : size parts ≤ 4096
+
+-- the same, and its cells are so many
+pub record HasCells (parts : List ℕ) (cells : ℕ) : Type 0 where
+  pub limits : IsWithinLimits parts
+  pub cells_are : cells ≡ size parts
 
 -- the place `at`, counted from 0, is the first with a number greater than the one before it
 pub record RisesFirstAt (numbers : List ℕ) (at : ℕ) : Type 0 where

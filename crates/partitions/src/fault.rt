@@ -1,7 +1,8 @@
-// Why a list of numbers is not taken as a partition.
+//! Why a list of numbers is not taken as a partition.
 ghost use Rattle.std.specs.Prelude.{◌≡◌};
 ghost use Rattle.partitions.specs.declared.fault.PartFault.TheVariants.{NoMemory as no_memory};
 
+use calc_base::NoMemory;
 use std::alloc::AllocError;
 use thiserror::Error;
 
@@ -23,6 +24,14 @@ impl From<AllocError> for PartFault {
     ghost from_gives = { λ _ e. e ≡ no_memory };
 
     fn from(_: AllocError) -> Self {
+        PartFault::NoMemory
+    }
+}
+
+impl From<NoMemory> for PartFault {
+    ghost from_gives = { λ _ e. e ≡ no_memory };
+
+    fn from(_: NoMemory) -> Self {
         PartFault::NoMemory
     }
 }

@@ -4,8 +4,6 @@
 mod fault;
 mod listing;
 mod partition;
-#[cfg(test)]
-mod tests;
 
 pub use fault::PartFault;
 pub use listing::PartitionsOf;

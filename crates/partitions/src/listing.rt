@@ -1,4 +1,4 @@
-// The partitions of a number, one at a time.
+//! The partitions of a number, one at a time.
 ghost use Rattle.std.specs.Prelude.{◌≡◌, ◌+◌, ◌-◌, ◌<◌, ◌≤◌, ◌≢◌, [], ◌∷◌, ◌++◌, length, take, drop, slice_index, IfOk, IfSome, MatchOption, None};
 ghost use Rattle.sym_model.specs.PartitionList.{partitions_of};
 ghost use Rattle.partitions.specs.Listing.{greatest_within, partitions_after, AreOnes, HoldsParts};
@@ -7,7 +7,7 @@ use calc_base::{Lister, NoMemory};
 use std::alloc::Global;
 use std::marker::Model;
 
-// Whether the parts in the buffer are still to come, are the current item, or were the last one.
+/// Whether the parts in the buffer are still to come, are the current item, or were the last one.
 #[derive(Clone, Copy)]
 enum Stage {
     New,
@@ -18,9 +18,9 @@ enum Stage {
 /// The partitions of a number in falling lexicographic order, each once: a `Lister` that works in one buffer.
 #[derive(Drop)]
 pub struct PartitionsOf {
-    // One place for each row that a partition of the number can have.
+    /// One place for each row that a partition of the number can have.
     buffer: Vec<u16>,
-    // How many places the parts take.
+    /// How many places the parts take.
     rows: usize,
     stage: Stage,
 }
@@ -85,8 +85,8 @@ impl Lister for PartitionsOf {
     }
 }
 
-// Writes the partition that comes next over the one in the first `rows` places, and gives its number of rows; None
-// where that was the last one.
+/// Writes the partition that comes next over the one in the first `rows` places, and gives its number of rows; None
+/// where that was the last one.
 fn next_in_place(buffer: &mut [u16], rows: usize) -> Option<usize>
     requires { HoldsParts buffer.old rows }
     ensures next { MatchOption result ((partitions_after (take rows buffer.old) ≡ []) × (buffer.new ≡ buffer.old))
@@ -102,7 +102,7 @@ fn next_in_place(buffer: &mut [u16], rows: usize) -> Option<usize>
     Some(fill(buffer, above - 1, part - 1, part + ones))
 }
 
-// How many parts stand before the ones at the end.
+/// How many parts stand before the ones at the end.
 fn rows_above_one(parts: &[u16]) -> usize
     ensures within { result ≤ length parts.now }
     ensures ones { AreOnes (drop result parts.now) }
@@ -115,7 +115,7 @@ fn rows_above_one(parts: &[u16]) -> usize
     rows
 }
 
-// Writes the first partition of `left` with no part above `most` from the place `start` on, and gives the place behind it.
+/// Writes the first partition of `left` with no part above `most` from the place `start` on, and gives the place behind it.
 fn fill(buffer: &mut [u16], start: usize, most: u16, left: u16) -> usize
     requires room { start + left ≤ length buffer.old }
     requires most { 0 < left → 0 < most }

@@ -1,4 +1,4 @@
-// The type of a partition.
+//! The type of a partition.
 ghost use Rattle.std.specs.Prelude.{◌≡◌, ℕ, ◌<◌, ◌≤◌, ◌↔◌, length, nat_eq, IsTrue, IsOk, IfOk, OnOk, IsErrOf, MatchOption};
 ghost use Rattle.std.specs.Cmp.{partial_equiv_from_equiv};
 ghost use Rattle.std.specs.Cmp.Lexicographic.{pointwise, nat_list_eq_equiv};
@@ -7,7 +7,7 @@ ghost use Rattle.std.specs.Hash as fed;
 ghost use Rattle.std.proofs.Common.{rules};
 ghost use Rattle.sym_model.specs.Partition.{Falls, Holds, part, rows, size, without_last_zeros};
 ghost use Rattle.sym_model.specs.PrintedOrder.{printed_order};
-ghost use Rattle.partitions.specs.Limits.{IsWithinLimits, RisesFirstAt};
+ghost use Rattle.partitions.specs.Limits.{HasCells, IsWithinLimits, RisesFirstAt};
 
 use crate::PartFault;
 use calc_base::NoMemory;
@@ -17,7 +17,7 @@ use std::cmp::Ordering;
 use std::hash::{Hash, Hasher};
 use std::marker::Model;
 
-// The most rows, and the most cells, of a partition.
+/// The most rows, and the most cells, of a partition.
 const MAX_ROWS: usize = 512;
 
 const MAX_CELLS: u32 = 4096;
@@ -27,17 +27,19 @@ const MAX_CELLS: u32 = 4096;
 #[derive(Debug, Drop)]
 pub struct Partition {
     parts: SmallVec<u16, 16>,
+    /// The sum of the parts.
+    cells: u16,
 }
 
 impl Model for Partition {
     ghost use Rattle.std.specs.Prelude.{ℕ, List};
-    ghost use Rattle.partitions.specs.Limits.{IsWithinLimits};
+    ghost use Rattle.partitions.specs.Limits.{HasCells};
 
     ghost Value = { List ℕ };
 
     ghost view = { λ p. p.parts.items };
 
-    ghost invariant = { λ p. IsWithinLimits p.parts.items };
+    ghost invariant = { λ p. HasCells p.parts.items p.cells };
 }
 
 impl Partition {
@@ -59,19 +61,37 @@ impl Partition {
             × (4096 < size (without_last_zeros parts.now))) }
         ensures inline { rows (without_last_zeros parts.now) ≤ 16 → ¬ IsErrOf result PartFault.NoMemory }
     {
-        let kept = kept_numbers(parts);
-        if kept.len() > MAX_ROWS {
+        let parts = numbers_before_zeros(parts);
+        if parts.len() > MAX_ROWS {
             return Err(PartFault::TooMany);
         }
-        if let Some(at) = first_rise(kept) {
+        if let Some(at) = first_rise(parts) {
             return Err(PartFault::Rising { at });
         }
-        if sum_of(kept) > MAX_CELLS {
+        let cells = sum_of(parts);
+        if cells > MAX_CELLS {
             return Err(PartFault::TooBig);
         }
-        Ok(Partition {
-            parts: SmallVec::from_slice(alloc, kept)?,
-        })
+        Ok(with_cells(alloc, parts, cells as u16)?)
+    }
+
+    /// The partition with these parts, of which the caller knows that they are one. At most 16 parts take no memory.
+    pub fn from_valid_parts(alloc: Global, parts: &[u16]) -> Result<Partition, NoMemory>
+        requires { IsWithinLimits parts.now }
+        ensures ok { IfOk result (λ p. p ≡ parts.now) }
+        ensures inline { rows parts.now ≤ 16 → IsOk result }
+    {
+        with_cells(alloc, parts, sum_of(parts) as u16)
+    }
+
+    /// The partition with these numbers, of which the caller knows that they are one with zeros at their end, which are
+    /// dropped. At most 16 parts take no memory.
+    pub fn from_valid_numbers(alloc: Global, numbers: &[u16]) -> Result<Partition, NoMemory>
+        requires { IsWithinLimits (without_last_zeros numbers.now) }
+        ensures ok { IfOk result (λ p. p ≡ without_last_zeros numbers.now) }
+        ensures inline { rows (without_last_zeros numbers.now) ≤ 16 → IsOk result }
+    {
+        Partition::from_valid_parts(alloc, numbers_before_zeros(numbers))
     }
 
     /// The parts.
@@ -87,7 +107,7 @@ impl Partition {
         ensures value { result ≡ size self.now }
         ensures limits { IsWithinLimits self.now }
     {
-        sum_of(self.parts()) as u16
+        self.cells
     }
 
     /// The number of rows, which is the number of parts.
@@ -128,6 +148,7 @@ impl Partition {
     pub fn cmp_printed(&self, other: &Partition) -> Ordering
         ensures value { result ≡ printed_order self.now other.now }
         ensures equal { result ≡ Ordering.Equal → self.now ≡ other.now }
+        ensures limits { IsWithinLimits self.now }
     {
         other
             .size()
@@ -140,9 +161,7 @@ impl Partition {
         ensures ok { IfOk result (λ copy. copy ≡ self.now) }
         ensures inline { rows self.now ≤ 16 → IsOk result }
     {
-        Ok(Partition {
-            parts: SmallVec::from_slice(*self.parts.allocator(), self.parts.as_slice())?,
-        })
+        with_cells(*self.parts.allocator(), self.parts(), self.cells)
     }
 }
 
@@ -170,8 +189,20 @@ impl Hash for Partition {
     }
 }
 
-// The numbers without the zeros at their end.
-fn kept_numbers(numbers: &[u16]) -> &[u16]
+/// The partition with these parts, whose sum is known.
+fn with_cells(alloc: Global, parts: &[u16], cells: u16) -> Result<Partition, NoMemory>
+    requires { HasCells parts.now cells }
+    ensures ok { IfOk result (λ p. p ≡ parts.now) }
+    ensures inline { rows parts.now ≤ 16 → IsOk result }
+{
+    Ok(Partition {
+        parts: SmallVec::from_slice(alloc, parts)?,
+        cells,
+    })
+}
+
+/// The numbers without the zeros at their end.
+fn numbers_before_zeros(numbers: &[u16]) -> &[u16]
     ensures { result.now ≡ without_last_zeros numbers.now }
 {
     let mut len = numbers.len();
@@ -181,7 +212,7 @@ fn kept_numbers(numbers: &[u16]) -> &[u16]
     &numbers[..len]
 }
 
-// The first place with a number greater than the one before it.
+/// The first place with a number greater than the one before it.
 fn first_rise(numbers: &[u16]) -> Option<usize>
     ensures { MatchOption result (Falls numbers.now) (RisesFirstAt numbers.now) }
 {
@@ -193,7 +224,7 @@ fn first_rise(numbers: &[u16]) -> Option<usize>
     None
 }
 
-// The sum of the numbers.
+/// The sum of the numbers.
 fn sum_of(numbers: &[u16]) -> u32
     requires { length numbers.now ≤ 512 }
     ensures { result ≡ size numbers.now }

@@ -4,13 +4,13 @@ use Rattle.std.specs.Prelude.{Option, Some, None}
 use Rattle.std.specs.Option.{option_map, unwrap_or}
 use Rattle.std.specs.Map.{lookup, keys_of}
 use Rattle.std.specs.Int.{IsGcd}
-use Rattle.coeff_rings.specs.Ratio.{Ratio, whole, InLowestTerms, ratio_product}
+use Rattle.sym_model.specs.Expansion.{Fraction}
+use Rattle.coeff_rings.specs.Fractions.{whole, InLowestTerms, fraction_product}
 use Rattle.coeff_rings.specs.Proved.Fractions.{Stands-same, Stands-itself, Stands-whole, Stands-product}
 use Rattle.coeff_rings.specs.Proved.FractionLaws.{num-zero}
-use Rattle.sym_model.specs.Expansion.{Fraction}
 use Rattle.sym_model.specs.Canonical.{is_reduced}
 use Rattle.sym_model.proofs.Orders.{is_reduced-from, is_reduced-tells}
-use Rattle.sparse_polys.specs.Combination.{fraction, ratio, terms_of, coefficient}
+use Rattle.sparse_polys.specs.Combination.{terms_of, coefficient}
 
 -- ---- lowest terms
 
@@ -24,23 +24,23 @@ nat_abs-positive (pos (suc n)) other = omega arith
 nat_abs-positive (negsuc n) other = omega arith
 
 -- a value in lowest terms that is not 0 passes the test of a coefficient
-pub is_reduced-lowest : (r : Ratio) → InLowestTerms r → r ≢ whole (pos 0) → is_reduced (fraction r) ≡ true
+pub is_reduced-lowest : (r : Fraction) → InLowestTerms r → r ≢ whole (pos 0) → is_reduced r ≡ true
 is_reduced-lowest r lowest other =
-    is_reduced-from (fraction r) (record {
+    is_reduced-from r (record {
       denominator = lowest.positive;
-      nonzero = nat_abs-positive r.num (λ e. other (num-zero r lowest e));
-      lowest = subst (λ n. IsGcd n r.den 1) (sym (nat_abs-is r.num)) lowest.coprime;
+      nonzero = nat_abs-positive r.0 (λ e. other (num-zero r lowest e));
+      lowest = subst (λ n. IsGcd n r.1 1) (sym (nat_abs-is r.0)) lowest.coprime;
     })
 
-pub lowest-is_reduced : (c : Fraction) → is_reduced c ≡ true → InLowestTerms (ratio c)
+pub lowest-is_reduced : (c : Fraction) → is_reduced c ≡ true → InLowestTerms c
 lowest-is_reduced c h =
     let t = is_reduced-tells c h in
     record { positive = t.denominator; coprime = subst (λ n. IsGcd n c.1 1) (nat_abs-is c.0) t.lowest }
 
-not_zero : (c : Fraction) → 0 < nat_abs c.0 → ratio c ≡ whole (pos 0) → ⊥
-not_zero c h e = let none : nat_abs c.0 ≡ 0 = ap (λ (r : Ratio). nat_abs r.num) e in omega arith
+not_zero : (c : Fraction) → 0 < nat_abs c.0 → c ≡ whole (pos 0) → ⊥
+not_zero c h e = let none : nat_abs c.0 ≡ 0 = ap (λ (r : Fraction). nat_abs r.0) e in omega arith
 
-pub not_zero-is_reduced : (c : Fraction) → is_reduced c ≡ true → ratio c ≢ whole (pos 0)
+pub not_zero-is_reduced : (c : Fraction) → is_reduced c ≡ true → c ≢ whole (pos 0)
 not_zero-is_reduced c h = not_zero c (is_reduced-tells c h).nonzero
 
 -- a product with 0 is 0
@@ -54,35 +54,35 @@ zero_cross n d =
     let none : 0 * (1 * d) ≡ 0 = omega arith in
     left ∙ sym (ap pos none)
 
-pub product-zero : (r : Ratio) → InLowestTerms r → ratio_product (whole (pos 0)) r ≡ whole (pos 0)
+pub product-zero : (r : Fraction) → InLowestTerms r → fraction_product (whole (pos 0)) r ≡ whole (pos 0)
 product-zero r lowest =
-    Stands-same _ _ _ _ _ _ (Stands-product (whole (pos 0)) r _ _ _ _ (Stands-whole (pos 0)) (Stands-itself r lowest)) (Stands-whole (pos 0)) (zero_cross r.num r.den)
+    Stands-same _ _ _ _ _ _ (Stands-product (whole (pos 0)) r _ _ _ _ (Stands-whole (pos 0)) (Stands-itself r lowest)) (Stands-whole (pos 0)) (zero_cross r.0 r.1)
 
 -- ---- look-ups
 
-pub lookup-terms_of : {L R : Type 0} (value : R → Ratio) (test : L → Bool) (es : List (L × R)) → lookup test (terms_of value es) ≡ option_map (λ (c : R). fraction (value c)) (lookup test es)
+pub lookup-terms_of : {L R : Type 0} (value : R → Fraction) (test : L → Bool) (es : List (L × R)) → lookup test (terms_of value es) ≡ option_map value (lookup test es)
 lookup-terms_of value test [] = refl
 lookup-terms_of {L} {R} value test (e ∷ es) = by (test e.0) (lookup-terms_of value test es)
   where
     rest : Option Fraction
     rest = lookup test (terms_of value es)
 
-    by : (b : Bool) → rest ≡ option_map (λ (c : R). fraction (value c)) (lookup test es) → cond b (Some (fraction (value e.1))) rest ≡ option_map (λ (c : R). fraction (value c)) (cond b (Some e.1) (lookup test es))
+    by : (b : Bool) → rest ≡ option_map value (lookup test es) → cond b (Some (value e.1)) rest ≡ option_map value (cond b (Some e.1) (lookup test es))
     by true h = refl
     by false h = h
 
-pub keys-terms_of : {L R : Type 0} (value : R → Ratio) (es : List (L × R)) → keys_of (terms_of value es) ≡ keys_of es
+pub keys-terms_of : {L R : Type 0} (value : R → Fraction) (es : List (L × R)) → keys_of (terms_of value es) ≡ keys_of es
 keys-terms_of value [] = refl
 keys-terms_of value (e ∷ es) = ap (λ ks. e.0 ∷ ks) (keys-terms_of value es)
 
 -- the value that a look-up stands for
-abbrev pub value_at : {R : Type 0} → (R → Ratio) → Option R → Ratio
+abbrev pub value_at : {R : Type 0} → (R → Fraction) → Option R → Fraction
 value_at value None = whole (pos 0)
 value_at value (Some c) = value c
 
-pub coefficient-terms_of : {L R : Type 0} (eq : L → L → Bool) (value : R → Ratio) (es : List (L × R)) (label : L) → coefficient eq (terms_of value es) label ≡ value_at value (lookup (eq label) es)
-coefficient-terms_of {R = R} eq value es label = ap (λ o. ratio (unwrap_or o (pos 0, 1))) (lookup-terms_of value (eq label) es) ∙ by (lookup (eq label) es)
+pub coefficient-terms_of : {L R : Type 0} (eq : L → L → Bool) (value : R → Fraction) (es : List (L × R)) (label : L) → coefficient eq (terms_of value es) label ≡ value_at value (lookup (eq label) es)
+coefficient-terms_of {R = R} eq value es label = ap (λ (o : Option Fraction). unwrap_or o (pos 0, 1)) (lookup-terms_of value (eq label) es) ∙ by (lookup (eq label) es)
   where
-    by : (o : Option R) → ratio (unwrap_or (option_map (λ (c : R). fraction (value c)) o) (pos 0, 1)) ≡ value_at value o
+    by : (o : Option R) → unwrap_or (option_map value o) (pos 0, 1) ≡ value_at value o
     by None = refl
     by (Some c) = refl

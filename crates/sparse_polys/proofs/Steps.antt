@@ -7,12 +7,12 @@ use Rattle.std.specs.Map.{lookup, keys_of}
 use Rattle.std.proofs.lemmas.Map.{lookup-none}
 use Rattle.std.proofs.lemmas.Map.Keys.{IsDistinct-tail}
 use Rattle.std.proofs.lemmas.Map.Entries.{none_past_head}
-use Rattle.coeff_rings.specs.Ratio.{Ratio, whole, InLowestTerms, ratio_sum, ratio_product}
+use Rattle.coeff_rings.specs.Fractions.{whole, InLowestTerms, fraction_sum, fraction_product}
 use Rattle.coeff_rings.specs.Answers.{AnswersSum}
 use Rattle.coeff_rings.specs.Proved.FractionLaws.{sum_comm, sum-zero}
 use Rattle.sym_model.specs.Sum.{Among}
 use Rattle.sym_model.specs.Expansion.{Fraction, Terms}
-use Rattle.sparse_polys.specs.Combination.{fraction, ratio, terms_of, coefficient, IsCombination, HasMoreAt, IsSumOf, IsMultipleOf}
+use Rattle.sparse_polys.specs.Combination.{terms_of, coefficient, IsCombination, HasMoreAt, IsSumOf, IsMultipleOf}
 use Rattle.sparse_polys.specs.Refusal.{IsRefused}
 use Rattle.sparse_polys.proofs.Coefficients.{coefficient-terms_of, value_at, product-zero}
 
@@ -55,7 +55,7 @@ module _ {L : Type 0} {eq : L → L → Bool} (laws : IsEquivalence eq) where
     found_next done e ys h =
         found_past (eq e.0) done (e ∷ ys) (absent_before done e ys h) ∙ ap (λ b. cond b (Some e.1) (lookup (eq e.0) ys)) (laws.refl e.0)
 
-  module _ {R : Type 0} (same : (x y : L) → eq x y ≡ true → x ≡ y) (value : R → Ratio) where
+  module _ {R : Type 0} (same : (x y : L) → eq x y ≡ true → x ≡ y) (value : R → Fraction) where
     -- the coefficients of the pairs so far, with one more pair
     coefficient-push : (done : List (L × R)) (k : L) (v : R) → lookup (eq k) done ≡ None → (q : L) → coefficient eq (terms_of value (done ++ (k, v) ∷ [])) q ≡ (if eq k q then value v else coefficient eq (terms_of value done) q)
     coefficient-push done k v none q =
@@ -75,19 +75,19 @@ module _ {L : Type 0} {eq : L → L → Bool} (laws : IsEquivalence eq) where
       -- a sum of the pairs so far with another list has at the next label what the other list has
       pub sum-before : (first cur : Terms L) → InLowestTerms (coefficient eq first k) → IsSumOf eq first (terms_of value done) cur → coefficient eq cur k ≡ coefficient eq first k
       sum-before first cur low sums =
-          sums k ∙ ap (λ (r : Ratio). ratio_sum (coefficient eq first k) r) absent-coefficient ∙ sum-zero (coefficient eq first k) low
+          sums k ∙ ap (λ (r : Fraction). fraction_sum (coefficient eq first k) r) absent-coefficient ∙ sum-zero (coefficient eq first k) low
 
       pub IsSumOf-next : (first cur new : Terms L) → InLowestTerms (coefficient eq first k) → IsSumOf eq first (terms_of value done) cur → HasMoreAt eq cur k (value v) new → IsSumOf eq first (terms_of value (done ++ (k, v) ∷ [])) new
       IsSumOf-next first cur new low sums more q =
-          more q ∙ by (eq k q) refl ∙ ap (λ (r : Ratio). ratio_sum (coefficient eq first q) r) (sym (coefficient-push done k v none q))
+          more q ∙ by (eq k q) refl ∙ ap (λ (r : Fraction). fraction_sum (coefficient eq first q) r) (sym (coefficient-push done k v none q))
         where
-          by : (b : Bool) → eq k q ≡ b → (if b then ratio_sum (coefficient eq cur k) (value v) else coefficient eq cur q) ≡ ratio_sum (coefficient eq first q) (if b then value v else coefficient eq (terms_of value done) q)
+          by : (b : Bool) → eq k q ≡ b → (if b then fraction_sum (coefficient eq cur k) (value v) else coefficient eq cur q) ≡ fraction_sum (coefficient eq first q) (if b then value v else coefficient eq (terms_of value done) q)
           by true p =
-              ap (λ (r : Ratio). ratio_sum r (value v)) (sum-before first cur low sums ∙ ap (coefficient eq first) (same k q p))
+              ap (λ (r : Fraction). fraction_sum r (value v)) (sum-before first cur low sums ∙ ap (coefficient eq first) (same k q p))
           by false p = sums q
 
       -- where the next sum is not refused, no sum so far is
-      pub fits-next : (P : Ratio → Ratio → Type 0) (first : Terms L) → ((q : L) → P (coefficient eq first q) (coefficient eq (terms_of value done) q) → ⊥) → (P (coefficient eq first k) (value v) → ⊥) → (q : L) → P (coefficient eq first q) (coefficient eq (terms_of value (done ++ (k, v) ∷ [])) q) → ⊥
+      pub fits-next : (P : Fraction → Fraction → Type 0) (first : Terms L) → ((q : L) → P (coefficient eq first q) (coefficient eq (terms_of value done) q) → ⊥) → (P (coefficient eq first k) (value v) → ⊥) → (q : L) → P (coefficient eq first q) (coefficient eq (terms_of value (done ++ (k, v) ∷ [])) q) → ⊥
       fits-next P first before here q h =
           by (eq k q) refl (subst (P (coefficient eq first q)) (coefficient-push done k v none q) h)
         where
@@ -96,26 +96,26 @@ module _ {L : Type 0} {eq : L → L → Bool} (laws : IsEquivalence eq) where
           by false p h = before q h
 
       -- a multiple of the pairs so far does not have the next label
-      pub multiple-before : (x : Ratio) (cur : Terms L) → InLowestTerms x → IsMultipleOf eq (terms_of value done) x cur → coefficient eq cur k ≡ whole (pos 0)
+      pub multiple-before : (x : Fraction) (cur : Terms L) → InLowestTerms x → IsMultipleOf eq (terms_of value done) x cur → coefficient eq cur k ≡ whole (pos 0)
       multiple-before x cur low multiples =
-          multiples k ∙ ap (λ (r : Ratio). ratio_product r x) absent-coefficient ∙ product-zero x low
+          multiples k ∙ ap (λ (r : Fraction). fraction_product r x) absent-coefficient ∙ product-zero x low
 
-      pub IsMultipleOf-next : (x p : Ratio) (cur new : Terms L) → InLowestTerms x → InLowestTerms p → p ≡ ratio_product (value v) x → IsMultipleOf eq (terms_of value done) x cur → HasMoreAt eq cur k p new → IsMultipleOf eq (terms_of value (done ++ (k, v) ∷ [])) x new
+      pub IsMultipleOf-next : (x p : Fraction) (cur new : Terms L) → InLowestTerms x → InLowestTerms p → p ≡ fraction_product (value v) x → IsMultipleOf eq (terms_of value done) x cur → HasMoreAt eq cur k p new → IsMultipleOf eq (terms_of value (done ++ (k, v) ∷ [])) x new
       IsMultipleOf-next x p cur new low lowest product multiples more q =
-          more q ∙ by (eq k q) ∙ ap (λ (r : Ratio). ratio_product r x) (sym (coefficient-push done k v none q))
+          more q ∙ by (eq k q) ∙ ap (λ (r : Fraction). fraction_product r x) (sym (coefficient-push done k v none q))
         where
-          by : (b : Bool) → (if b then ratio_sum (coefficient eq cur k) p else coefficient eq cur q) ≡ ratio_product (if b then value v else coefficient eq (terms_of value done) q) x
+          by : (b : Bool) → (if b then fraction_sum (coefficient eq cur k) p else coefficient eq cur q) ≡ fraction_product (if b then value v else coefficient eq (terms_of value done) q) x
           by true =
-              ap (λ (r : Ratio). ratio_sum r p) (multiple-before x cur low multiples) ∙ sum_comm (whole (pos 0)) p
+              ap (λ (r : Fraction). fraction_sum r p) (multiple-before x cur low multiples) ∙ sum_comm (whole (pos 0)) p
               ∙ sum-zero p lowest ∙ product
           by false = multiples q
 
 -- the sum with 0 is not refused
-module _ {R : Type 0} {is_held : R → Type 0} {value : R → Ratio} {checked : R → R → Option R} (answers : (a b : R) → is_held a → is_held b → AnswersSum value a b (checked a b)) where
-  pub fits-zero_right : (a b : Ratio) → b ≡ whole (pos 0) → IsRefused is_held value checked a b → ⊥
+module _ {R : Type 0} {is_held : R → Type 0} {value : R → Fraction} {checked : R → R → Option R} (answers : (a b : R) → is_held a → is_held b → AnswersSum value a b (checked a b)) where
+  pub fits-zero_right : (a b : Fraction) → b ≡ whole (pos 0) → IsRefused is_held value checked a b → ⊥
   fits-zero_right a b e r = let h : checked r.left r.right ≡ Some r.left = (answers r.left r.right r.left_held r.right_held).zero_right (r.right_value ∙ e) in let f = r.refused in cc
 
-  pub fits-zero_left : (a b : Ratio) → a ≡ whole (pos 0) → IsRefused is_held value checked a b → ⊥
+  pub fits-zero_left : (a b : Fraction) → a ≡ whole (pos 0) → IsRefused is_held value checked a b → ⊥
   fits-zero_left a b e r = let h : checked r.left r.right ≡ Some r.right = (answers r.left r.right r.left_held r.right_held).zero_left (r.left_value ∙ e) in let f = r.refused in cc
 
 -- a result that is one error and another is of equal errors
@@ -129,9 +129,9 @@ IsCombination-empty eq is_label = record { distinct = tt; proper = refl }
 
 -- ---- products of coefficients
 
-module _ {R : Type 0} {is_held : R → Type 0} {value : R → Ratio} {checked : R → R → Option R} (same_value : (a b : R) → value a ≡ value b → a ≡ b) where
+module _ {R : Type 0} {is_held : R → Type 0} {value : R → Fraction} {checked : R → R → Option R} (same_value : (a b : R) → value a ≡ value b → a ≡ b) where
   -- where the operation has an answer, it is not refused
-  answered : (a b s : R) → checked a b ≡ Some s → IsRefused is_held value checked (value a) (value b) → ⊥
+  pub answered : (a b s : R) → checked a b ≡ Some s → IsRefused is_held value checked (value a) (value b) → ⊥
   answered a b s e r =
       let left : r.left ≡ a = same_value r.left a r.left_value in
       let right : r.right ≡ b = same_value r.right b r.right_value in
@@ -139,16 +139,16 @@ module _ {R : Type 0} {is_held : R → Type 0} {value : R → Ratio} {checked : 
       cc
 
   -- where the next product has an answer, no product so far is refused
-  pub products-next : {L : Type 0} (done : List (L × R)) (k : L) (a c s : R) → checked a c ≡ Some s → ((t : L × Fraction) → Among t (terms_of value done) → IsRefused is_held value checked (ratio t.1) (value c) → ⊥) → (t : L × Fraction) → Among t (terms_of value (done ++ (k, a) ∷ [])) → IsRefused is_held value checked (ratio t.1) (value c) → ⊥
+  pub products-next : {L : Type 0} (done : List (L × R)) (k : L) (a c s : R) → checked a c ≡ Some s → ((t : L × Fraction) → Among t (terms_of value done) → IsRefused is_held value checked t.1 (value c) → ⊥) → (t : L × Fraction) → Among t (terms_of value (done ++ (k, a) ∷ [])) → IsRefused is_held value checked t.1 (value c) → ⊥
   products-next {L} [] k a c s e before t (inl here) r =
-      answered a c s e (subst (λ (u : L × Fraction). IsRefused is_held value checked (ratio u.1) (value c)) here r)
+      answered a c s e (subst (λ (u : L × Fraction). IsRefused is_held value checked u.1 (value c)) here r)
   products-next [] k a c s e before t (inr none) r = absurd none
   products-next (x ∷ done) k a c s e before t (inl here) r = before t (inl here) r
   products-next (x ∷ done) k a c s e before t (inr m) r =
       products-next done k a c s e (λ u n. before u (inr n)) t m r
 
 -- the next pair stands among the terms
-pub among-next : {L R : Type 0} (value : R → Ratio) (done : List (L × R)) (k : L) (a : R) (rest : List (L × R)) → Among (k, fraction (value a)) (terms_of value (done ++ (k, a) ∷ rest))
+pub among-next : {L R : Type 0} (value : R → Fraction) (done : List (L × R)) (k : L) (a : R) (rest : List (L × R)) → Among (k, value a) (terms_of value (done ++ (k, a) ∷ rest))
 among-next value [] k a rest = inl refl
 among-next value (x ∷ done) k a rest = inr (among-next value done k a rest)
 

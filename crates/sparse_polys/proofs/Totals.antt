@@ -10,13 +10,13 @@ use Rattle.std.proofs.lemmas.Int.{ints}
 use Rattle.std.proofs.lemmas.Map.{lookup-none}
 use Rattle.std.proofs.lemmas.Map.Keys.{IsDistinct-tail}
 use Rattle.std.proofs.lemmas.Map.Entries.{none_past_head}
-use Rattle.coeff_rings.specs.Ratio.{Ratio, whole, ratio_sum}
+use Rattle.coeff_rings.specs.Fractions.{whole, fraction_sum}
 use Rattle.sym_model.specs.Sum.{total, select, Among, Once}
 use Rattle.sym_model.specs.Expansion.{Fraction, Terms}
 use Rattle.sym_model.specs.Canonical.{is_reduced}
 use Rattle.sym_model.proofs.Sums.{total_split, total_same_members, length_within, Once-select, Among-select, Among_from_select}
 use Rattle.sym_model.proofs.CanonicalLists.{each_term-among}
-use Rattle.sparse_polys.specs.Combination.{coefficient, fraction, ratio, IsCombination, HasMoreAt, HasSameCoefficients}
+use Rattle.sparse_polys.specs.Combination.{coefficient, IsCombination, HasMoreAt, HasSameCoefficients}
 use Rattle.sparse_polys.proofs.Coefficients.{not_zero-is_reduced}
 
 module _ {L : Type 0} {eq : L → L → Bool} (laws : IsEquivalence eq) (same : (x y : L) → eq x y ≡ true → x ≡ y) where
@@ -41,7 +41,7 @@ module _ {L : Type 0} {eq : L → L → Bool} (laws : IsEquivalence eq) (same : 
           inl (ap (λ x. pair x c) (same k u.0 p) ∙ ap (pair u.0) (sym here))
       by false p found rest = inr (rest found)
 
-  once : (terms : Terms L) → IsDistinct eq (keys_of terms) → Once terms
+  pub once : (terms : Terms L) → IsDistinct eq (keys_of terms) → Once terms
   once [] distinct = tt
   once (t ∷ terms) distinct =
       let tail = IsDistinct-tail eq t.0 (keys_of terms) distinct in
@@ -49,20 +49,20 @@ module _ {L : Type 0} {eq : L → L → Bool} (laws : IsEquivalence eq) (same : 
 
   module _ {is_label : L → Bool} where
     -- a term stands in each list that has its coefficient
-    carried : (first second : Terms L) → IsCombination eq is_label first → (t : L × Fraction) → Among t first → coefficient eq second t.0 ≡ coefficient eq first t.0 → Among t second
+    pub carried : (first second : Terms L) → IsCombination eq is_label first → (t : L × Fraction) → Among t first → coefficient eq second t.0 ≡ coefficient eq first t.0 → Among t second
     carried first second is t m e = by (lookup (eq t.0) second) refl
       where
-        here : coefficient eq first t.0 ≡ ratio t.1
-        here = ap (λ o. ratio (unwrap_or o (pos 0, 1))) (found-among first is.distinct t m)
+        here : coefficient eq first t.0 ≡ t.1
+        here = ap (λ (o : Option Fraction). unwrap_or o (pos 0, 1)) (found-among first is.distinct t m)
 
         reduced : is_reduced t.1 ≡ true
         reduced = (and_parts _ _ (each_term-among _ first is.proper t m)).0
 
         by : (o : Option Fraction) → lookup (eq t.0) second ≡ o → Among t second
-        by None p = absurd (not_zero-is_reduced t.1 reduced (sym here ∙ sym e ∙ ap (λ o. ratio (unwrap_or o (pos 0, 1))) p))
+        by None p = absurd (not_zero-is_reduced t.1 reduced (sym here ∙ sym e ∙ ap (λ (o : Option Fraction). unwrap_or o (pos 0, 1)) p))
         by (Some c) p =
-            let equal : ratio c ≡ ratio t.1 = sym (ap (λ o. ratio (unwrap_or o (pos 0, 1))) p) ∙ e ∙ here in
-            among-found second t.0 t.1 (p ∙ ap Some (ap fraction equal))
+            let equal : c ≡ t.1 = sym (ap (λ (o : Option Fraction). unwrap_or o (pos 0, 1)) p) ∙ e ∙ here in
+            among-found second t.0 t.1 (p ∙ ap Some (equal))
 
     module _ (first second : Terms L) (is : IsCombination eq is_label first) (also : IsCombination eq is_label second) where
       -- two combinations with the same coefficients have the same sums
@@ -83,38 +83,38 @@ module _ {L : Type 0} {eq : L → L → Bool} (laws : IsEquivalence eq) (same : 
       by true none rest = cc
       by false none rest = rest none
 
-  module _ (f : L → Ratio → ℤ) (empty : (l : L) → f l (whole (pos 0)) ≡ pos 0) (k : L) where
+  module _ (f : L → Fraction → ℤ) (empty : (l : L) → f l (whole (pos 0)) ≡ pos 0) (k : L) where
     -- the sum over the one term at a label
-    total-at : (terms : Terms L) → IsDistinct eq (keys_of terms) → total (λ (t : L × Fraction). f t.0 (ratio t.1)) (select (λ (t : L × Fraction). eq k t.0) terms) ≡ f k (coefficient eq terms k)
+    total-at : (terms : Terms L) → IsDistinct eq (keys_of terms) → total (λ (t : L × Fraction). f t.0 t.1) (select (λ (t : L × Fraction). eq k t.0) terms) ≡ f k (coefficient eq terms k)
     total-at [] distinct = sym (empty k)
     total-at (t ∷ terms) distinct = by (eq k t.0) refl (total-at terms (IsDistinct-tail eq t.0 (keys_of terms) distinct))
       where
-        by : (b : Bool) → eq k t.0 ≡ b → total (λ (u : L × Fraction). f u.0 (ratio u.1)) (select (λ (u : L × Fraction). eq k u.0) terms) ≡ f k (coefficient eq terms k) → total (λ (u : L × Fraction). f u.0 (ratio u.1)) (cond b (t ∷ select (λ (u : L × Fraction). eq k u.0) terms) (select (λ (u : L × Fraction). eq k u.0) terms)) ≡ f k (ratio (unwrap_or (cond b (Some t.1) (lookup (eq k) terms)) (pos 0, 1)))
+        by : (b : Bool) → eq k t.0 ≡ b → total (λ (u : L × Fraction). f u.0 u.1) (select (λ (u : L × Fraction). eq k u.0) terms) ≡ f k (coefficient eq terms k) → total (λ (u : L × Fraction). f u.0 u.1) (cond b (t ∷ select (λ (u : L × Fraction). eq k u.0) terms) (select (λ (u : L × Fraction). eq k u.0) terms)) ≡ f k (unwrap_or (cond b (Some t.1) (lookup (eq k) terms)) (pos 0, 1))
         by true p h =
             let none : select (λ (u : L × Fraction). eq k u.0) terms ≡ [] = select_none k terms (lookup-none (eq k) terms (none_past_head laws k t terms distinct p)) in
-            ap (λ ts. f t.0 (ratio t.1) +ℤ total (λ (u : L × Fraction). f u.0 (ratio u.1)) ts) none
-            ∙ (let alone : f t.0 (ratio t.1) +ℤ pos 0 ≡ f t.0 (ratio t.1) = omega (arith, ints) in alone)
-            ∙ ap (λ x. f x (ratio t.1)) (sym (same k t.0 p))
+            ap (λ ts. f t.0 t.1 +ℤ total (λ (u : L × Fraction). f u.0 u.1) ts) none
+            ∙ (let alone : f t.0 t.1 +ℤ pos 0 ≡ f t.0 t.1 = omega (arith, ints) in alone)
+            ∙ ap (λ x. f x t.1) (sym (same k t.0 p))
         by false p h = h
 
     -- a sum over a list with more at a label: what it has more is what the label has more
-    pub total-more : {is_label : L → Bool} (old new : Terms L) → IsCombination eq is_label old → IsCombination eq is_label new → (c : Ratio) → HasMoreAt eq old k c new
-        → total (λ (t : L × Fraction). f t.0 (ratio t.1)) new +ℤ f k (coefficient eq old k) ≡ total (λ (t : L × Fraction). f t.0 (ratio t.1)) old +ℤ f k (coefficient eq new k)
+    pub total-more : {is_label : L → Bool} (old new : Terms L) → IsCombination eq is_label old → IsCombination eq is_label new → (c : Fraction) → HasMoreAt eq old k c new
+        → total (λ (t : L × Fraction). f t.0 t.1) new +ℤ f k (coefficient eq old k) ≡ total (λ (t : L × Fraction). f t.0 t.1) old +ℤ f k (coefficient eq new k)
     total-more old new is also c more =
-        let weight : L × Fraction → ℤ = λ t. f t.0 (ratio t.1) in
+        let summand : L × Fraction → ℤ = λ t. f t.0 t.1 in
         let here : L × Fraction → Bool = λ t. eq k t.0 in
         let other : L × Fraction → Bool = λ t. not (eq k t.0) in
-        let equal : (q : L) → eq k q ≡ false → coefficient eq new q ≡ coefficient eq old q = λ q p. more q ∙ ap (λ b. cond b (ratio_sum (coefficient eq old k) c) (coefficient eq old q)) p in
+        let equal : (q : L) → eq k q ≡ false → coefficient eq new q ≡ coefficient eq old q = λ q p. more q ∙ ap (λ b. cond b (fraction_sum (coefficient eq old k) c) (coefficient eq old q)) p in
         let apart : (t : L × Fraction) → other t ≡ true → eq k t.0 ≡ false = λ t h. not-true (eq k t.0) h in
-        let others : total weight (select other old) ≡ total weight (select other new) =
-        total_same_members weight (select other old) (select other new) (Once-select other old (once old is.distinct)) (Once-select other new (once new also.distinct))
+        let others : total summand (select other old) ≡ total summand (select other new) =
+        total_same_members summand (select other old) (select other new) (Once-select other old (once old is.distinct)) (Once-select other new (once new also.distinct))
         (λ t m. let p = Among_from_select other t old m in Among-select other t new (carried old new is t p.0 (equal t.0 (apart t p.1))) p.1)
         (λ t m. let p = Among_from_select other t new m in Among-select other t old (carried new old also t p.0 (sym (equal t.0 (apart t p.1)))) p.1) in
-        let before = total_split weight here old in
-        let after = total_split weight here new in
-        let at_old : total weight (select here old) ≡ f k (coefficient eq old k) = total-at old is.distinct in
-        let at_new : total weight (select here new) ≡ f k (coefficient eq new k) = total-at new also.distinct in
-        sums (total weight old) (total weight new) _ _ _ _ (f k (coefficient eq old k)) (f k (coefficient eq new k)) before after others at_old at_new
+        let before = total_split summand here old in
+        let after = total_split summand here new in
+        let at_old : total summand (select here old) ≡ f k (coefficient eq old k) = total-at old is.distinct in
+        let at_new : total summand (select here new) ≡ f k (coefficient eq new k) = total-at new also.distinct in
+        sums (total summand old) (total summand new) _ _ _ _ (f k (coefficient eq old k)) (f k (coefficient eq new k)) before after others at_old at_new
       where
         not-true : (b : Bool) → not b ≡ true → b ≡ false
         not-true true h = sym h

@@ -5,25 +5,17 @@ use Rattle.std.specs.List.{IsDistinct}
 use Rattle.std.specs.Map.{lookup, keys_of}
 use Rattle.std.specs.Option.{unwrap_or}
 use Rattle.std.specs.declared.cmp.Ordering.{Ordering}
-use Rattle.coeff_rings.specs.Ratio.{Ratio, ratio_sum, ratio_product}
+use Rattle.coeff_rings.specs.Fractions.{fraction_sum, fraction_product}
 use Rattle.sym_model.specs.Expansion.{Fraction, Terms}
 use Rattle.sym_model.specs.Canonical.{is_ordered, is_reduced, each_term}
 
--- a value as the coefficient of a term
-abbrev pub fraction : Ratio → Fraction
-fraction r = (r.num, r.den)
-
--- the coefficient of a term as a value
-abbrev pub ratio : Fraction → Ratio
-ratio c = record { num = c.0; den = c.1 }
-
 -- the list of terms that pairs of labels and scalars stand for
-abbrev pub terms_of : {L R : Type 0} → (R → Ratio) → List (L × R) → Terms L
-terms_of {L} {R} value pairs = map (λ (p : L × R). (p.0, fraction (value p.1))) pairs
+abbrev pub terms_of : {L R : Type 0} → (R → Fraction) → List (L × R) → Terms L
+terms_of {L} {R} value pairs = map (λ (p : L × R). (p.0, value p.1)) pairs
 
 -- the coefficient of a label in a list of terms, 0 where the label is not there
-abbrev pub coefficient : {L : Type 0} → (L → L → Bool) → Terms L → L → Ratio
-coefficient eq terms label = ratio (unwrap_or (lookup (eq label) terms) (pos 0, 1))
+abbrev pub coefficient : {L : Type 0} → (L → L → Bool) → Terms L → L → Fraction
+coefficient eq terms label = unwrap_or (lookup (eq label) terms) (pos 0, 1)
 
 -- whether each coefficient is in lowest terms and not 0, and each label one of its type
 abbrev pub are_terms : {L : Type 0} → (L → Bool) → Terms L → Bool
@@ -44,19 +36,19 @@ abbrev pub IsCanonicalList : {L : Type 0} → (L → L → Ordering) → (L → 
 IsCanonicalList order is_label terms = IsTrue (is_canonical_list order is_label terms)
 
 -- the new list has the value c more at the label, and at every other label what the old one has
-abbrev pub HasMoreAt : {L : Type 0} → (L → L → Bool) → Terms L → L → Ratio → Terms L → Type 0
+abbrev pub HasMoreAt : {L : Type 0} → (L → L → Bool) → Terms L → L → Fraction → Terms L → Type 0
 HasMoreAt {L} eq old label c new = (other : L) → coefficient eq new other
-    ≡ (if eq label other then ratio_sum (coefficient eq old label) c else coefficient eq old other)
+    ≡ (if eq label other then fraction_sum (coefficient eq old label) c else coefficient eq old other)
 
 -- the list has at every label the sum of what the two others have
 abbrev pub IsSumOf : {L : Type 0} → (L → L → Bool) → Terms L → Terms L → Terms L → Type 0
 IsSumOf {L} eq first second sum =
-    (label : L) → coefficient eq sum label ≡ ratio_sum (coefficient eq first label) (coefficient eq second label)
+    (label : L) → coefficient eq sum label ≡ fraction_sum (coefficient eq first label) (coefficient eq second label)
 
 -- the list has at every label what the other has, times c
-abbrev pub IsMultipleOf : {L : Type 0} → (L → L → Bool) → Terms L → Ratio → Terms L → Type 0
+abbrev pub IsMultipleOf : {L : Type 0} → (L → L → Bool) → Terms L → Fraction → Terms L → Type 0
 IsMultipleOf {L} eq terms c multiple =
-    (label : L) → coefficient eq multiple label ≡ ratio_product (coefficient eq terms label) c
+    (label : L) → coefficient eq multiple label ≡ fraction_product (coefficient eq terms label) c
 
 -- the two lists have the same coefficient at every label
 abbrev pub HasSameCoefficients : {L : Type 0} → (L → L → Bool) → Terms L → Terms L → Type 0

@@ -1,9 +1,10 @@
 //! What a term may be labelled by.
-ghost use Rattle.std.specs.Prelude.{◌≡◌, Bool, true, IsTrue, IfOk};
+ghost use Rattle.std.specs.Prelude.{◌≡◌, nat_le, Bool, true, IsTrue, IsOk, IfOk};
 ghost use Rattle.std.specs.Cmp.{IsTotalOrder};
 ghost use Rattle.std.specs.declared.cmp.Ordering.{Ordering};
 ghost use Rattle.std.specs.declared.cmp.Ordering.TheVariants.{Equal};
 ghost use Rattle.sym_model.specs.Canonical.{is_label};
+ghost use Rattle.sym_model.specs.Partition.{rows};
 ghost use Rattle.sym_model.specs.PrintedOrder.{printed_order};
 
 use calc_base::NoMemory;
@@ -16,21 +17,22 @@ pub trait Label: Eq + Hash + Drop {
     // Whether a label lies in the limits of its type, as every label does that a program meets.
     ghost is_label: { Self → Bool };
 
+    // Whether a label is so short that it is kept with no memory taken.
+    ghost is_short: { Self → Bool };
+
     // The order in which labels are printed.
     ghost order: { Self → Self → Ordering };
 
     /// How this label and `other` stand in print. `Equal` only for equal labels.
     fn cmp_printed(&self, other: &Self) -> Ordering
         ensures value { result ≡ order self.now other.now }
-        ensures equal { result ≡ Ordering.Equal → self.now ≡ other.now };
+        ensures equal { result ≡ Ordering.Equal → self.now ≡ other.now }
+        ensures limits { IsTrue (is_label self.now) };
 
-    /// An equal label.
+    /// An equal label. A short one takes no memory.
     fn copy(&self) -> Result<Self, NoMemory>
-        ensures { IfOk result (λ copy. copy ≡ self.now) };
-
-    /// Does nothing when it runs: it tells a proof that the label lies in the limits of its type.
-    fn lies_in_limits(&self)
-        ensures { IsTrue (is_label self.now) };
+        ensures ok { IfOk result (λ copy. copy ≡ self.now) }
+        ensures inline { IsTrue (is_short self.now) → IsOk result };
 
     ghost same_label: { (a b : Self) → Self.eq a b ≡ true → a ≡ b };
 
@@ -44,6 +46,8 @@ impl Label for Partition {
 
     ghost is_label = { is_label };
 
+    ghost is_short = { λ parts. nat_le (rows parts) 16 };
+
     ghost order = { printed_order };
 
     fn cmp_printed(&self, other: &Partition) -> Ordering {
@@ -52,10 +56,6 @@ impl Label for Partition {
 
     fn copy(&self) -> Result<Partition, NoMemory> {
         Partition::copy(self)
-    }
-
-    fn lies_in_limits(&self) {
-        let _ = self.parts();
     }
 
     ghost same_label = { same_partition };

@@ -8,6 +8,3 @@ mod terms;
 pub use label::Label;
 pub use lin::Lin;
 pub use terms::Terms;
-
-#[cfg(test)]
-mod tests;

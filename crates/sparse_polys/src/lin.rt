@@ -1,8 +1,12 @@
 //! Finite linear combinations of labels.
-ghost use Rattle.std.specs.Prelude.{◌≡◌, ◌↔◌, [], length, IsTrue, IfOk, OnOk, OnErr, IsErrOf};
+ghost use Rattle.std.specs.Prelude.{◌≡◌, ◌<◌, ◌↔◌, [], Some, None, length, position, slice_get, IsTrue, IfOk, OnOk, OnErr, IsErrOf};
 ghost use Rattle.std.specs.Prelude.{IsSorted};
-ghost use Rattle.indexmap.specs.IndexMap.{IsReordered, IsUnique};
-ghost use Rattle.sparse_polys.specs.Combination.{coefficient, HasMoreAt, HasSameCoefficients, IsCanonicalList, IsCombination, IsMultipleOf, IsSumOf};
+ghost use Rattle.indexmap.specs.IndexMap.{index_map_len, get, IsUnique, Updates};
+ghost use Rattle.indexmap.specs.Layout.{set_value_at};
+ghost use Rattle.std.specs.List.Sorted.{IsPermutation};
+ghost use Rattle.std.specs.Map.{keys_of, lookup};
+ghost use Rattle.std.specs.Map.Iter.{ShowsInOrder, deref_pair};
+ghost use Rattle.sparse_polys.specs.Combination.{coefficient, terms_of, HasMoreAt, HasSameCoefficients, IsCanonicalList, IsCombination, IsMultipleOf, IsSumOf};
 ghost use Rattle.sparse_polys.specs.Refusal.{IsRefused, RefusesSomeProduct, RefusesSomeSum};
 
 use crate::label::Label;
@@ -10,6 +14,7 @@ use crate::terms::Terms;
 use calc_base::{NoMemory, SumFault};
 use coeff_rings::{Ring, Scalar};
 use indexmap::IndexMap;
+use indexmap::map::Iter;
 use std::alloc::{AllocError, Global};
 use std::marker::Model;
 
@@ -78,12 +83,63 @@ impl<L: Label, R: Scalar> Lin<L, R> {
         ensures was { IsCombination L.eq L.is_label self.old }
         ensures combination { IsCombination L.eq L.is_label self.new }
     {
-        label.lies_in_limits();
-        let sum = self.coefficient(&label).add(c).ok_or(SumFault::Large)?;
+        match self.table.get_index_of(&label) {
+            Some(at) => self.add_at(at, c),
+            None => self.add_new(label, c),
+        }
+    }
+
+    /// Does what `add_term` does, with a label that is copied only where it is new.
+    fn add_borrowed(&mut self, label: &L, c: R) -> Result<(), SumFault>
+        ensures ok { OnOk result (HasMoreAt L.eq self.old label.now (R.value c) self.new) }
+        ensures large { IsErrOf result SumFault.Large
+            ↔ IsRefused R.is_held R.value R.checked_sum (coefficient L.eq self.old label.now) (R.value c) }
+        ensures was { IsCombination L.eq L.is_label self.old }
+        ensures combination { IsCombination L.eq L.is_label self.new }
+    {
+        match self.table.get_index_of(label) {
+            Some(at) => self.add_at(at, c),
+            None => self.add_new(label.copy()?, c),
+        }
+    }
+
+    /// Does what `add_term` does, with a label that is not there.
+    fn add_new(&mut self, label: L, c: R) -> Result<(), SumFault>
+        requires { lookup (L.eq label) self.old ≡ None }
+        ensures ok { OnOk result (HasMoreAt L.eq self.old label (R.value c) self.new) }
+        ensures large { IsErrOf result SumFault.Large
+            ↔ IsRefused R.is_held R.value R.checked_sum (coefficient L.eq self.old label) (R.value c) }
+        ensures err { OnErr result (self.new ≡ self.old) }
+        ensures was { IsCombination L.eq L.is_label self.old }
+        ensures combination { IsCombination L.eq L.is_label self.new }
+    {
+        self.is_combination();
+        lies_in_limits(&label);
+        if c.is_zero() {
+            return Ok(());
+        }
+        self.table.insert(label, c)?;
+        Ok(())
+    }
+
+    /// Adds `c` to the coefficient of the label at an index, and takes the label out where the sum is 0.
+    fn add_at(&mut self, at: usize, c: R) -> Result<(), SumFault>
+        requires { at < length self.old }
+        ensures ok { (label : L) → position (L.eq label) (keys_of self.old) ≡ Some at
+            → OnOk result (HasMoreAt L.eq self.old label (R.value c) self.new) }
+        ensures large { (label : L) → position (L.eq label) (keys_of self.old) ≡ Some at
+            → IsErrOf result SumFault.Large
+            ↔ IsRefused R.is_held R.value R.checked_sum (coefficient L.eq self.old label) (R.value c) }
+        ensures err { OnErr result (self.new ≡ self.old) }
+        ensures was { IsCombination L.eq L.is_label self.old }
+        ensures combination { IsCombination L.eq L.is_label self.new }
+    {
+        let (_, a) = pair_at(&self.table, at);
+        let sum = a.add(c).ok_or(SumFault::Large)?;
         if sum.is_zero() {
-            self.table.swap_remove(&label);
+            take_at(&mut self.table, at);
         } else {
-            self.table.insert(label, sum)?;
+            put_at(&mut self.table, at, sum);
         }
         Ok(())
     }
@@ -113,46 +169,58 @@ impl<L: Label, R: Scalar> Lin<L, R> {
     {
         self.is_combination();
         for (label, c) in &other.table {
-            self.add_term(label.copy()?, *c)?;
+            self.add_borrowed(label, *c)?;
         }
         Ok(self)
     }
 
-    /// The map with each coefficient times `c`.
+    /// The map with each coefficient times `c`. It takes no memory.
     ///
-    /// It is refused as `Large` only where the ring refuses the product of some coefficient and `c`, and then there is
-    /// no such map.
+    /// It is refused as `Large` exactly where the ring refuses the product of some coefficient and `c`.
     pub fn scale(self, c: R) -> Result<Lin<L, R>, SumFault>
     where
         R: Ring,
         ensures product { IfOk result (IsMultipleOf L.eq self (R.value c)) }
         ensures combination { IfOk result (IsCombination L.eq L.is_label) }
         ensures large { IsErrOf result SumFault.Large
-            → RefusesSomeProduct R.is_held R.value R.checked_product self (R.value c) }
-        ensures fits { OnOk result (¬ RefusesSomeProduct R.is_held R.value R.checked_product self (R.value c)) }
+            ↔ RefusesSomeProduct R.is_held R.value R.checked_product self (R.value c) }
+        ensures inline { ¬ IsErrOf result SumFault.NoMemory }
     {
         is_scalar(c);
-        let Lin { table } = self;
-        let mut scaled = Lin::new(*table.allocator());
-        for (label, a) in table {
-            let product = a.mul(c).ok_or(SumFault::Large)?;
-            scaled.add_term(label, product)?;
+        let Lin { mut table } = self;
+        for at in 0..table.len() {
+            let (_, a) = pair_at(&table, at);
+            put_at(&mut table, at, a.mul(c).ok_or(SumFault::Large)?);
         }
-        Ok(scaled)
+        if c.is_zero() {
+            return Ok(Lin::new(*table.allocator()));
+        }
+        Ok(Lin { table })
     }
 
     /// The terms in the printed order.
     pub fn sorted_terms(self) -> Result<Terms<L, R>, NoMemory>
         ensures same { IfOk result (HasSameCoefficients L.eq self) }
         ensures canonical { IfOk result (IsCanonicalList L.order L.is_label) }
+        ensures combination { IfOk result (IsCombination L.eq L.is_label) }
     {
-        let Lin { mut table } = self;
+        let Lin { table } = self;
         let alloc = *table.allocator();
-        sort_labels(&mut table)?;
-        Ok(Terms::from_sorted(pairs_of(alloc, table)?))
+        let mut pairs = pairs_of(alloc, table)?;
+        sort_labels(&mut pairs);
+        Ok(Terms::from_sorted(pairs))
     }
 
-    // Does nothing when it runs: it tells a proof what the map is.
+    /// The labels with their coefficients, in the order of the list that a contract sees.
+    pub fn iter(&self) -> Iter<'_, L, R>
+        ensures rest { terms_of R.value result ≡ self.now }
+        ensures runs { ShowsInOrder (deref_pair {K = L} {X = R}) }
+        ensures combination { IsCombination L.eq L.is_label self.now }
+    {
+        self.table.iter()
+    }
+
+    /// Does nothing when it runs: it tells a proof what the map is.
     fn is_combination(&self)
         ensures { IsCombination L.eq L.is_label self.now }
     {
@@ -160,23 +228,61 @@ impl<L: Label, R: Scalar> Lin<L, R> {
     }
 }
 
-// Does nothing when it runs: it tells a proof what is true of every scalar.
+/// Does nothing when it runs: it tells a proof what is true of every scalar.
 fn is_scalar<R: Scalar>(c: R)
     ensures { R.is_held c }
 {
     let _ = c.is_zero();
 }
 
-// Sorts the pairs by the printed order of their labels.
-fn sort_labels<L: Label, R: Scalar>(table: &mut IndexMap<L, R>) -> Result<(), AllocError>
-    ensures reordered { IsReordered L.eq table.old table.new }
-    ensures unique { IsUnique L.eq table.new }
-    ensures sorted { OnOk result (IsSorted (λ a b. L.order a.0 b.0) table.new.entries) }
+/// Does nothing when it runs: it tells a proof that a label lies in the limits of its type.
+fn lies_in_limits<L: Label>(label: &L)
+    ensures { IsTrue (L.is_label label.now) }
 {
-    table.sort_unstable_by(|a, _, b, _| a.cmp_printed(b))
+    let _ = label.cmp_printed(label);
 }
 
-// The pairs in the order of the table.
+/// The label and the scalar at an index of a table.
+fn pair_at<L: Label, R: Scalar>(table: &IndexMap<L, R>, at: usize) -> (&L, R)
+    requires { at < index_map_len table.now }
+    ensures pair { slice_get table.now.entries at ≡ Some (result.0.now, result.1) }
+    ensures found { get L.eq table.now result.0.now ≡ Some result.1 }
+    ensures unique { IsUnique L.eq table.now }
+{
+    let _ = table.len();
+    let (label, c) = table.get_index(at).unwrap();
+    (label, *c)
+}
+
+/// Puts a scalar in the place of the one at an index of a table.
+fn put_at<L: Label, R: Scalar>(table: &mut IndexMap<L, R>, at: usize, c: R)
+    requires { at < index_map_len table.old }
+    ensures entries { table.new.entries ≡ set_value_at table.old.entries at c }
+    ensures updates { (p : L × R) → slice_get table.old.entries at ≡ Some p → Updates L.eq table.old table.new p.0 (Some c) }
+    ensures unique { IsUnique L.eq table.new }
+{
+    let _ = table.len();
+    table[at] = c;
+    let _ = table.len();
+}
+
+/// Takes the pair at an index out of a table.
+fn take_at<L: Label, R: Scalar>(table: &mut IndexMap<L, R>, at: usize)
+    ensures updates { (p : L × R) → slice_get table.old.entries at ≡ Some p → Updates L.eq table.old table.new p.0 None }
+    ensures unique { IsUnique L.eq table.new }
+{
+    table.swap_remove_index(at);
+}
+
+/// Sorts the pairs by the printed order of their labels.
+fn sort_labels<L: Label, R: Scalar>(pairs: &mut Vec<(L, R)>)
+    ensures permutation { IsPermutation pairs.old.items pairs.new.items }
+    ensures sorted { IsSorted (λ a b. L.order a.0 b.0) pairs.new.items }
+{
+    pairs.sort_unstable_by(|a, b| a.0.cmp_printed(&b.0));
+}
+
+/// The pairs in the order of the table, of which no two have the same label.
 fn pairs_of<L: Label, R: Scalar>(
     alloc: Global,
     table: IndexMap<L, R>,

@@ -1,13 +1,14 @@
 //! Lists of terms in the printed order.
 ghost use Rattle.std.specs.Prelude.{◌≡◌, ◌↔◌, [], length, slice_get, IsTrue};
 ghost use Rattle.std.specs.Option.{option_map};
-ghost use Rattle.sym_model.specs.Canonical.{IsCanonical};
-ghost use Rattle.sparse_polys.specs.Combination.{fraction, terms_of, IsCanonicalList};
+ghost use Rattle.std.specs.Slice.Iter.{iter_rest};
+ghost use Rattle.std.specs.Vec.Iter.{into_iter_items};
+ghost use Rattle.sparse_polys.specs.Combination.{terms_of, IsCanonicalList};
 
 use crate::label::Label;
 use coeff_rings::Scalar;
-use partitions::Partition;
 use std::marker::Model;
+use std::{slice, vec};
 
 /// The terms of a finite map, strictly in the order in which labels are printed. A contract sees the list of labels
 /// with the values of their coefficients.
@@ -28,7 +29,7 @@ impl<L: Label, R: Scalar> Model for Terms<L, R> {
 }
 
 impl<L: Label, R: Scalar> Terms<L, R> {
-    // The list of pairs that are in order.
+    /// The list of pairs that are in order.
     pub(crate) fn from_sorted(pairs: Vec<(L, R)>) -> Terms<L, R>
         requires { IsCanonicalList L.order L.is_label (terms_of R.value pairs.items) }
         ensures { result ≡ terms_of R.value pairs.items }
@@ -53,19 +54,30 @@ impl<L: Label, R: Scalar> Terms<L, R> {
 
     /// The label and the coefficient of a term, counted from 0. `None` exactly past the last one.
     pub fn get(&self, i: usize) -> Option<(&L, R)>
-        ensures term { option_map (λ t. (t.0.now, fraction (R.value t.1))) result ≡ slice_get self.now i }
+        ensures term { option_map (λ t. (t.0.now, R.value t.1)) result ≡ slice_get self.now i }
         ensures canonical { IsCanonicalList L.order L.is_label self.now }
     {
         let (label, c) = self.pairs.get(i)?;
         Some((label, *c))
     }
+
+    /// The labels with their coefficients, in the printed order.
+    pub fn iter(&self) -> slice::Iter<'_, (L, R)>
+        ensures rest { terms_of R.value (iter_rest result) ≡ self.now }
+        ensures canonical { IsCanonicalList L.order L.is_label self.now }
+    {
+        self.pairs.iter()
+    }
 }
 
-impl<R: Scalar> Terms<Partition, R> {
-    /// Does nothing when it runs: it tells a proof that terms with partitions as labels are a canonical list.
-    pub fn is_canonical(&self)
-        ensures { IsCanonical self.now }
-    {
-        let _ = self.len();
+impl<L: Label, R: Scalar> IntoIterator for Terms<L, R> {
+    type Item = (L, R);
+
+    type IntoIter = vec::IntoIter<(L, R)>;
+
+    ghost into_iter_gives = { λ t it. terms_of R.value (into_iter_items it) ≡ t };
+
+    fn into_iter(self) -> Self::IntoIter {
+        self.pairs.into_iter()
     }
 }

@@ -5,42 +5,43 @@ use Rattle.std.proofs.lemmas.Nat.Gcd.{IsGcd-swap}
 use Rattle.std.proofs.lemmas.Int.{ints, unsigned_abs-mul}
 use native.Mathlib.Nat.{div-mul_cancel, dvd-mul_left, mul_comm, mul-div_assoc}
 use Rattle.sym_model.proofs.Ring.{ring, negation-product, product_assoc}
-use Rattle.coeff_rings.specs.Ratio.{Ratio, InLowestTerms, scaled, ratio_sum, ratio_product, ratio_negation}
+use Rattle.sym_model.specs.Expansion.{Fraction}
+use Rattle.coeff_rings.specs.Fractions.{InLowestTerms, scaled, fraction_sum, fraction_product, fraction_negation}
 use Rattle.coeff_rings.specs.Room.{magnitude}
 use Rattle.coeff_rings.specs.Proved.Divisors.{divides_other_factor}
 use Rattle.coeff_rings.specs.Proved.Fractions.{Stands, Stands-sum, Stands-product, product_cancel}
 
-pub unsigned_abs-scaled : (d : ℕ) (r : Ratio) → unsigned_abs (scaled d r) ≡ magnitude d r
-unsigned_abs-scaled d r = unsigned_abs-mul r.num (pos (d / r.den))
+pub unsigned_abs-scaled : (d : ℕ) (r : Fraction) → unsigned_abs (scaled d r) ≡ magnitude d r
+unsigned_abs-scaled d r = unsigned_abs-mul r.0 (pos (d / r.1))
 
-pub scaled-negation : (d : ℕ) (r : Ratio) → scaled d (ratio_negation r) ≡ neg_ℤ (scaled d r)
-scaled-negation d r = negation-product r.num (pos (d / r.den))
+pub scaled-negation : (d : ℕ) (r : Fraction) → scaled d (fraction_negation r) ≡ neg_ℤ (scaled d r)
+scaled-negation d r = negation-product r.0 (pos (d / r.1))
 
 -- a multiple of the multiple
-pub scaled-times : (d k : ℕ) (r : Ratio) → r.den ∣ d → scaled (d * k) r ≡ scaled d r *ℤ pos k
+pub scaled-times : (d k : ℕ) (r : Fraction) → r.1 ∣ d → scaled (d * k) r ≡ scaled d r *ℤ pos k
 scaled-times d k r h =
-    let e : (d * k) / r.den ≡ (d / r.den) * k = ap (λ (n : ℕ). n / r.den) (mul_comm d k) ∙ mul-div_assoc r.den k h ∙ mul_comm k (d / r.den) in
-    ap (λ (n : ℕ). r.num *ℤ pos n) e ∙ sym (product_assoc r.num (pos (d / r.den)) (pos k))
+    let e : (d * k) / r.1 ≡ (d / r.1) * k = ap (λ (n : ℕ). n / r.1) (mul_comm d k) ∙ mul-div_assoc r.1 k h ∙ mul_comm k (d / r.1) in
+    ap (λ (n : ℕ). r.0 *ℤ pos n) e ∙ sym (product_assoc r.0 (pos (d / r.1)) (pos k))
 
 -- a fraction stands for itself cleared over what cleared it
-pub Stands-scaled : (d : ℕ) (r : Ratio) → InLowestTerms r → 0 < d → r.den ∣ d → Stands r (scaled d r) d
+pub Stands-scaled : (d : ℕ) (r : Fraction) → InLowestTerms r → 0 < d → r.1 ∣ d → Stands r (scaled d r) d
 Stands-scaled d r l some h = record {
   lowest = l;
   positive = some;
-  is = ap (λ (n : ℕ). r.num *ℤ pos n) (sym (div-mul_cancel r.den h)) ∙ sym (product_assoc r.num (pos (d / r.den)) (pos r.den));
+  is = ap (λ (n : ℕ). r.0 *ℤ pos n) (sym (div-mul_cancel r.1 h)) ∙ sym (product_assoc r.0 (pos (d / r.1)) (pos r.1));
 }
 
 -- and what stands for n/d is n where d clears it
-pub scaled-Stands : (d : ℕ) (n : ℤ) (r : Ratio) → Stands r n d → (r.den ∣ d) × (scaled d r ≡ n)
+pub scaled-Stands : (d : ℕ) (n : ℤ) (r : Fraction) → Stands r n d → (r.1 ∣ d) × (scaled d r ≡ n)
 scaled-Stands d n r p =
-    let sizes : unsigned_abs r.num * d ≡ unsigned_abs n * r.den =
-    sym (unsigned_abs-mul r.num (pos d)) ∙ ap unsigned_abs p.is ∙ unsigned_abs-mul n (pos r.den) in
-    let divides : r.den ∣ d =
-    divides_other_factor r.den (unsigned_abs r.num) d (IsGcd-swap (unsigned_abs r.num) r.den 1 p.lowest.coprime)
-    (subst (λ (m : ℕ). r.den ∣ m) (sym sizes) (dvd-mul_left r.den (unsigned_abs n))) in (
+    let sizes : unsigned_abs r.0 * d ≡ unsigned_abs n * r.1 =
+    sym (unsigned_abs-mul r.0 (pos d)) ∙ ap unsigned_abs p.is ∙ unsigned_abs-mul n (pos r.1) in
+    let divides : r.1 ∣ d =
+    divides_other_factor r.1 (unsigned_abs r.0) d (IsGcd-swap (unsigned_abs r.0) r.1 1 p.lowest.coprime)
+    (subst (λ (m : ℕ). r.1 ∣ m) (sym sizes) (dvd-mul_left r.1 (unsigned_abs n))) in (
       divides,
-      product_cancel (scaled d r) n r.den p.lowest.positive
-          (product_assoc r.num (pos (d / r.den)) (pos r.den) ∙ ap (λ (m : ℕ). r.num *ℤ pos m) (div-mul_cancel r.den divides) ∙ p.is),
+      product_cancel (scaled d r) n r.1 p.lowest.positive
+          (product_assoc r.0 (pos (d / r.1)) (pos r.1) ∙ ap (λ (m : ℕ). r.0 *ℤ pos m) (div-mul_cancel r.1 divides) ∙ p.is),
     )
 
 same_denominator : (x y d t : ℤ) (td : ℤ) → t *ℤ (d *ℤ d) ≡ (x *ℤ d +ℤ y *ℤ d) *ℤ td → (t *ℤ d) *ℤ d ≡ ((x +ℤ y) *ℤ td) *ℤ d
@@ -49,20 +50,20 @@ same_denominator x y d t td e =
     let last : (x *ℤ d +ℤ y *ℤ d) *ℤ td ≡ ((x +ℤ y) *ℤ td) *ℤ d = simp ring (omega (arith, ints)) in
     first ∙ e ∙ last
 
-pub sum-cleared : (d : ℕ) (a b : Ratio) → InLowestTerms a → InLowestTerms b → 0 < d → a.den ∣ d → b.den ∣ d
-    → ((ratio_sum a b).den ∣ d) × (scaled d (ratio_sum a b) ≡ scaled d a +ℤ scaled d b)
+pub sum-cleared : (d : ℕ) (a b : Fraction) → InLowestTerms a → InLowestTerms b → 0 < d → a.1 ∣ d → b.1 ∣ d
+    → ((fraction_sum a b).1 ∣ d) × (scaled d (fraction_sum a b) ≡ scaled d a +ℤ scaled d b)
 sum-cleared d a b la lb some p q =
     let x = scaled d a in
     let y = scaled d b in
     let s = Stands-sum a b x y d d (Stands-scaled d a la some p) (Stands-scaled d b lb some q) in
-    scaled-Stands d (x +ℤ y) (ratio_sum a b) (record {
+    scaled-Stands d (x +ℤ y) (fraction_sum a b) (record {
       lowest = s.lowest;
       positive = some;
-      is = product_cancel _ _ d some (same_denominator x y (pos d) (ratio_sum a b).num (pos (ratio_sum a b).den) s.is);
+      is = product_cancel _ _ d some (same_denominator x y (pos d) (fraction_sum a b).0 (pos (fraction_sum a b).1) s.is);
     })
 
-pub product-cleared : (d e : ℕ) (a b : Ratio) → InLowestTerms a → InLowestTerms b → 0 < d → 0 < e → a.den ∣ d → b.den ∣ e
-    → ((ratio_product a b).den ∣ d * e) × (scaled (d * e) (ratio_product a b) ≡ scaled d a *ℤ scaled e b)
+pub product-cleared : (d e : ℕ) (a b : Fraction) → InLowestTerms a → InLowestTerms b → 0 < d → 0 < e → a.1 ∣ d → b.1 ∣ e
+    → ((fraction_product a b).1 ∣ d * e) × (scaled (d * e) (fraction_product a b) ≡ scaled d a *ℤ scaled e b)
 product-cleared d e a b la lb sd se p q =
-    scaled-Stands (d * e) (scaled d a *ℤ scaled e b) (ratio_product a b)
+    scaled-Stands (d * e) (scaled d a *ℤ scaled e b) (fraction_product a b)
     (Stands-product a b (scaled d a) (scaled e b) d e (Stands-scaled d a la sd p) (Stands-scaled e b lb se q))

@@ -5,7 +5,7 @@ use Rattle.std.specs.Int.{IsGcd, ◌∣◌}
 use Rattle.std.proofs.lemmas.Nat.Gcd.{IsGcd-from_zero, IsGcd-swap, IsGcd-from_mod, same_from_IsGcd, le_from_IsGcd, dvd_trans, le_of_dvd, dvd_of_mod-eq-zero, mod-eq-zero_of_dvd}
 use Rattle.std.proofs.lemmas.Bool.{and_parts, eqb-true, eq-eqb, and_from, both_ways, cases_eq}
 use native.Mathlib.Nat.{dvd-add, dvd-add_iff_right, dvd-mul_left_of_dvd, dvd-mul_right, dvd_of_mul-dvd-mul_right, mul-dvd-mul_right, div-mul_cancel, div-add-mod', pos_of_dvd_of_pos, one-dvd, mod-lt, one-mul, add-mul, mul_assoc, zero-mul}
-use Rattle.coeff_rings.specs.Ratio.{divides_both, greatest_divisor_to, greatest_common_divisor}
+use Rattle.coeff_rings.specs.Fractions.{divides_both, greatest_divisor_to, greatest_common_divisor}
 
 -- one step of Euclid's algorithm
 euclid_step : (a b q r g : ℕ) → a ≡ q * b + r → IsGcd b r g → IsGcd a b g

@@ -6,99 +6,100 @@ use Rattle.std.proofs.lemmas.Int.{ints}
 use native.Mathlib.Nat.{zero-mul, mul_comm}
 use lib.IntN.{+ℤ_comm, *ℤ_comm, neg_ℤ-neg_ℤ}
 use Rattle.sym_model.proofs.Ring.{ring, negation-product}
-use Rattle.coeff_rings.specs.Ratio.{Ratio, whole, InLowestTerms, lowest_terms, ratio_sum, ratio_difference, ratio_product, ratio_negation, ratio_quotient, reciprocal, turned_over}
+use Rattle.sym_model.specs.Expansion.{Fraction}
+use Rattle.coeff_rings.specs.Fractions.{whole, InLowestTerms, lowest_terms, fraction_sum, fraction_difference, fraction_product, fraction_negation, fraction_quotient, reciprocal, turned_over}
 use Rattle.coeff_rings.specs.Laws.{SumLaws, RingLaws, FieldLaws}
 use Rattle.coeff_rings.specs.Proved.Cleared.{sum-cleared, product-cleared}
 use Rattle.coeff_rings.specs.Proved.Fractions.{Stands-same, Stands-itself, Stands-whole, Stands-sum, Stands-product, Stands-negation}
 
 -- ---- sums
 
-pub sum_comm : (a b : Ratio) → ratio_sum a b ≡ ratio_sum b a
+pub sum_comm : (a b : Fraction) → fraction_sum a b ≡ fraction_sum b a
 sum_comm a b =
-    let join : ℤ → ℕ → Ratio = lowest_terms in
-    ap (λ (n : ℤ). join n (a.den * b.den)) (+ℤ_comm (a.num *ℤ pos b.den) (b.num *ℤ pos a.den))
-    ∙ ap (λ (d : ℕ). join (b.num *ℤ pos a.den +ℤ a.num *ℤ pos b.den) d) (omega arith)
+    let join : ℤ → ℕ → Fraction = lowest_terms in
+    ap (λ (n : ℤ). join n (a.1 * b.1)) (+ℤ_comm (a.0 *ℤ pos b.1) (b.0 *ℤ pos a.1))
+    ∙ ap (λ (d : ℕ). join (b.0 *ℤ pos a.1 +ℤ a.0 *ℤ pos b.1) d) (omega arith)
 
 sum_assoc_cross : (an ad bn bd cn cd : ℤ)
     → ((an *ℤ bd +ℤ bn *ℤ ad) *ℤ cd +ℤ cn *ℤ (ad *ℤ bd)) *ℤ (ad *ℤ (bd *ℤ cd)) ≡ (an *ℤ (bd *ℤ cd) +ℤ (bn *ℤ cd +ℤ cn *ℤ bd) *ℤ ad) *ℤ ((ad *ℤ bd) *ℤ cd)
 sum_assoc_cross an ad bn bd cn cd = simp ring (omega (arith, ints))
 
-pub sum_assoc : (a b c : Ratio) → InLowestTerms a → InLowestTerms b → InLowestTerms c
-    → ratio_sum (ratio_sum a b) c ≡ ratio_sum a (ratio_sum b c)
+pub sum_assoc : (a b c : Fraction) → InLowestTerms a → InLowestTerms b → InLowestTerms c
+    → fraction_sum (fraction_sum a b) c ≡ fraction_sum a (fraction_sum b c)
 sum_assoc a b c la lb lc =
     let pa = Stands-itself a la in
     let pb = Stands-itself b lb in
     let pc = Stands-itself c lc in
     Stands-same _ _ _ _ _ _
-    (Stands-sum (ratio_sum a b) c _ _ _ _ (Stands-sum a b _ _ _ _ pa pb) pc)
-    (Stands-sum a (ratio_sum b c) _ _ _ _ pa (Stands-sum b c _ _ _ _ pb pc))
-    (sum_assoc_cross a.num (pos a.den) b.num (pos b.den) c.num (pos c.den))
+    (Stands-sum (fraction_sum a b) c _ _ _ _ (Stands-sum a b _ _ _ _ pa pb) pc)
+    (Stands-sum a (fraction_sum b c) _ _ _ _ pa (Stands-sum b c _ _ _ _ pb pc))
+    (sum_assoc_cross a.0 (pos a.1) b.0 (pos b.1) c.0 (pos c.1))
 
 sum_zero_cross : (n d : ℤ) → (n *ℤ pos 1 +ℤ pos 0 *ℤ d) *ℤ d ≡ n *ℤ (d *ℤ pos 1)
 sum_zero_cross n d = simp ring (omega (arith, ints))
 
-pub sum-zero : (a : Ratio) → InLowestTerms a → ratio_sum a (whole (pos 0)) ≡ a
+pub sum-zero : (a : Fraction) → InLowestTerms a → fraction_sum a (whole (pos 0)) ≡ a
 sum-zero a la =
     let pa = Stands-itself a la in
-    Stands-same _ _ _ _ _ _ (Stands-sum a (whole (pos 0)) _ _ _ _ pa (Stands-whole (pos 0))) pa (sum_zero_cross a.num (pos a.den))
+    Stands-same _ _ _ _ _ _ (Stands-sum a (whole (pos 0)) _ _ _ _ pa (Stands-whole (pos 0))) pa (sum_zero_cross a.0 (pos a.1))
 
 sum_negation_cross : (n d : ℤ) → (n *ℤ d +ℤ neg_ℤ n *ℤ d) *ℤ pos 1 ≡ pos 0 *ℤ (d *ℤ d)
 sum_negation_cross n d = simp ring (omega (arith, ints))
 
-pub sum-negation : (a : Ratio) → InLowestTerms a → ratio_sum a (ratio_negation a) ≡ whole (pos 0)
+pub sum-negation : (a : Fraction) → InLowestTerms a → fraction_sum a (fraction_negation a) ≡ whole (pos 0)
 sum-negation a la =
     let pa = Stands-itself a la in
-    Stands-same _ _ _ _ _ _ (Stands-sum a (ratio_negation a) _ _ _ _ pa (Stands-negation a _ _ pa)) (Stands-whole (pos 0)) (sum_negation_cross a.num (pos a.den))
+    Stands-same _ _ _ _ _ _ (Stands-sum a (fraction_negation a) _ _ _ _ pa (Stands-negation a _ _ pa)) (Stands-whole (pos 0)) (sum_negation_cross a.0 (pos a.1))
 
-pub difference-is : (a b : Ratio) → ratio_difference a b ≡ ratio_sum a (ratio_negation b)
+pub difference-is : (a b : Fraction) → fraction_difference a b ≡ fraction_sum a (fraction_negation b)
 difference-is a b =
-    let join : ℤ → ℕ → Ratio = lowest_terms in
-    ap (λ (n : ℤ). join (a.num *ℤ pos b.den +ℤ n) (a.den * b.den)) (sym (negation-product b.num (pos a.den)))
+    let join : ℤ → ℕ → Fraction = lowest_terms in
+    ap (λ (n : ℤ). join (a.0 *ℤ pos b.1 +ℤ n) (a.1 * b.1)) (sym (negation-product b.0 (pos a.1)))
 
 -- ---- products
 
-pub product_comm : (a b : Ratio) → ratio_product a b ≡ ratio_product b a
+pub product_comm : (a b : Fraction) → fraction_product a b ≡ fraction_product b a
 product_comm a b =
-    let join : ℤ → ℕ → Ratio = lowest_terms in
-    ap (λ (n : ℤ). join n (a.den * b.den)) (*ℤ_comm a.num b.num) ∙ ap (λ (d : ℕ). join (b.num *ℤ a.num) d) (omega arith)
+    let join : ℤ → ℕ → Fraction = lowest_terms in
+    ap (λ (n : ℤ). join n (a.1 * b.1)) (*ℤ_comm a.0 b.0) ∙ ap (λ (d : ℕ). join (b.0 *ℤ a.0) d) (omega arith)
 
 product_assoc_cross : (an ad bn bd cn cd : ℤ)
     → ((an *ℤ bn) *ℤ cn) *ℤ (ad *ℤ (bd *ℤ cd)) ≡ (an *ℤ (bn *ℤ cn)) *ℤ ((ad *ℤ bd) *ℤ cd)
 product_assoc_cross an ad bn bd cn cd = simp ring
 
-pub product_assoc : (a b c : Ratio) → InLowestTerms a → InLowestTerms b → InLowestTerms c
-    → ratio_product (ratio_product a b) c ≡ ratio_product a (ratio_product b c)
+pub product_assoc : (a b c : Fraction) → InLowestTerms a → InLowestTerms b → InLowestTerms c
+    → fraction_product (fraction_product a b) c ≡ fraction_product a (fraction_product b c)
 product_assoc a b c la lb lc =
     let pa = Stands-itself a la in
     let pb = Stands-itself b lb in
     let pc = Stands-itself c lc in
     Stands-same _ _ _ _ _ _
-    (Stands-product (ratio_product a b) c _ _ _ _ (Stands-product a b _ _ _ _ pa pb) pc)
-    (Stands-product a (ratio_product b c) _ _ _ _ pa (Stands-product b c _ _ _ _ pb pc))
-    (product_assoc_cross a.num (pos a.den) b.num (pos b.den) c.num (pos c.den))
+    (Stands-product (fraction_product a b) c _ _ _ _ (Stands-product a b _ _ _ _ pa pb) pc)
+    (Stands-product a (fraction_product b c) _ _ _ _ pa (Stands-product b c _ _ _ _ pb pc))
+    (product_assoc_cross a.0 (pos a.1) b.0 (pos b.1) c.0 (pos c.1))
 
 product_one_cross : (n d : ℤ) → (n *ℤ pos 1) *ℤ d ≡ n *ℤ (d *ℤ pos 1)
 product_one_cross n d = simp ring
 
-pub product-one : (a : Ratio) → InLowestTerms a → ratio_product a (whole (pos 1)) ≡ a
+pub product-one : (a : Fraction) → InLowestTerms a → fraction_product a (whole (pos 1)) ≡ a
 product-one a la =
     let pa = Stands-itself a la in
-    Stands-same _ _ _ _ _ _ (Stands-product a (whole (pos 1)) _ _ _ _ pa (Stands-whole (pos 1))) pa (product_one_cross a.num (pos a.den))
+    Stands-same _ _ _ _ _ _ (Stands-product a (whole (pos 1)) _ _ _ _ pa (Stands-whole (pos 1))) pa (product_one_cross a.0 (pos a.1))
 
 distributes_cross : (an ad bn bd cn cd : ℤ)
     → (an *ℤ (bn *ℤ cd +ℤ cn *ℤ bd)) *ℤ ((ad *ℤ bd) *ℤ (ad *ℤ cd)) ≡ ((an *ℤ bn) *ℤ (ad *ℤ cd) +ℤ (an *ℤ cn) *ℤ (ad *ℤ bd)) *ℤ (ad *ℤ (bd *ℤ cd))
 distributes_cross an ad bn bd cn cd = simp ring (omega (arith, ints))
 
-pub distributes : (a b c : Ratio) → InLowestTerms a → InLowestTerms b → InLowestTerms c
-    → ratio_product a (ratio_sum b c) ≡ ratio_sum (ratio_product a b) (ratio_product a c)
+pub distributes : (a b c : Fraction) → InLowestTerms a → InLowestTerms b → InLowestTerms c
+    → fraction_product a (fraction_sum b c) ≡ fraction_sum (fraction_product a b) (fraction_product a c)
 distributes a b c la lb lc =
     let pa = Stands-itself a la in
     let pb = Stands-itself b lb in
     let pc = Stands-itself c lc in
     Stands-same _ _ _ _ _ _
-    (Stands-product a (ratio_sum b c) _ _ _ _ pa (Stands-sum b c _ _ _ _ pb pc))
-    (Stands-sum (ratio_product a b) (ratio_product a c) _ _ _ _ (Stands-product a b _ _ _ _ pa pb) (Stands-product a c _ _ _ _ pa pc))
-    (distributes_cross a.num (pos a.den) b.num (pos b.den) c.num (pos c.den))
+    (Stands-product a (fraction_sum b c) _ _ _ _ pa (Stands-sum b c _ _ _ _ pb pc))
+    (Stands-sum (fraction_product a b) (fraction_product a c) _ _ _ _ (Stands-product a b _ _ _ _ pa pb) (Stands-product a c _ _ _ _ pa pc))
+    (distributes_cross a.0 (pos a.1) b.0 (pos b.1) c.0 (pos c.1))
 
 -- ---- quotients
 
@@ -109,14 +110,14 @@ turned_over-lowest (negsuc n) zero some other h = absurd (omega arith)
 turned_over-lowest (negsuc n) (suc d) some other h = record { positive = omega arith; coprime = IsGcd-swap (suc n) (suc d) 1 h }
 
 -- a numerator is 0 exactly in the fraction 0
-pub num-zero : (a : Ratio) → InLowestTerms a → a.num ≡ pos 0 → a ≡ whole (pos 0)
+pub num-zero : (a : Fraction) → InLowestTerms a → a.0 ≡ pos 0 → a ≡ whole (pos 0)
 num-zero a la e =
-    Stands-same a (whole (pos 0)) _ _ _ _ (Stands-itself a la) (Stands-whole (pos 0)) (ap (λ z. z *ℤ pos 1) e ∙ sym (ap pos (zero-mul a.den)))
+    Stands-same a (whole (pos 0)) _ _ _ _ (Stands-itself a la) (Stands-whole (pos 0)) (ap (λ z. z *ℤ pos 1) e ∙ sym (ap pos (zero-mul a.1)))
 
-pub reciprocal-lowest : (a : Ratio) → InLowestTerms a → a ≢ whole (pos 0) → InLowestTerms (reciprocal a)
-reciprocal-lowest a la other = turned_over-lowest a.num a.den la.positive (λ e. other (num-zero a la e)) la.coprime
+pub reciprocal-lowest : (a : Fraction) → InLowestTerms a → a ≢ whole (pos 0) → InLowestTerms (reciprocal a)
+reciprocal-lowest a la other = turned_over-lowest a.0 a.1 la.positive (λ e. other (num-zero a la e)) la.coprime
 
-turned_over_times : (n : ℤ) (d : ℕ) → (turned_over n d).num *ℤ n ≡ pos (turned_over n d).den *ℤ pos d
+turned_over_times : (n : ℤ) (d : ℕ) → (turned_over n d).0 *ℤ n ≡ pos (turned_over n d).1 *ℤ pos d
 turned_over_times (pos n) d = *ℤ_comm (pos d) (pos n)
 turned_over_times (negsuc n) d =
     negation-product (pos d) (negsuc n) ∙ neg_ℤ-neg_ℤ (pos (d * suc n)) ∙ ap pos (mul_comm d (suc n))
@@ -127,18 +128,18 @@ quotient_cross an ad bn bd rn rd e =
     let second : an *ℤ (ad *ℤ (rd *ℤ bd)) ≡ an *ℤ ((ad *ℤ rd) *ℤ bd) = simp ring in
     first ∙ ap (λ z. an *ℤ (ad *ℤ z)) e ∙ second
 
-pub quotient_cancels : (a b : Ratio) → InLowestTerms a → InLowestTerms b → b ≢ whole (pos 0)
-    → ratio_product (ratio_quotient a b) b ≡ a
+pub quotient_cancels : (a b : Fraction) → InLowestTerms a → InLowestTerms b → b ≢ whole (pos 0)
+    → fraction_product (fraction_quotient a b) b ≡ a
 quotient_cancels a b la lb other =
     let pa = Stands-itself a la in
     let pr = Stands-itself (reciprocal b) (reciprocal-lowest b lb other) in
     Stands-same _ _ _ _ _ _
-    (Stands-product (ratio_quotient a b) b _ _ _ _ (Stands-product a (reciprocal b) _ _ _ _ pa pr) (Stands-itself b lb)) pa
-    (quotient_cross a.num (pos a.den) b.num (pos b.den) (reciprocal b).num (pos (reciprocal b).den) (turned_over_times b.num b.den))
+    (Stands-product (fraction_quotient a b) b _ _ _ _ (Stands-product a (reciprocal b) _ _ _ _ pa pr) (Stands-itself b lb)) pa
+    (quotient_cross a.0 (pos a.1) b.0 (pos b.1) (reciprocal b).0 (pos (reciprocal b).1) (turned_over_times b.0 b.1))
 
 -- ---- the laws of a type of scalars
 
-pub sum_laws : {A : Type 0} (held : A → Type 0) (value : A → Ratio) → ((a : A) → held a → InLowestTerms (value a)) → SumLaws held value
+pub sum_laws : {A : Type 0} (held : A → Type 0) (value : A → Fraction) → ((a : A) → held a → InLowestTerms (value a)) → SumLaws held value
 sum_laws held value low = record {
   commutes = λ a b. sum_comm (value a) (value b);
   associates = λ a b c p q r. sum_assoc (value a) (value b) (value c) (low a p) (low b q) (low c r);
@@ -146,7 +147,7 @@ sum_laws held value low = record {
   cleared = λ d a b p q some u v. sum-cleared d (value a) (value b) (low a p) (low b q) some u v;
 }
 
-pub ring_laws : {A : Type 0} (held : A → Type 0) (value : A → Ratio) → ((a : A) → held a → InLowestTerms (value a)) → RingLaws held value
+pub ring_laws : {A : Type 0} (held : A → Type 0) (value : A → Fraction) → ((a : A) → held a → InLowestTerms (value a)) → RingLaws held value
 ring_laws held value low = record {
   commutes = λ a b. product_comm (value a) (value b);
   associates = λ a b c p q r. product_assoc (value a) (value b) (value c) (low a p) (low b q) (low c r);
@@ -157,7 +158,7 @@ ring_laws held value low = record {
   cleared = λ d e a b p q sd se u v. product-cleared d e (value a) (value b) (low a p) (low b q) sd se u v;
 }
 
-pub field_laws : {A : Type 0} (held : A → Type 0) (value : A → Ratio) → ((a : A) → held a → InLowestTerms (value a)) → FieldLaws held value
+pub field_laws : {A : Type 0} (held : A → Type 0) (value : A → Fraction) → ((a : A) → held a → InLowestTerms (value a)) → FieldLaws held value
 field_laws held value low = record {
   quotient_cancels = λ a b p q other. quotient_cancels (value a) (value b) (low a p) (low b q) other;
 }

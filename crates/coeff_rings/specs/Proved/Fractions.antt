@@ -7,7 +7,8 @@ use Rattle.std.proofs.lemmas.Int.{ints, unsigned_abs-mul}
 use native.Mathlib.Nat.{div-mul_cancel, dvd-mul_left, mul-pos, eq_of_mul-eq-mul_right, add-mul, mul_comm}
 use borrow.Author.Differences.{up, down}
 use Rattle.sym_model.proofs.Ring.{ring, negation-product, product_assoc}
-use Rattle.coeff_rings.specs.Ratio.{Ratio, whole, InLowestTerms, greatest_common_divisor, lowest_terms, ratio_sum, ratio_product, ratio_negation}
+use Rattle.sym_model.specs.Expansion.{Fraction}
+use Rattle.coeff_rings.specs.Fractions.{whole, InLowestTerms, greatest_common_divisor, lowest_terms, fraction_sum, fraction_product, fraction_negation}
 use Rattle.coeff_rings.specs.Proved.Divisors.{IsGcd-greatest, divisor_positive, coprime_without, coprime-one, divides_other_factor, quotient_positive}
 
 -- ---- whole numbers
@@ -19,7 +20,7 @@ product_cancel x y d some e =
     let parts : up x + down y ≡ up y + down x = eq_of_mul-eq-mul_right d some (up x + down y) (up y + down x) both in
     omega (arith, ints)
 
-unsigned_abs-negation : (z : ℤ) → unsigned_abs (neg_ℤ z) ≡ unsigned_abs z
+pub unsigned_abs-negation : (z : ℤ) → unsigned_abs (neg_ℤ z) ≡ unsigned_abs z
 unsigned_abs-negation (pos zero) = refl
 unsigned_abs-negation (pos (suc n)) = refl
 unsigned_abs-negation (negsuc n) = refl
@@ -35,32 +36,32 @@ quotient_times (negsuc n) g h =
 
 -- ---- fractions in lowest terms
 
-pub same_parts : (r s : Ratio) → r.num ≡ s.num → r.den ≡ s.den → r ≡ s
+pub same_parts : (r s : Fraction) → r.0 ≡ s.0 → r.1 ≡ s.1 → r ≡ s
 same_parts r s e f =
-    let with_den : ℕ → Ratio = λ d. record { num = s.num; den = d } in
-    let with_num : ℤ → Ratio = λ n. record { num = n; den = r.den } in
+    let with_den : ℕ → Fraction = λ d. (s.0, d) in
+    let with_num : ℤ → Fraction = λ n. (n, r.1) in
     ap with_num e ∙ ap with_den f
 
-den_divides : (r s : Ratio) → InLowestTerms r → r.num *ℤ pos s.den ≡ s.num *ℤ pos r.den → r.den ∣ s.den
+den_divides : (r s : Fraction) → InLowestTerms r → r.0 *ℤ pos s.1 ≡ s.0 *ℤ pos r.1 → r.1 ∣ s.1
 den_divides r s l e =
-    let sizes : unsigned_abs r.num * s.den ≡ unsigned_abs s.num * r.den =
-    sym (unsigned_abs-mul r.num (pos s.den)) ∙ ap unsigned_abs e ∙ unsigned_abs-mul s.num (pos r.den) in
-    divides_other_factor r.den (unsigned_abs r.num) s.den (IsGcd-swap (unsigned_abs r.num) r.den 1 l.coprime)
-    (subst (λ (n : ℕ). r.den ∣ n) (sym sizes) (dvd-mul_left r.den (unsigned_abs s.num)))
+    let sizes : unsigned_abs r.0 * s.1 ≡ unsigned_abs s.0 * r.1 =
+    sym (unsigned_abs-mul r.0 (pos s.1)) ∙ ap unsigned_abs e ∙ unsigned_abs-mul s.0 (pos r.1) in
+    divides_other_factor r.1 (unsigned_abs r.0) s.1 (IsGcd-swap (unsigned_abs r.0) r.1 1 l.coprime)
+    (subst (λ (n : ℕ). r.1 ∣ n) (sym sizes) (dvd-mul_left r.1 (unsigned_abs s.0)))
 
-pub same_fraction : (r s : Ratio) → InLowestTerms r → InLowestTerms s → r.num *ℤ pos s.den ≡ s.num *ℤ pos r.den → r ≡ s
+pub same_fraction : (r s : Fraction) → InLowestTerms r → InLowestTerms s → r.0 *ℤ pos s.1 ≡ s.0 *ℤ pos r.1 → r ≡ s
 same_fraction r s l k e =
-    let dens : r.den ≡ s.den = dvd_antisymm (den_divides r s l e) (den_divides s r k (sym e)) in
-    same_parts r s (product_cancel r.num s.num s.den k.positive (e ∙ ap (λ (n : ℕ). s.num *ℤ pos n) dens)) dens
+    let dens : r.1 ≡ s.1 = dvd_antisymm (den_divides r s l e) (den_divides s r k (sym e)) in
+    same_parts r s (product_cancel r.0 s.0 s.1 k.positive (e ∙ ap (λ (n : ℕ). s.0 *ℤ pos n) dens)) dens
 
 -- ---- what a fraction stands for
 
-pub record Stands (r : Ratio) (n : ℤ) (d : ℕ) : Type 0 where
+pub record Stands (r : Fraction) (n : ℤ) (d : ℕ) : Type 0 where
   pub lowest : InLowestTerms r
   pub positive : 0 < d
-  pub is : r.num *ℤ pos d ≡ n *ℤ pos r.den
+  pub is : r.0 *ℤ pos d ≡ n *ℤ pos r.1
 
-pub Stands-itself : (r : Ratio) → InLowestTerms r → Stands r r.num r.den
+pub Stands-itself : (r : Fraction) → InLowestTerms r → Stands r r.0 r.1
 Stands-itself r l = record { lowest = l; positive = l.positive; is = refl }
 
 pub InLowestTerms-whole : (z : ℤ) → InLowestTerms (whole z)
@@ -97,11 +98,11 @@ cross x s y r n m d e p q c =
     let fourth : (y *ℤ e) *ℤ (r *ℤ d) ≡ (y *ℤ r) *ℤ (d *ℤ e) = simp ring in
     first ∙ ap (λ z. z *ℤ (s *ℤ e)) p ∙ second ∙ ap (λ z. z *ℤ (r *ℤ s)) c ∙ third ∙ ap (λ z. z *ℤ (r *ℤ d)) (sym q) ∙ fourth
 
-pub Stands-same : (r s : Ratio) (n m : ℤ) (d e : ℕ) → Stands r n d → Stands s m e → n *ℤ pos e ≡ m *ℤ pos d → r ≡ s
+pub Stands-same : (r s : Fraction) (n m : ℤ) (d e : ℕ) → Stands r n d → Stands s m e → n *ℤ pos e ≡ m *ℤ pos d → r ≡ s
 Stands-same r s n m d e p q c =
     same_fraction r s p.lowest q.lowest
-    (product_cancel (r.num *ℤ pos s.den) (s.num *ℤ pos r.den) (d * e) (mul-pos p.positive q.positive)
-    (cross r.num (pos s.den) s.num (pos r.den) n m (pos d) (pos e) p.is q.is c))
+    (product_cancel (r.0 *ℤ pos s.1) (s.0 *ℤ pos r.1) (d * e) (mul-pos p.positive q.positive)
+    (cross r.0 (pos s.1) s.0 (pos r.1) n m (pos d) (pos e) p.is q.is c))
 
 sum_cross : (t rn rd sn sd td n d m e : ℤ) → t *ℤ (rd *ℤ sd) ≡ (rn *ℤ sd +ℤ sn *ℤ rd) *ℤ td → rn *ℤ d ≡ n *ℤ rd → sn *ℤ e ≡ m *ℤ sd
     → (t *ℤ (d *ℤ e)) *ℤ (rd *ℤ sd) ≡ ((n *ℤ e +ℤ m *ℤ d) *ℤ td) *ℤ (rd *ℤ sd)
@@ -113,15 +114,19 @@ sum_cross t rn rd sn sd td n d m e a p q =
     ∙ ap (λ z. z *ℤ (sd *ℤ (e *ℤ td)) +ℤ (sn *ℤ e) *ℤ (rd *ℤ (d *ℤ td))) p
     ∙ ap (λ z. (n *ℤ rd) *ℤ (sd *ℤ (e *ℤ td)) +ℤ z *ℤ (rd *ℤ (d *ℤ td))) q ∙ third
 
-pub Stands-sum : (r s : Ratio) (n m : ℤ) (d e : ℕ) → Stands r n d → Stands s m e → Stands (ratio_sum r s) (n *ℤ pos e +ℤ m *ℤ pos d) (d * e)
+-- a whole number over 1 in lowest terms is that whole number
+pub lowest_terms-whole : (z : ℤ) → lowest_terms z 1 ≡ whole z
+lowest_terms-whole z = Stands-same _ _ _ _ _ _ (Stands-lowest_terms z 1 (omega arith)) (Stands-whole z) refl
+
+pub Stands-sum : (r s : Fraction) (n m : ℤ) (d e : ℕ) → Stands r n d → Stands s m e → Stands (fraction_sum r s) (n *ℤ pos e +ℤ m *ℤ pos d) (d * e)
 Stands-sum r s n m d e p q =
-    let dens : 0 < r.den * s.den = mul-pos p.lowest.positive q.lowest.positive in
-    let t = Stands-lowest_terms (r.num *ℤ pos s.den +ℤ s.num *ℤ pos r.den) (r.den * s.den) dens in
+    let dens : 0 < r.1 * s.1 = mul-pos p.lowest.positive q.lowest.positive in
+    let t = Stands-lowest_terms (r.0 *ℤ pos s.1 +ℤ s.0 *ℤ pos r.1) (r.1 * s.1) dens in
     record {
       lowest = t.lowest;
       positive = mul-pos p.positive q.positive;
-      is = product_cancel _ _ (r.den * s.den) dens
-          (sum_cross (ratio_sum r s).num r.num (pos r.den) s.num (pos s.den) (pos (ratio_sum r s).den) n (pos d) m (pos e) t.is p.is q.is);
+      is = product_cancel _ _ (r.1 * s.1) dens
+          (sum_cross (fraction_sum r s).0 r.0 (pos r.1) s.0 (pos s.1) (pos (fraction_sum r s).1) n (pos d) m (pos e) t.is p.is q.is);
     }
 
 product_cross : (t rn rd sn sd td n d m e : ℤ) → t *ℤ (rd *ℤ sd) ≡ (rn *ℤ sn) *ℤ td → rn *ℤ d ≡ n *ℤ rd → sn *ℤ e ≡ m *ℤ sd
@@ -132,20 +137,20 @@ product_cross t rn rd sn sd td n d m e a p q =
     let third : ((n *ℤ rd) *ℤ (m *ℤ sd)) *ℤ td ≡ ((n *ℤ m) *ℤ td) *ℤ (rd *ℤ sd) = simp ring in
     first ∙ ap (λ z. z *ℤ (d *ℤ e)) a ∙ second ∙ ap (λ z. (z *ℤ (sn *ℤ e)) *ℤ td) p ∙ ap (λ z. ((n *ℤ rd) *ℤ z) *ℤ td) q ∙ third
 
-pub Stands-product : (r s : Ratio) (n m : ℤ) (d e : ℕ) → Stands r n d → Stands s m e → Stands (ratio_product r s) (n *ℤ m) (d * e)
+pub Stands-product : (r s : Fraction) (n m : ℤ) (d e : ℕ) → Stands r n d → Stands s m e → Stands (fraction_product r s) (n *ℤ m) (d * e)
 Stands-product r s n m d e p q =
-    let dens : 0 < r.den * s.den = mul-pos p.lowest.positive q.lowest.positive in
-    let t = Stands-lowest_terms (r.num *ℤ s.num) (r.den * s.den) dens in
+    let dens : 0 < r.1 * s.1 = mul-pos p.lowest.positive q.lowest.positive in
+    let t = Stands-lowest_terms (r.0 *ℤ s.0) (r.1 * s.1) dens in
     record {
       lowest = t.lowest;
       positive = mul-pos p.positive q.positive;
-      is = product_cancel _ _ (r.den * s.den) dens
-          (product_cross (ratio_product r s).num r.num (pos r.den) s.num (pos s.den) (pos (ratio_product r s).den) n (pos d) m (pos e) t.is p.is q.is);
+      is = product_cancel _ _ (r.1 * s.1) dens
+          (product_cross (fraction_product r s).0 r.0 (pos r.1) s.0 (pos s.1) (pos (fraction_product r s).1) n (pos d) m (pos e) t.is p.is q.is);
     }
 
-pub Stands-negation : (r : Ratio) (n : ℤ) (d : ℕ) → Stands r n d → Stands (ratio_negation r) (neg_ℤ n) d
+pub Stands-negation : (r : Fraction) (n : ℤ) (d : ℕ) → Stands r n d → Stands (fraction_negation r) (neg_ℤ n) d
 Stands-negation r n d p = record {
-  lowest = record { positive = p.lowest.positive; coprime = subst (λ (m : ℕ). IsGcd m r.den 1) (sym (unsigned_abs-negation r.num)) p.lowest.coprime };
+  lowest = record { positive = p.lowest.positive; coprime = subst (λ (m : ℕ). IsGcd m r.1 1) (sym (unsigned_abs-negation r.0)) p.lowest.coprime };
   positive = p.positive;
-  is = negation-product r.num (pos d) ∙ ap neg_ℤ p.is ∙ sym (negation-product n (pos r.den));
+  is = negation-product r.0 (pos d) ∙ ap neg_ℤ p.is ∙ sym (negation-product n (pos r.1));
 }

@@ -6,9 +6,11 @@ use Rattle.std.proofs.lemmas.Bool.{ltb-true, lt-ltb, both_ways}
 use lib.IntN.{+ℤ_idl, +ℤ_idr}
 use native.Mathlib.Nat.{div-one, le-mul_of_pos_right, mul-le-mul}
 use Rattle.sym_model.proofs.Ring.{ring}
-use Rattle.coeff_rings.specs.Ratio.{Ratio, whole, whole_count, ratio_sum, ratio_difference, ratio_product, ratio_negation}
+use Rattle.sym_model.specs.Expansion.{Fraction}
+use Rattle.coeff_rings.specs.Fractions.{whole, whole_count, fraction_sum, fraction_difference, fraction_product, fraction_negation}
 use Rattle.coeff_rings.specs.Room.{magnitude, HasRoomForSum, HasRoomForProduct}
-use Rattle.coeff_rings.specs.Checked.{fits_i128, where_fits, checked_i128, checked_u128}
+use Rattle.sym_model.specs.Canonical.{fits_128_bits}
+use Rattle.coeff_rings.specs.Checked.{where_fits, checked_i128, checked_u128}
 use Rattle.coeff_rings.specs.Answers.{AnswersSum, AnswersDifference, AnswersProduct, AnswersNegation}
 use Rattle.coeff_rings.specs.Laws.{SumLaws, RingLaws}
 use Rattle.coeff_rings.specs.Proved.Fractions.{InLowestTerms-whole, Stands-same, Stands-whole, Stands-sum, Stands-product}
@@ -37,19 +39,19 @@ where_fits-from false P x None from to h = refl
 
 -- ---- the range of i128
 
-pub fits_from_test : (z : ℤ) → fits_i128 z ≡ true → FitsSigned w128 z
+pub fits_from_test : (z : ℤ) → fits_128_bits z ≡ true → FitsSigned w128 z
 fits_from_test (pos n) t = let small : n < 2 ^ 127 = ltb-true n (2 ^ 127) t in omega (arith, ints)
 fits_from_test (negsuc n) t = let small : n < 2 ^ 127 = ltb-true n (2 ^ 127) t in omega (arith, ints)
 
-pub test_from_fits : (z : ℤ) → FitsSigned w128 z → fits_i128 z ≡ true
+pub test_from_fits : (z : ℤ) → FitsSigned w128 z → fits_128_bits z ≡ true
 test_from_fits (pos n) f = lt-ltb n (2 ^ 127) (f.sfits)
 test_from_fits (negsuc n) f = lt-ltb n (2 ^ 127) (f.sfits)
 
 pub checked_i128-from : (z : ℤ) (answer : Option ℤ) → SomeIff answer (FitsSigned w128 z) z → answer ≡ checked_i128 z
-checked_i128-from z answer h = where_fits-from (fits_i128 z) (FitsSigned w128 z) z answer (fits_from_test z) (test_from_fits z) h
+checked_i128-from z answer h = where_fits-from (fits_128_bits z) (FitsSigned w128 z) z answer (fits_from_test z) (test_from_fits z) h
 
 pub checked_i128-held : (z : ℤ) → IfSome (checked_i128 z) (FitsSigned w128)
-checked_i128-held z = IfSome-where_fits (fits_i128 z) z (FitsSigned w128) (fits_from_test z)
+checked_i128-held z = IfSome-where_fits (fits_128_bits z) z (FitsSigned w128) (fits_from_test z)
 
 pub checked_u128-from : (n : ℕ) (answer : Option ℕ) → SomeIff answer (n < 2 ^ 128) n → answer ≡ checked_u128 n
 checked_u128-from n answer h = where_fits-from (nat_lt n (2 ^ 128)) (n < 2 ^ 128) n answer (ltb-true n (2 ^ 128)) (lt-ltb n (2 ^ 128)) h
@@ -57,11 +59,11 @@ checked_u128-from n answer h = where_fits-from (nat_lt n (2 ^ 128)) (n < 2 ^ 128
 pub checked_u128-held : (n : ℕ) → IfSome (checked_u128 n) (λ m. m < 2 ^ 128)
 checked_u128-held n = IfSome-where_fits (nat_lt n (2 ^ 128)) n (λ m. m < 2 ^ 128) (ltb-true n (2 ^ 128))
 
-pub zero_fits_i128 : FitsSigned w128 (pos 0)
-zero_fits_i128 = omega (arith, ints)
+pub zero_fits_128_bits : FitsSigned w128 (pos 0)
+zero_fits_128_bits = omega (arith, ints)
 
-pub one_fits_i128 : FitsSigned w128 (pos 1)
-one_fits_i128 = omega (arith, ints)
+pub one_fits_128_bits : FitsSigned w128 (pos 1)
+one_fits_128_bits = omega (arith, ints)
 
 pub zero_fits_u128 : 0 < 2 ^ 128
 zero_fits_u128 = omega arith
@@ -72,17 +74,17 @@ one_fits_u128 = omega arith
 -- ---- whole numbers as fractions
 
 pub same_whole : (a b : ℤ) → whole a ≡ whole b → a ≡ b
-same_whole a b e = ap (λ (r : Ratio). r.num) e
+same_whole a b e = ap (λ (r : Fraction). r.0) e
 
-pub sum-whole : (a b : ℤ) → ratio_sum (whole a) (whole b) ≡ whole (a +ℤ b)
+pub sum-whole : (a b : ℤ) → fraction_sum (whole a) (whole b) ≡ whole (a +ℤ b)
 sum-whole a b =
     let e : (a *ℤ pos 1 +ℤ b *ℤ pos 1) *ℤ pos 1 ≡ (a +ℤ b) *ℤ (pos 1 *ℤ pos 1) = simp ring in
     Stands-same _ _ _ _ _ _ (Stands-sum (whole a) (whole b) _ _ _ _ (Stands-whole a) (Stands-whole b)) (Stands-whole (a +ℤ b)) e
 
-pub difference-whole : (a b : ℤ) → ratio_difference (whole a) (whole b) ≡ whole (a -ℤ b)
+pub difference-whole : (a b : ℤ) → fraction_difference (whole a) (whole b) ≡ whole (a -ℤ b)
 difference-whole a b = difference-is (whole a) (whole b) ∙ sum-whole a (neg_ℤ b)
 
-pub product-whole : (a b : ℤ) → ratio_product (whole a) (whole b) ≡ whole (a *ℤ b)
+pub product-whole : (a b : ℤ) → fraction_product (whole a) (whole b) ≡ whole (a *ℤ b)
 product-whole a b =
     let e : (a *ℤ b) *ℤ pos 1 ≡ (a *ℤ b) *ℤ (pos 1 *ℤ pos 1) = simp ring in
     Stands-same _ _ _ _ _ _ (Stands-product (whole a) (whole b) _ _ _ _ (Stands-whole a) (Stands-whole b)) (Stands-whole (a *ℤ b)) e
@@ -106,33 +108,33 @@ zero_number : (a : ℤ) → whole a ≡ whole (pos 0) → a ≡ pos 0
 zero_number a e = same_whole a (pos 0) e
 
 some_of_fitting : (z w : ℤ) → z ≡ w → FitsSigned w128 w → checked_i128 z ≡ Some w
-some_of_fitting z w e f = ap checked_i128 e ∙ where_fits-true (fits_i128 w) w (test_from_fits w f)
+some_of_fitting z w e f = ap checked_i128 e ∙ where_fits-true (fits_128_bits w) w (test_from_fits w f)
 
 pub sum_answers_i128 : (a b : ℤ) → FitsSigned w128 a → FitsSigned w128 b → AnswersSum whole a b (checked_i128 (a +ℤ b))
 sum_answers_i128 a b f g = record {
-  value = IfSome-where_fits (fits_i128 (a +ℤ b)) (a +ℤ b) (λ s. whole s ≡ ratio_sum (whole a) (whole b)) (λ _. sym (sum-whole a b));
+  value = IfSome-where_fits (fits_128_bits (a +ℤ b)) (a +ℤ b) (λ s. whole s ≡ fraction_sum (whole a) (whole b)) (λ _. sym (sum-whole a b));
   zero_left = λ e. some_of_fitting (a +ℤ b) b (ap (λ z. z +ℤ b) (zero_number a e) ∙ +ℤ_idl b) g;
   zero_right = λ e. some_of_fitting (a +ℤ b) a (ap (λ z. a +ℤ z) (zero_number b e) ∙ +ℤ_idr a) f;
-  room = λ d r. IsSome-where_fits (fits_i128 (a +ℤ b)) (a +ℤ b) (test_from_fits (a +ℤ b) (let small = room-sum d a b r in omega (arith, ints)));
+  room = λ d r. IsSome-where_fits (fits_128_bits (a +ℤ b)) (a +ℤ b) (test_from_fits (a +ℤ b) (let small = room-sum d a b r in omega (arith, ints)));
 }
 
 pub difference_answers_i128 : (a b : ℤ) → FitsSigned w128 a → FitsSigned w128 b → AnswersDifference whole a b (checked_i128 (a -ℤ b))
 difference_answers_i128 a b f g = record {
-  value = IfSome-where_fits (fits_i128 (a -ℤ b)) (a -ℤ b) (λ s. whole s ≡ ratio_difference (whole a) (whole b)) (λ _. sym (difference-whole a b));
-  room = λ d r. IsSome-where_fits (fits_i128 (a -ℤ b)) (a -ℤ b) (test_from_fits (a -ℤ b) (let small = room-sum d a b r in omega (arith, ints)));
+  value = IfSome-where_fits (fits_128_bits (a -ℤ b)) (a -ℤ b) (λ s. whole s ≡ fraction_difference (whole a) (whole b)) (λ _. sym (difference-whole a b));
+  room = λ d r. IsSome-where_fits (fits_128_bits (a -ℤ b)) (a -ℤ b) (test_from_fits (a -ℤ b) (let small = room-sum d a b r in omega (arith, ints)));
 }
 
 pub product_answers_i128 : (a b : ℤ) → FitsSigned w128 a → FitsSigned w128 b → AnswersProduct whole a b (checked_i128 (a *ℤ b))
 product_answers_i128 a b f g = record {
-  value = IfSome-where_fits (fits_i128 (a *ℤ b)) (a *ℤ b) (λ s. whole s ≡ ratio_product (whole a) (whole b)) (λ _. sym (product-whole a b));
-  room = λ d e r. IsSome-where_fits (fits_i128 (a *ℤ b)) (a *ℤ b)
+  value = IfSome-where_fits (fits_128_bits (a *ℤ b)) (a *ℤ b) (λ s. whole s ≡ fraction_product (whole a) (whole b)) (λ _. sym (product-whole a b));
+  room = λ d e r. IsSome-where_fits (fits_128_bits (a *ℤ b)) (a *ℤ b)
       (test_from_fits (a *ℤ b) (fits_signed_from_abs w128 (a *ℤ b) (subst (λ (n : ℕ). n < 2 ^ 127) (sym (unsigned_abs-mul a b)) (room-product d e a b r))));
 }
 
 pub negation_answers_i128 : (a : ℤ) → FitsSigned w128 a → AnswersNegation whole a (checked_i128 (neg_ℤ a))
 negation_answers_i128 a f = record {
-  value = IfSome-where_fits (fits_i128 (neg_ℤ a)) (neg_ℤ a) (λ s. whole s ≡ ratio_negation (whole a)) (λ _. refl);
-  room = λ r. IsSome-where_fits (fits_i128 (neg_ℤ a)) (neg_ℤ a)
+  value = IfSome-where_fits (fits_128_bits (neg_ℤ a)) (neg_ℤ a) (λ s. whole s ≡ fraction_negation (whole a)) (λ _. refl);
+  room = λ r. IsSome-where_fits (fits_128_bits (neg_ℤ a)) (neg_ℤ a)
       (test_from_fits (neg_ℤ a) (let small : unsigned_abs a < 2 ^ 127 = omega (arith, abs_le_magnitude 1 a (omega arith), r) in omega (arith, ints)));
 }
 
@@ -152,7 +154,7 @@ some_of_small n m e h = ap checked_u128 e ∙ where_fits-true (nat_lt m (2 ^ 128
 
 pub sum_answers_u128 : (a b : ℕ) → a < 2 ^ 128 → b < 2 ^ 128 → AnswersSum whole_count a b (checked_u128 (a + b))
 sum_answers_u128 a b f g = record {
-  value = IfSome-where_fits (nat_lt (a + b) (2 ^ 128)) (a + b) (λ s. whole_count s ≡ ratio_sum (whole_count a) (whole_count b)) (λ _. sym (sum-whole (pos a) (pos b)));
+  value = IfSome-where_fits (nat_lt (a + b) (2 ^ 128)) (a + b) (λ s. whole_count s ≡ fraction_sum (whole_count a) (whole_count b)) (λ _. sym (sum-whole (pos a) (pos b)));
   zero_left = λ e. let none : a ≡ 0 = same_count a 0 e in some_of_small (a + b) b (omega arith) g;
   zero_right = λ e. let none : b ≡ 0 = same_count b 0 e in some_of_small (a + b) a (omega arith) f;
   room = λ d r. IsSome-where_fits (nat_lt (a + b) (2 ^ 128)) (a + b)

@@ -1,7 +1,7 @@
 use Rattle.std.proofs.Common.{rules, arith, ◌<◌, ◌^◌, FitsSigned, to_z-of_z, subst, sym}
 use Rattle.std.specs.Int.{w128}
 use Rattle.coeff_rings.specs.Signs.{signed}
-use Rattle.coeff_rings.specs.Proved.Sizes.{checked_i128-some, IsFraction-sizes}
+use Rattle.coeff_rings.proofs.Sizes.{checked_i128-some, IsFraction-sizes}
 use Rattle.coeff_rings.proofs.frac.from_sizes.Goals as goal
 
 pub invariant_of-result : goal.invariant_of-result

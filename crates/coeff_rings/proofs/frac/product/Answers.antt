@@ -1,5 +1,5 @@
 use Rattle.std.proofs.Common.{arith, ◌<◌, ◌≤◌, ◌^◌, ◌*◌, ◌/◌, ◌∙◌}
-use Rattle.coeff_rings.specs.Proved.Sizes.{product_num-large, product_den-large, product-parts, product-answer}
+use Rattle.coeff_rings.proofs.Sizes.{product_num-large, product_den-large, product-parts, product-answer}
 use Rattle.coeff_rings.proofs.frac.product.Goals as goal
 
 pub returns-in_err-num : goal.returns-in_err-num

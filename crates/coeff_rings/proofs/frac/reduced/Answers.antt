@@ -1,7 +1,7 @@
 use Rattle.std.proofs.Common.{◌∙◌, ap}
 use Rattle.coeff_rings.specs.Checked.{checked_fraction}
 use Rattle.coeff_rings.specs.Proved.Divisors.{quotient_positive, coprime_without}
-use Rattle.coeff_rings.specs.Proved.Sizes.{lowest_terms-sizes}
+use Rattle.coeff_rings.proofs.Sizes.{lowest_terms-sizes}
 use Rattle.coeff_rings.proofs.frac.reduced.Goals as goal
 
 pub from_sizes-requires-clause-positive : goal.from_sizes-requires-clause-positive

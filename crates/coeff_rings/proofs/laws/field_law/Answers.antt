@@ -1,4 +1,4 @@
-use Rattle.coeff_rings.specs.Ratio.{InLowestTerms}
+use Rattle.coeff_rings.specs.Fractions.{InLowestTerms}
 use Rattle.coeff_rings.specs.Proved.FractionLaws.{sum_laws, ring_laws, field_laws}
 use Rattle.coeff_rings.proofs.laws.field_law.Goals as goal
 

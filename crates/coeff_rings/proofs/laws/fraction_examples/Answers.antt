@@ -1,5 +1,5 @@
 use Rattle.std.proofs.Common.{refl}
-use Rattle.coeff_rings.specs.Ratio.{lowest_terms, greatest_common_divisor, greatest_divisor_to}
+use Rattle.coeff_rings.specs.Fractions.{lowest_terms, greatest_common_divisor, greatest_divisor_to}
 use Rattle.coeff_rings.proofs.laws.fraction_examples.Goals as goal
 
 pub returns : goal.returns

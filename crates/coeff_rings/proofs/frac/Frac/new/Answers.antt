@@ -1,7 +1,7 @@
 use Rattle.std.proofs.Common.{sym, subst, to_z-of_z, Option, IfSome}
-use Rattle.coeff_rings.specs.Ratio.{Ratio}
+use Rattle.sym_model.specs.Expansion.{Fraction}
 use Rattle.coeff_rings.specs.Checked.{IsFraction}
-use Rattle.coeff_rings.specs.Proved.Sizes.{new-steps, checked_ratio_of-held}
+use Rattle.coeff_rings.proofs.Sizes.{new-steps, checked_fraction_of-held}
 use Rattle.coeff_rings.proofs.frac.Frac.new.Goals as goal
 
 pub returns : goal.returns
@@ -13,5 +13,5 @@ returns c =
     c.reduced.ensures in
     record {
       value = is;
-      held = subst (λ (o : Option Ratio). IfSome o IsFraction) (sym is) (checked_ratio_of-held c.args.num c.args.den);
+      held = subst (λ (o : Option Fraction). IfSome o IsFraction) (sym is) (checked_fraction_of-held c.args.num c.args.den);
     }

@@ -1,9 +1,11 @@
 use Rattle.std.proofs.Common.{ℕ, ◌<◌, ◌∙◌, ap, subst, sym, to_z-of_z}
 use Rattle.std.proofs.lemmas.Nat.Gcd.{IsGcd-swap}
-use Rattle.coeff_rings.specs.Ratio.{Ratio}
+use Rattle.sym_model.specs.Expansion.{Fraction}
 use Rattle.coeff_rings.specs.Signs.{signs_differ}
 use Rattle.coeff_rings.specs.declared.frac.Sizes.{Sizes}
-use Rattle.coeff_rings.specs.Proved.Sizes.{size_positive, quotient-steps}
+use Rattle.coeff_rings.specs.Answers.{AnswersQuotient}
+use Rattle.coeff_rings.specs.Proved.FractionAnswers.{quotient_answers_fraction}
+use Rattle.coeff_rings.proofs.Sizes.{size_positive, quotient-steps}
 use Rattle.coeff_rings.proofs.frac.FracField.div.Goals as goal
 
 pub product-requires-clause-left : goal.product-requires-clause-left
@@ -19,11 +21,15 @@ product-requires-clause-right c =
 pub returns-clause-quotient : goal.returns-clause-quotient
 returns-clause-quotient c =
     let signs = rw (to_z-of_z c.self.invariant.fits, to_z-of_z c.other.invariant.fits) at c.differ_in_sign.ensures in
-    let left = ap (λ (r : Ratio). r.num) c.self.view_is in
-    let right = ap (λ (r : Ratio). r.num) c.other.view_is in
+    let left = ap (λ (r : Fraction). r.0) c.self.view_is in
+    let right = ap (λ (r : Fraction). r.0) c.other.view_is in
     quotient-steps c.args.self c.args.other c.differ_in_sign.result c.sizes.result.num c.sizes.result.den c.sizes-divisor.result.den c.sizes-divisor.result.num c.product.result
     c.sizes-divisor.ensures.held.lowest.positive
-    (signs ∙ ap (λ z. signs_differ z c.other.inside.num) left ∙ ap (λ z. signs_differ c.args.self.num z) right)
+    (signs ∙ ap (λ z. signs_differ z c.other.inside.num) left ∙ ap (λ z. signs_differ c.args.self.0 z) right)
     (ap (λ (k : Sizes). k.num) c.sizes.ensures.value) (ap (λ (k : Sizes). k.den) c.sizes.ensures.value)
     (ap (λ (k : Sizes). k.den) c.sizes-divisor.ensures.value) (ap (λ (k : Sizes). k.num) c.sizes-divisor.ensures.value)
     c.product.ensures
+
+pub returns-clause-answer : goal.returns-clause-answer
+returns-clause-answer c =
+    subst (AnswersQuotient (λ r. r) c.args.self c.args.other) (sym (returns-clause-quotient c)) (quotient_answers_fraction c.args.self c.args.other)

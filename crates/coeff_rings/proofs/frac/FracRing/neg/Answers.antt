@@ -3,7 +3,7 @@ use Rattle.coeff_rings.specs.Checked.{IsFraction}
 use Rattle.coeff_rings.specs.Proved.FractionAnswers.{IsFraction-negation}
 use Rattle.coeff_rings.proofs.frac.FracRing.neg.Goals as goal
 
-held : (c : goal.In_ok-num) → IsFraction (record { num = c.in_ok-num.num; den = c.self.inside.den })
+held : (c : goal.In_ok-num) → IsFraction (c.in_ok-num.num, c.self.inside.den)
 held c = IsFraction-negation c.self.inside.num c.in_ok-num.num c.self.inside.den c.self.invariant c.in_ok-num.ensures.0 c.in_ok-num.ensures.1
 
 pub invariant_of-result : goal.invariant_of-result

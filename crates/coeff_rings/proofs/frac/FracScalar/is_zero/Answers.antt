@@ -1,4 +1,4 @@
-use Rattle.coeff_rings.specs.Proved.Sizes.{zero-tells}
+use Rattle.coeff_rings.proofs.Sizes.{zero-tells}
 use Rattle.coeff_rings.proofs.frac.FracScalar.is_zero.Goals as goal
 
 pub returns-clause-zero : goal.returns-clause-zero

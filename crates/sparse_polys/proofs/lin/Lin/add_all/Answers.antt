@@ -4,7 +4,8 @@ use Rattle.std.specs.List.{IsDistinct}
 use Rattle.std.specs.Map.{lookup, keys_of}
 use Rattle.std.specs.Map.Iter.{deref_pair}
 use Rattle.std.proofs.lemmas.List.{map-append}
-use Rattle.coeff_rings.specs.Ratio.{Ratio, whole, InLowestTerms}
+use Rattle.sym_model.specs.Expansion.{Fraction}
+use Rattle.coeff_rings.specs.Fractions.{whole, InLowestTerms}
 use Rattle.coeff_rings.specs.Proved.FractionLaws.{sum-zero}
 use Rattle.sparse_polys.specs.Combination.{coefficient, terms_of, IsSumOf, HasMoreAt}
 use Rattle.sparse_polys.specs.Refusal.{IsRefused}
@@ -36,7 +37,7 @@ loop-label-preserved g c =
     let inv = c.loop-label.invariant in
     let first = c.args.self in
     let cur = c.loop-label.self in
-    let new = c.add_term.new.self in
+    let new = c.add_borrowed.new.self in
     let done = map deref_pair c.loop-label.yielded in
     let rest = c.next.new.self in
     let k = c.in-Some.label.now in
@@ -48,12 +49,11 @@ loop-label-preserved g c =
     subst (λ es. IsDistinct eq (keys_of es)) (sym (so_far ∙ given.0)) given.4 in
     let none : lookup (eq k) done ≡ None = absent_before laws done (k, v) rest distinct in
     let low : InLowestTerms (coefficient eq first k) = lowest-coefficient laws same g.L.Label.is_label value first inv.was.proper k in
-    let says = c.in_ok-add_term.ensures in
-    let more : HasMoreAt eq cur k (value v) new = subst (λ x. HasMoreAt eq cur x (value v) new) c.in_ok-copy.ensures says.ok in
-    let before : coefficient eq first k ≡ coefficient eq cur c.in_ok-copy.field-0 =
-    sym (sum-before laws same value done k v none first cur low inv.sums) ∙ ap (coefficient eq cur) (sym c.in_ok-copy.ensures) in
-    let P = λ (a b : Ratio). IsRefused g.R.Scalar.is_held value g.R.Scalar.checked_sum a b in
-    let here : P (coefficient eq first k) (value v) → ⊥ = λ h. let refused = says.large.1 (subst (λ (r : Ratio). P r (value v)) before h) in cc in
+    let says = c.in_ok-add_borrowed.ensures in
+    let more : HasMoreAt eq cur k (value v) new = says.ok in
+    let before : coefficient eq first k ≡ coefficient eq cur k = sym (sum-before laws same value done k v none first cur low inv.sums) in
+    let P = λ (a b : Fraction). IsRefused g.R.Scalar.is_held value g.R.Scalar.checked_sum a b in
+    let here : P (coefficient eq first k) (value v) → ⊥ = λ h. let refused = says.large.1 (subst (λ (r : Fraction). P r (value v)) before h) in cc in
     let pushed : done ++ (k, v) ∷ [] ≡ map deref_pair (c.loop-label.yielded ++ (c.in-Some.label, c.in-Some.c) ∷ []) =
     sym (map-append deref_pair c.loop-label.yielded ((c.in-Some.label, c.in-Some.c) ∷ [])) in
     record {
@@ -64,8 +64,8 @@ loop-label-preserved g c =
       so_far = ap (λ es. es ++ rest) (sym pushed) ∙ append_assoc done ((k, v) ∷ []) rest ∙ so_far;
     }
 
-pub returns-in_err-add_term-clause-large : goal.returns-in_err-add_term-clause-large
-returns-in_err-add_term-clause-large g c =
+pub returns-in_err-add_borrowed-clause-large : goal.returns-in_err-add_borrowed-clause-large
+returns-in_err-add_borrowed-clause-large g c =
     let eq = g.L.PartialEq.eq in
     let value = g.R.Scalar.value in
     let laws = g.met.L.Eq.laws in
@@ -84,13 +84,12 @@ returns-in_err-add_term-clause-large g c =
     subst (λ es. IsDistinct eq (keys_of es)) (sym all) given.4 in
     let none : lookup (eq k) done ≡ None = absent_before laws done (k, v) rest distinct in
     let low : InLowestTerms (coefficient eq first k) = lowest-coefficient laws same g.L.Label.is_label value first inv.was.proper k in
-    let before : coefficient eq cur c.in_ok-copy.field-0 ≡ coefficient eq first k =
-    ap (coefficient eq cur) c.in_ok-copy.ensures ∙ sum-before laws same value done k v none first cur low inv.sums in
+    let before : coefficient eq cur k ≡ coefficient eq first k = sum-before laws same value done k v none first cur low inv.sums in
     let found : lookup (eq k) c.other.inside.table.entries ≡ Some v =
     ap (lookup (eq k)) (sym all) ∙ found_next laws done (k, v) rest distinct in
     let second : value v ≡ coefficient eq c.args.other.now k =
     sym (ap (λ terms. coefficient eq terms k) (sym c.other.view_is) ∙ coefficient-terms_of eq value c.other.inside.table.entries k ∙ ap (value_at value) found) in
-    let P = λ (a b : Ratio). IsRefused g.R.Scalar.is_held value g.R.Scalar.checked_sum a b in
+    let P = λ (a b : Fraction). IsRefused g.R.Scalar.is_held value g.R.Scalar.checked_sum a b in
     λ large.
-    let refused = c.in_err-add_term.ensures.large.0 (ap Err (error_is _ _ _ c.from_residual-in_err-add_term.ensures.1 large)) in
-    (k, subst (P (coefficient eq first k)) second (subst (λ (r : Ratio). P r (value v)) before refused))
+    let refused = c.in_err-add_borrowed.ensures.large.0 (ap Err (error_is _ _ _ c.from_residual.ensures.1 large)) in
+    (k, subst (P (coefficient eq first k)) second (subst (λ (r : Fraction). P r (value v)) before refused))

@@ -23,7 +23,7 @@ loop-label-preserved g c =
     subst (λ es. IsDistinct eq (keys_of es)) (sym (so_far ∙ given.0)) given.4 in
     let none : lookup (eq k) done ≡ None = absent_before g.met.L.Eq.laws done (k, v) rest distinct in
     let here : c.insert.new.self.entries ≡ done ++ (k, v) ∷ [] =
-    c.in_ok-insert.ensures.entries ∙ ap (λ x. insert_entry eq done x v) c.in_ok-copy.ensures
+    c.in_ok-insert.ensures.entries ∙ ap (λ x. insert_entry eq done x v) c.in_ok-copy.ensures.ok
     ∙ insert_entry-new eq c.loop-label.table k v none in
     ap (λ es. es ++ rest) here ∙ append_assoc done ((k, v) ∷ []) rest ∙ so_far
 

@@ -1,0 +1,3 @@
+pub mod Sizes
+pub mod CommonDivisors
+pub mod FractionSteps
