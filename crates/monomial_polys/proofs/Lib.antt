@@ -1,0 +1,2 @@
+pub mod ExponentOrder
+pub mod Labels

@@ -1,0 +1,166 @@
+//! The type of a monomial.
+ghost use Rattle.std.specs.Prelude.{◌≡◌, ℕ, ◌<◌, ◌≤◌, ◌↔◌, length, nat_eq, IsOk, IfOk, OnOk, IsErrOf};
+ghost use Rattle.std.specs.Cmp.{partial_equiv_from_equiv};
+ghost use Rattle.std.specs.Cmp.Lexicographic.{pointwise, nat_list_eq_equiv};
+ghost use Rattle.std.specs.Cmp.Rules.{hashing};
+ghost use Rattle.std.specs.Hash as fed;
+ghost use Rattle.std.proofs.Common.{rules};
+ghost use Rattle.sym_model.specs.Partition.{size, without_last_zeros};
+ghost use Rattle.sym_model.specs.PrintedOrder.{printed_order};
+ghost use Rattle.monomial_polys.specs.Limits.{HasDegree, IsWithinLimits};
+
+use crate::MonoFault;
+use calc_base::NoMemory;
+use smallvec::SmallVec;
+use std::alloc::Global;
+use std::cmp::Ordering;
+use std::hash::{Hash, Hasher};
+use std::marker::Model;
+
+/// The most exponents, and the greatest degree, of a monomial.
+const MAX_EXPONENTS: usize = 255;
+
+const MAX_DEGREE: u32 = 32385;
+
+/// A monomial: its exponents without the zeros at their end. It has at most 255 exponents and a degree of at most
+/// 32,385. Up to 16 exponents are kept with no memory taken.
+#[derive(Debug, Drop)]
+pub struct Monomial {
+    exponents: SmallVec<u16, 16>,
+    // The sum of the exponents.
+    degree: u16,
+}
+
+impl Model for Monomial {
+    ghost use Rattle.std.specs.Prelude.{ℕ, List};
+    ghost use Rattle.monomial_polys.specs.Limits.{HasDegree};
+
+    ghost Value = { List ℕ };
+
+    ghost view = { λ m. m.exponents.items };
+
+    ghost invariant = { λ m. HasDegree m.exponents.items m.degree };
+}
+
+impl Monomial {
+    /// The monomial with these exponents, where zeros at the end are dropped.
+    ///
+    /// It is refused as `TooMany` where more than 255 exponents are left, else as `TooBig` where their sum is past
+    /// 32,385. At most 16 exponents take no memory.
+    pub fn from_exponents(alloc: Global, exponents: &[u16]) -> Result<Monomial, MonoFault>
+        ensures ok { IfOk result (λ m. m ≡ without_last_zeros exponents.now) }
+        ensures limits { OnOk result (IsWithinLimits (without_last_zeros exponents.now)) }
+        ensures too_many { IsErrOf result MonoFault.TooMany
+            ↔ (255 < length (without_last_zeros exponents.now)) }
+        ensures too_big { IsErrOf result MonoFault.TooBig
+            ↔ ((length (without_last_zeros exponents.now) ≤ 255)
+            × (32385 < size (without_last_zeros exponents.now))) }
+        ensures inline { length (without_last_zeros exponents.now) ≤ 16 → ¬ IsErrOf result MonoFault.NoMemory }
+    {
+        let exponents = numbers_before_zeros(exponents);
+        if exponents.len() > MAX_EXPONENTS {
+            return Err(MonoFault::TooMany);
+        }
+        let degree = sum_of(exponents);
+        if degree > MAX_DEGREE {
+            return Err(MonoFault::TooBig);
+        }
+        Ok(with_degree(alloc, exponents, degree as u16)?)
+    }
+
+    /// The exponents.
+    pub fn exponents(&self) -> &[u16]
+        ensures value { result.now ≡ self.now }
+        ensures limits { IsWithinLimits self.now }
+    {
+        self.exponents.as_slice()
+    }
+
+    /// The degree: the sum of the exponents.
+    pub fn degree(&self) -> u16
+        ensures value { result ≡ size self.now }
+        ensures limits { IsWithinLimits self.now }
+    {
+        self.degree
+    }
+
+    /// How this monomial and `other` stand in print: the greater degree first, then falling lexicographic order of the
+    /// exponents. `Equal` only for equal monomials.
+    pub fn cmp_printed(&self, other: &Monomial) -> Ordering
+        ensures value { result ≡ printed_order self.now other.now }
+        ensures equal { result ≡ Ordering.Equal → self.now ≡ other.now }
+        ensures limits { IsWithinLimits self.now }
+    {
+        other
+            .degree()
+            .cmp(&self.degree())
+            .then(other.exponents().cmp(&self.exponents()))
+    }
+
+    /// An equal monomial. At most 16 exponents take no memory.
+    pub fn copy(&self) -> Result<Monomial, NoMemory>
+        ensures ok { IfOk result (λ copy. copy ≡ self.now) }
+        ensures inline { length self.now ≤ 16 → IsOk result }
+    {
+        with_degree(*self.exponents.allocator(), self.exponents(), self.degree)
+    }
+}
+
+impl PartialEq for Monomial {
+    ghost eq = { pointwise nat_eq };
+
+    ghost laws = { partial_equiv_from_equiv nat_list_eq_equiv };
+
+    fn eq(&self, other: &Monomial) -> bool {
+        self.exponents() == other.exponents()
+    }
+}
+
+impl Eq for Monomial {
+    ghost laws = { nat_list_eq_equiv };
+}
+
+impl Hash for Monomial {
+    ghost hash_input = { fed.slice fed.u16 };
+
+    ghost respects_eq = { Prim.search (hashing, rules) };
+
+    fn hash<H: Hasher>(&self, state: &mut H) {
+        self.exponents().hash(state);
+    }
+}
+
+/// The monomial with these exponents, whose sum is known.
+fn with_degree(alloc: Global, exponents: &[u16], degree: u16) -> Result<Monomial, NoMemory>
+    requires { HasDegree exponents.now degree }
+    ensures ok { IfOk result (λ m. m ≡ exponents.now) }
+    ensures inline { length exponents.now ≤ 16 → IsOk result }
+{
+    Ok(Monomial {
+        exponents: SmallVec::from_slice(alloc, exponents)?,
+        degree,
+    })
+}
+
+/// The numbers without the zeros at their end.
+fn numbers_before_zeros(numbers: &[u16]) -> &[u16]
+    ensures { result.now ≡ without_last_zeros numbers.now }
+{
+    let mut len = numbers.len();
+    while len > 0 && numbers[len - 1] == 0 {
+        len -= 1;
+    }
+    &numbers[..len]
+}
+
+/// The sum of the numbers.
+fn sum_of(numbers: &[u16]) -> u32
+    requires { length numbers.now ≤ 255 }
+    ensures { result ≡ size numbers.now }
+{
+    let mut sum: u32 = 0;
+    for number in numbers {
+        sum += u32::from(*number);
+    }
+    sum
+}

@@ -1,0 +1,130 @@
+-- Covers found one place after the other, in a list of letters with fixed ones added.
+use Rattle.std.proofs.Common.{◌≡◌, ℕ, zero, suc, ◌+◌, ◌-◌, ◌<◌, ◌≤◌, ◌==◌, max, Bool, true, false, cond, List, [], ◌∷◌, ◌++◌, map, length, refl, sym, ap, ap₂, ◌∙◌, arith, add-one}
+use Rattle.std.specs.List.{swap}
+use Rattle.std.proofs.lemmas.List.{append-nil}
+use Rattle.sym_model.specs.Sum.{select}
+use Rattle.sym_model.specs.Partition.{after}
+use Rattle.sym_model.specs.PlaceOrders.{inversions}
+use Rattle.sym_model.specs.Permutation.{kept, with_fixed, times_swap, covers_among, covers_up, covers_down}
+use Rattle.schubert_laws.proofs.FixedTails.{inversions_kept}
+use Rattle.schubert_laws.proofs.MonkFromOne.{swap_is}
+use Rattle.schubert_laws.proofs.TransitionFromOne.{times_swap_kept, covers_down_kept, kept_swap}
+use Rattle.perm_codes.specs.Limits.{IsShortPermutation, IsWithinLimits}
+use Rattle.perm_codes.proofs.Prefixes.{after_next}
+use Rattle.perm_codes.proofs.WithinLimits.{kept_fixed, length-with_fixed, short_fixed, short_swap}
+
+select-append : {A : Type 0} (test : A → Bool) (xs : List A) (x : A) → select test (xs ++ x ∷ []) ≡ select test xs ++ cond (test x) (x ∷ []) []
+select-append test [] x = refl
+select-append {A} test (y ∷ xs) x = by (test y) (select test (xs ++ x ∷ [])) (select test xs) (cond (test x) (x ∷ []) []) (select-append test xs x)
+  where
+    by : (t : Bool) (u v w : List A) → u ≡ v ++ w → cond t (y ∷ u) u ≡ cond t (y ∷ v) v ++ w
+    by true u v w e = ap (λ z. y ∷ z) e
+    by false u v w e = e
+
+map-push : {A B : Type 0} (f : A → B) (xs : List A) (x : A) → map f (xs ++ x ∷ []) ≡ map f xs ++ f x ∷ []
+map-push f [] x = refl
+map-push f (y ∷ xs) x = ap (λ z. f y ∷ z) (map-push f xs x)
+
+-- w·t_ij for places i < j of w, counted from 0
+pub swap_in : (w : List ℕ) (a b : ℕ) → a < b → b < length w → times_swap (a + 1) (b + 1) w ≡ kept (swap w a b)
+swap_in w a b h l =
+    ap₂ (λ i j. times_swap i j w) (add-one a) (add-one b) ∙ kept_swap w a b h l ∙ ap kept (sym (swap_is w a b (omega arith) l))
+
+-- the list of covers is one longer where the test says so
+pub one_more_place :
+    (w : List ℕ) (f : ℕ → List ℕ) (start n : ℕ) (t : Bool) → (inversions (f (start + n + 1)) == inversions w + 1) ≡ t
+    → covers_among w (map f (after start (n + 1))) ≡ covers_among w (map f (after start n)) ++ cond t (f (start + n + 1) ∷ []) []
+one_more_place w f start n t e =
+    ap (λ l. covers_among w (map f l)) (after_next start n)
+    ∙ ap (covers_among w) (map-push f (after start n) (start + n + 1))
+    ∙ select-append (λ (v : List ℕ). inversions v == inversions w + 1) (map f (after start n)) (f (start + n + 1))
+    ∙ ap (λ s. covers_among w (map f (after start n)) ++ cond s (f (start + n + 1) ∷ []) []) e
+
+-- the test at two places
+pub test_in :
+    (w : List ℕ) (a b : ℕ) → a < b → b < length w → IsShortPermutation w
+    → (inversions (times_swap (a + 1) (b + 1) w) == inversions w + 1) ≡ (inversions (swap w a b) == inversions w + 1)
+test_in w a b h l s =
+    ap (λ n. n == inversions w + 1)
+    (ap inversions (swap_in w a b h l) ∙ inversions_kept (swap w a b) (short_swap w a b (omega arith) l s).one_line)
+
+-- ---- fixed letters do not matter
+
+map_after : {B : Type 0} (f g : ℕ → B) (a k : ℕ) → ((j : ℕ) → a < j → f j ≡ g j) → map f (after a k) ≡ map g (after a k)
+map_after f g a zero h = refl
+map_after f g a (suc k) h = ap₂ ◌∷◌ (h (a + 1) (omega arith)) (map_after f g (a + 1) k (λ j l. h j (omega arith)))
+
+same_swap : (w : List ℕ) (n i j : ℕ) → IsWithinLimits w → 1 ≤ i → i < j → times_swap i j (with_fixed n w) ≡ times_swap i j w
+same_swap w n i j l h k = sym (times_swap_kept (with_fixed n w) i j h k) ∙ ap (times_swap i j) (kept_fixed n w l)
+
+same_inversions : (w : List ℕ) (n : ℕ) → n ≤ 255 → IsWithinLimits w → inversions (with_fixed n w) ≡ inversions w
+same_inversions w n h l = sym (inversions_kept (with_fixed n w) (short_fixed n w h l).one_line) ∙ ap inversions (kept_fixed n w l)
+
+pub covers_up_fixed :
+    (w : List ℕ) (r n : ℕ) → n ≤ 255 → IsWithinLimits w → 1 ≤ r → n ≡ max (length w) r + 1
+    → covers_among (with_fixed n w) (map (λ j. times_swap r j (with_fixed n w)) (after r (length (with_fixed n w) - r))) ≡ covers_up r w
+covers_up_fixed w r n h l p e =
+    let long : length (with_fixed n w) - r ≡ max (length w) r + 1 - r = omega (arith, length-with_fixed n w) in
+    ap (λ k. covers_among (with_fixed n w) (map (λ j. times_swap r j (with_fixed n w)) (after r k))) long
+    ∙ ap (covers_among (with_fixed n w)) (map_after (λ j. times_swap r j (with_fixed n w)) (λ j. times_swap r j w) r (max (length w) r + 1 - r) (λ j k. same_swap w n r j l p k))
+    ∙ ap (λ c. select (λ (v : List ℕ). inversions v == c + 1) (map (λ j. times_swap r j w) (after r (max (length w) r + 1 - r)))) (same_inversions w n h l)
+
+pub covers_down_fixed : (w : List ℕ) (r n : ℕ) → n ≤ 255 → IsWithinLimits w → covers_down r (with_fixed n w) ≡ covers_down r w
+covers_down_fixed w r n h l =
+    sym (covers_down_kept r (with_fixed n w) (short_fixed n w h l).one_line) ∙ ap (covers_down r) (kept_fixed n w l)
+
+-- ---- one place more
+
+-- the covers of w at place p with the other place from p + 1 on, up to q
+abbrev pub found_up_to : List ℕ → ℕ → ℕ → List (List ℕ)
+found_up_to w p q = covers_among w (map (λ j. times_swap (p + 1) j w) (after (p + 1) (q - (p + 1))))
+
+step_above :
+    (w : List ℕ) (p q : ℕ) (t : Bool) → p < q → q < length w → IsShortPermutation w
+    → (inversions (swap w p q) == inversions w + 1) ≡ t
+    → found_up_to w p (q + 1) ≡ found_up_to w p q ++ cond t (times_swap (p + 1) (q + 1) w ∷ []) []
+step_above w p q t h l s e =
+    let n : (p + 1) + (q - (p + 1)) + 1 ≡ q + 1 = omega arith in
+    let k : (q + 1) - (p + 1) ≡ (q - (p + 1)) + 1 = omega arith in
+    ap (λ m. covers_among w (map (λ j. times_swap (p + 1) j w) (after (p + 1) m))) k
+    ∙ one_more_place w (λ j. times_swap (p + 1) j w) (p + 1) (q - (p + 1)) t
+    (ap (λ m. inversions (times_swap (p + 1) m w) == inversions w + 1) n ∙ test_in w p q h l s ∙ e)
+    ∙ ap (λ m. found_up_to w p q ++ cond t (times_swap (p + 1) m w ∷ []) []) n
+
+pub found_above :
+    (w : List ℕ) (p q : ℕ) (list : List (List ℕ)) (v : List ℕ) → p < q → q < length w → IsShortPermutation w
+    → (inversions (swap w p q) == inversions w + 1) ≡ true → list ≡ found_up_to w p q → v ≡ kept (swap w p q)
+    → list ++ v ∷ [] ≡ found_up_to w p (q + 1)
+found_above w p q list v h l s t e f =
+    ap₂ (λ x y. x ++ y ∷ []) e (f ∙ sym (swap_in w p q h l)) ∙ sym (step_above w p q true h l s t)
+
+pub passed_above :
+    (w : List ℕ) (p q : ℕ) (list : List (List ℕ)) → p < q → q < length w → IsShortPermutation w
+    → (inversions (swap w p q) == inversions w + 1) ≡ false → list ≡ found_up_to w p q → list ≡ found_up_to w p (q + 1)
+passed_above w p q list h l s t e = e ∙ sym (append-nil (found_up_to w p q)) ∙ sym (step_above w p q false h l s t)
+
+-- the covers of w at place p with the other place up to q
+abbrev pub found_below_to : List ℕ → ℕ → ℕ → List (List ℕ)
+found_below_to w p q = covers_among w (map (λ i. times_swap i (p + 1) w) (after 0 q))
+
+step_below :
+    (w : List ℕ) (p q : ℕ) (t : Bool) → q < p → p < length w → IsShortPermutation w
+    → (inversions (swap w q p) == inversions w + 1) ≡ t
+    → found_below_to w p (q + 1) ≡ found_below_to w p q ++ cond t (times_swap (q + 1) (p + 1) w ∷ []) []
+step_below w p q t h l s e =
+    let n : 0 + q + 1 ≡ q + 1 = omega arith in
+    one_more_place w (λ i. times_swap i (p + 1) w) 0 q t
+    (ap (λ m. inversions (times_swap m (p + 1) w) == inversions w + 1) n ∙ test_in w q p h l s ∙ e)
+    ∙ ap (λ m. found_below_to w p q ++ cond t (times_swap m (p + 1) w ∷ []) []) n
+
+pub found_below :
+    (w : List ℕ) (p q : ℕ) (list : List (List ℕ)) (v : List ℕ) → q < p → p < length w → IsShortPermutation w
+    → (inversions (swap w q p) == inversions w + 1) ≡ true → list ≡ found_below_to w p q → v ≡ kept (swap w q p)
+    → list ++ v ∷ [] ≡ found_below_to w p (q + 1)
+found_below w p q list v h l s t e f =
+    ap₂ (λ x y. x ++ y ∷ []) e (f ∙ sym (swap_in w q p h l)) ∙ sym (step_below w p q true h l s t)
+
+pub passed_below :
+    (w : List ℕ) (p q : ℕ) (list : List (List ℕ)) → q < p → p < length w → IsShortPermutation w
+    → (inversions (swap w q p) == inversions w + 1) ≡ false → list ≡ found_below_to w p q → list ≡ found_below_to w p (q + 1)
+passed_below w p q list h l s t e = e ∙ sym (append-nil (found_below_to w p q)) ∙ sym (step_below w p q false h l s t)

@@ -1,0 +1,7 @@
+pub mod CoverSteps
+pub mod Descents
+pub mod LetterOrder
+pub mod WithinLimits
+pub mod NewLetters
+pub mod OneSwap
+pub mod Prefixes

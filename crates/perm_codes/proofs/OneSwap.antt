@@ -1,0 +1,156 @@
+-- How many inversions a list has after two of its letters changed places: where the first is the smaller, one more and
+-- two for each letter between them in place and in size; otherwise fewer.
+use Rattle.std.proofs.Common.{◌≡◌, ℕ, zero, suc, ◌+◌, ◌-◌, ◌*◌, ◌<◌, ◌≤◌, ◌&&◌, ◌||◌, ◌==◌, nat_lt, Bool, true, false, not, List, [], ◌∷◌, length, take, drop, get_or, set, refl, sym, ap, ap₂, ◌∙◌, subst, arith, cond, inl, inr, eq-eqb, add-one}
+use Rattle.std.specs.List.{swap, list_any}
+use Rattle.std.proofs.lemmas.Bool.{cases_lt, lt-ltb, ne_eqb}
+use Rattle.sym_model.specs.Sum.{Among, Once}
+use Rattle.sym_model.specs.PlaceOrders.{smaller, inversions}
+use Rattle.schubert_laws.proofs.Dominant.{counted, not_counted, not_less}
+use Rattle.schubert_laws.proofs.MonkFromOne.{swap_is}
+use Rattle.schubert_laws.proofs.Transition.{once_get}
+use Rattle.schubert_laws.proofs.Swaps.{swap_at, length-swap_at, smaller_swap, once_swap, swap_twice, get_swap_left, get_swap_right, default_free, among_get}
+
+-- whether a letter lies between two others
+abbrev pub lies_between : ℕ → ℕ → ℕ → Bool
+lies_between low high a = nat_lt low a && nat_lt a high
+
+-- how many of the first n letters do
+abbrev between : ℕ → ℕ → ℕ → List ℕ → ℕ
+between low high zero w = 0
+between low high (suc n) [] = 0
+between low high (suc n) (a ∷ w) = cond (lies_between low high a) 1 0 + between low high n w
+
+within_both : (low high a : ℕ) → low < a → a < high → cond {A = ℕ} (lies_between low high a) 1 0 ≡ 1
+within_both low high a h l = ap₂ (λ s t. cond {A = ℕ} (s && t) 1 0) (lt-ltb low a h) (lt-ltb a high l)
+
+below_both : (low high a : ℕ) → a ≤ low → cond {A = ℕ} (lies_between low high a) 1 0 ≡ 0
+below_both low high a h = ap (λ s. cond {A = ℕ} (s && nat_lt a high) 1 0) (not_less low a h)
+
+above_both : (low high a : ℕ) → low < a → high ≤ a → cond {A = ℕ} (lies_between low high a) 1 0 ≡ 0
+above_both low high a h l = ap₂ (λ s t. cond {A = ℕ} (s && t) 1 0) (lt-ltb low a h) (not_less a high l)
+
+-- what one letter behind the first counts for
+one_letter : (low high a : ℕ) → low < high → (low ≡ a → ⊥) → (a ≡ high → ⊥)
+    → cond {A = ℕ} (nat_lt a high) 1 0 + cond {A = ℕ} (nat_lt low a) 1 0
+    ≡ cond {A = ℕ} (nat_lt a low) 1 0 + cond {A = ℕ} (nat_lt high a) 1 0 + 2 * cond {A = ℕ} (lies_between low high a) 1 0
+one_letter low high a h n m = elim (cases_lt low a) [
+  | inl p ↦ elim (cases_lt a high) [
+    | inl q ↦
+        let x = counted a high q in
+        let y = counted low a p in
+        let z = not_counted a low (omega arith) in
+        let t = not_counted high a (omega arith) in
+        let b = within_both low high a p q in
+        omega arith
+    | inr q ↦
+        let x = not_counted a high q in
+        let y = counted low a p in
+        let z = not_counted a low (omega arith) in
+        let t = counted high a (omega (arith, m)) in
+        let b = above_both low high a p q in
+        omega arith
+  ]
+  | inr p ↦
+      let x = counted a high (omega arith) in
+      let y = not_counted low a p in
+      let z = counted a low (omega (arith, n)) in
+      let t = not_counted high a (omega arith) in
+      let b = below_both low high a p in
+      omega arith
+]
+
+-- the first letter of a list with one behind it
+first_swapped : (x b : ℕ) (w : List ℕ) → b < length w → Once (x ∷ w) → x < get_or w b x
+    → smaller (get_or w b x) (set w b x) + inversions (set w b x)
+    ≡ smaller x w + inversions w + 1 + 2 * between x (get_or w b x) b w
+first_swapped x b [] l o h = absurd (omega arith)
+first_swapped x zero (y ∷ w) l o h =
+    let p = counted x y h in
+    let q = not_counted y x (omega arith) in
+    omega arith
+first_swapped x (suc b) (z ∷ w) l o h =
+    let r = first_swapped x b w (omega arith) (λ m. o.0 (inr m), o.1.1) h in
+    let s = smaller_swap z zero (suc b) (x ∷ w) in
+    let n = one_letter x (get_or w b x) z h (λ e. o.0 (inl e)) (λ e. o.1.0 (subst (λ v. Among v w) (sym e) (among_get b x w (omega arith)))) in
+    omega arith
+
+-- two letters of a list, with n letters between them, the first the smaller
+swapped_rising : (a b n d : ℕ) (w : List ℕ) → b ≡ suc a + n → b < length w → Once w → get_or w a d < get_or w b d
+    → inversions (swap_at a b w) ≡ inversions w + 1 + 2 * between (get_or w a d) (get_or w b d) n (drop (suc a) w)
+swapped_rising a b n d [] e l o h = absurd (omega arith)
+swapped_rising a zero n d (x ∷ w) e l o h = absurd (omega arith)
+swapped_rising zero (suc b) n d (x ∷ w) e l o h =
+    let inside : b < length w = omega arith in
+    let g = default_free w b d x inside in
+    let m : b ≡ n = omega arith in
+    let r = first_swapped x b w inside o (subst (λ y. x < y) g h) in
+    let q = ap₂ (λ y k. between x y k w) (sym g) m in
+    omega arith
+swapped_rising (suc a) (suc b) n d (x ∷ w) e l o h =
+    let r = swapped_rising a b n d w (omega arith) (omega arith) o.1 h in
+    let s = smaller_swap x a b w in
+    omega arith
+
+-- the first the greater
+swapped_falling : (a b d : ℕ) (w : List ℕ) → a < b → b < length w → Once w → get_or w b d < get_or w a d
+    → inversions (swap_at a b w) < inversions w
+swapped_falling a b d w h l o f =
+    let inside : a < length w = omega arith in
+    let s = length-swap_at a b w in
+    let x = get_swap_left a b d w inside l in
+    let y = get_swap_right a b d w inside l in
+    let r = swapped_rising a b (b - suc a) d (swap_at a b w) (omega arith) (omega arith) (once_swap a b w inside l o) (omega arith) in
+    let t = ap inversions (swap_twice a b w inside l) in
+    omega arith
+
+-- ---- as tests
+
+none_step : (t s : Bool) (k : ℕ) → (t || s) ≡ false → (s ≡ false → k ≡ 0) → cond t 1 0 + k ≡ 0
+none_step true s k h r = cc
+none_step false s k h r = omega (arith, r h)
+
+none_between : (low high n : ℕ) (w : List ℕ) → list_any (lies_between low high) (take n w) ≡ false → between low high n w ≡ 0
+none_between low high zero w h = refl
+none_between low high (suc n) [] h = refl
+none_between low high (suc n) (a ∷ w) h =
+    none_step (lies_between low high a) (list_any (lies_between low high) (take n w)) (between low high n w) h (none_between low high n w)
+
+some_step : (t s : Bool) (k : ℕ) → (t || s) ≡ true → (s ≡ true → 0 < k) → 0 < cond t 1 0 + k
+some_step true s k h r = omega arith
+some_step false s k h r = omega (arith, r h)
+
+some_between : (low high n : ℕ) (w : List ℕ) → list_any (lies_between low high) (take n w) ≡ true → 0 < between low high n w
+some_between low high zero w h = cc
+some_between low high (suc n) [] h = cc
+some_between low high (suc n) (a ∷ w) h =
+    some_step (lies_between low high a) (list_any (lies_between low high) (take n w)) (between low high n w) h (some_between low high n w)
+
+-- the test on the letters between says whether there is one more inversion
+pub rising_test : (a b : ℕ) (w : List ℕ) → a < b → b < length w → Once w → get_or w a 0 < get_or w b 0
+    → not (list_any (lies_between (get_or w a 0) (get_or w b 0)) (take (b - (a + 1)) (drop (a + 1) w)))
+    ≡ (inversions (swap w a b) == inversions w + 1)
+rising_test a b w h l o f =
+    ap (λ k. not (list_any (lies_between (get_or w a 0) (get_or w b 0)) (take (b - k) (drop k w)))) (add-one a)
+    ∙ by (list_any (lies_between (get_or w a 0) (get_or w b 0)) (take (b - suc a) (drop (suc a) w))) refl
+  where
+    count : inversions (swap w a b) ≡ inversions w + 1 + 2 * between (get_or w a 0) (get_or w b 0) (b - suc a) (drop (suc a) w)
+    count = ap inversions (swap_is w a b (omega arith) l) ∙ swapped_rising a b (b - suc a) 0 w (omega arith) l o f
+
+    by : (t : Bool) → list_any (lies_between (get_or w a 0) (get_or w b 0)) (take (b - suc a) (drop (suc a) w)) ≡ t
+        → not t ≡ (inversions (swap w a b) == inversions w + 1)
+    by true e =
+        let s = some_between (get_or w a 0) (get_or w b 0) (b - suc a) (drop (suc a) w) e in
+        let c = count in
+        sym (ne_eqb (inversions (swap w a b)) (inversions w + 1) (λ q. omega arith))
+    by false e =
+        let s = none_between (get_or w a 0) (get_or w b 0) (b - suc a) (drop (suc a) w) e in
+        let c = count in
+        sym (eq-eqb (inversions (swap w a b)) (inversions w + 1) (omega arith))
+
+pub falling_test : (a b : ℕ) (w : List ℕ) → a < b → b < length w → Once w → get_or w b 0 ≤ get_or w a 0
+    → nat_lt (get_or w a 0) (get_or w b 0) ≡ (inversions (swap w a b) == inversions w + 1)
+falling_test a b w h l o f =
+    let d : get_or w a 0 ≡ get_or w b 0 → ⊥ = λ e. let q = once_get w a b o (omega arith) l e in omega arith in
+    let s = ap inversions (swap_is w a b (omega arith) l) in
+    let c = swapped_falling a b 0 w h l o (omega (arith, d)) in
+    not_less (get_or w a 0) (get_or w b 0) f ∙ sym (ne_eqb (inversions (swap w a b)) (inversions w + 1) (λ q. omega arith))

@@ -1,0 +1,76 @@
+-- Lists of letters read from the left: what is counted behind a place, and which fixed letters are dropped.
+use Rattle.std.proofs.Common.{◌≡◌, ℕ, zero, suc, ◌+◌, ◌-◌, ◌<◌, ◌≤◌, nat_lt, List, [], ◌∷◌, ◌++◌, length, take, drop, get_or, refl, sym, ap, ◌∙◌, arith, cond, true, false, inl, inr, Bool, add-one, length-take, count_by}
+use Rattle.std.proofs.Math.Seq.{drop-cons}
+use Rattle.std.proofs.lemmas.List.{take_more}
+use Rattle.std.proofs.lemmas.List.Recursion.{is_count_by}
+use Rattle.std.proofs.lemmas.Bool.{cases_eq, ne_eqb}
+use Rattle.sym_model.specs.Partition.{after}
+use Rattle.sym_model.specs.PlaceOrders.{smaller, inversions}
+use Rattle.sym_model.specs.Permutation.{code, kept, without_fixed_from, in_front_unless_fixed}
+use Rattle.schubert_laws.proofs.FixedTails.{after_more, kept_added}
+
+-- ---- counts
+
+one_more : (t : Bool) (n : ℕ) → cond t 1 0 + n ≡ cond t (1 + n) n
+one_more true n = refl
+one_more false n = omega arith
+
+pub smaller-count_by : (a : ℕ) (w : List ℕ) → smaller a w ≡ count_by (λ b. nat_lt b a) w
+smaller-count_by a w = is_count_by (smaller a) (λ b. nat_lt b a) refl (λ b v. one_more (nat_lt b a) (smaller a v)) w
+
+-- the letters from a place on: the letter there, and those behind it
+pub drop_here : (w : List ℕ) (i d : ℕ) → i < length w → drop i w ≡ get_or w i d ∷ drop (i + 1) w
+drop_here w i d h = drop-cons w i d h ∙ ap (λ n. get_or w i d ∷ drop n w) (sym (add-one i))
+
+pub inversions_from : (w : List ℕ) (i d : ℕ) → i < length w → inversions (drop i w) ≡ smaller (get_or w i d) (drop (i + 1) w) + inversions (drop (i + 1) w)
+inversions_from w i d h = ap inversions (drop_here w i d h)
+
+pub code_from : (w : List ℕ) (i d : ℕ) → i < length w → code (drop i w) ≡ smaller (get_or w i d) (drop (i + 1) w) ∷ code (drop (i + 1) w)
+code_from w i d h = ap code (drop_here w i d h)
+
+-- ---- fixed letters
+
+-- one more number after the first n
+pub after_next : (a n : ℕ) → after a (n + 1) ≡ after a n ++ (a + n + 1) ∷ []
+after_next a n = after_more a n 1
+
+stays_in_front : (i a b : ℕ) (v : List ℕ) → in_front_unless_fixed i a (v ++ b ∷ []) ≡ a ∷ (v ++ b ∷ [])
+stays_in_front i a b [] = refl
+stays_in_front i a b (c ∷ v) = refl
+
+unfixed_last : (i b : ℕ) (v : List ℕ) → (b ≡ i + length v → ⊥) → without_fixed_from i (v ++ b ∷ []) ≡ v ++ b ∷ []
+unfixed_last i b [] n = elim (cases_eq b i) [
+  | inl e ↦ absurd (n (omega arith))
+  | inr d ↦ ap (λ t. cond t [] (b ∷ [])) (ne_eqb b i d)
+]
+unfixed_last i b (c ∷ v) n =
+    ap (in_front_unless_fixed i c) (unfixed_last (i + 1) b v (λ e. n (omega arith))) ∙ stays_in_front i c b v
+
+kept_unfixed_last : (v : List ℕ) (b : ℕ) → (b ≡ length v + 1 → ⊥) → kept (v ++ b ∷ []) ≡ v ++ b ∷ []
+kept_unfixed_last [] b n = refl
+kept_unfixed_last (a ∷ v) b n = ap (λ u. a ∷ u) (unfixed_last 2 b v (λ e. n (omega arith)))
+
+last_of : (w : List ℕ) (n : ℕ) → 0 < n → n ≤ length w → take n w ≡ take (n - 1) w ++ get_or w (n - 1) 0 ∷ []
+last_of w n p l =
+    let e : n - 1 + 1 ≡ n = omega arith in
+    ap (λ m. take m w) (sym e) ∙ take_more w (n - 1) 0 (omega arith)
+
+-- the letter at place n is dropped where it is fixed and not the first, and stops the dropping where it is not
+pub kept_without : (w : List ℕ) (n : ℕ) → 1 < n → n ≤ length w → get_or w (n - 1) 0 ≡ n → kept (take (n - 1) w) ≡ kept (take n w)
+kept_without w n p l e =
+    let long : length (take (n - 1) w) ≡ n - 1 = omega (arith, length-take (n - 1) w) in
+    let fixed : get_or w (n - 1) 0 ≡ length (take (n - 1) w) + 1 = omega arith in
+    sym (ap kept (last_of w n (omega arith) l) ∙ ap (λ a. kept (take (n - 1) w ++ a ∷ [])) fixed
+    ∙ kept_added (take (n - 1) w) 1 (omega arith))
+
+pub kept_here : (w : List ℕ) (n : ℕ) → 1 < n → n ≤ length w → (get_or w (n - 1) 0 ≡ n → ⊥) → kept (take n w) ≡ take n w
+kept_here w n p l d =
+    let long : length (take (n - 1) w) ≡ n - 1 = omega (arith, length-take (n - 1) w) in
+    ap kept (last_of w n (omega arith) l) ∙ kept_unfixed_last (take (n - 1) w) (get_or w (n - 1) 0) (λ e. d (omega arith))
+    ∙ sym (last_of w n (omega arith) l)
+
+pub kept_first : (w : List ℕ) (n : ℕ) → n ≤ 1 → kept (take n w) ≡ take n w
+kept_first w zero h = refl
+kept_first [] (suc n) h = refl
+kept_first (a ∷ w) (suc zero) h = refl
+kept_first (a ∷ w) (suc (suc n)) h = absurd (omega arith)

@@ -1,0 +1,22 @@
+use Rattle.std.proofs.Common.{sym, ap, ◌∙◌, arith}
+use Rattle.std.specs.List.{swap}
+use Rattle.sym_model.specs.Permutation.{kept}
+use Rattle.perm_codes.proofs.CoverSteps.{found_above, passed_above}
+use Rattle.perm_codes.proofs.covers.covers_above.Goals as goal
+use Rattle.perm_codes.proofs.covers.covers_above.Goals.{then-makes_one_inversion+in_ok-from_slice+in_ok-push, else-makes_one_inversion}
+
+pub loop-other-preserved : goal.loop-other-preserved
+loop-other-preserved c =
+    let w = c.args.letters.now in
+    let order = c.loop-other.auto.other in
+    elim c.if-makes_one_inversion.branch [
+      | then-makes_one_inversion+in_ok-from_slice+in_ok-push s ↦
+          ap (λ (v : _). v.items) s.covers-is ∙ s.in_ok-push.ensures.items
+          ∙ found_above w c.args.place c.loop-other.other c.loop-other.covers.items s.exchanged.result (omega arith) c.loop-other-test.true c.requires.permutation
+          (sym c.makes_one_inversion.ensures ∙ s.if-makes_one_inversion.true) c.loop-other.invariant
+          (s.exchanged.ensures ∙ ap (λ v. kept (swap v c.args.place c.loop-other.other)) s.in_ok-from_slice.ensures.ok)
+      | else-makes_one_inversion s ↦
+          ap (λ (v : _). v.items) s.covers-is
+          ∙ passed_above w c.args.place c.loop-other.other c.loop-other.covers.items (omega arith) c.loop-other-test.true c.requires.permutation
+          (sym c.makes_one_inversion.ensures ∙ s.if-makes_one_inversion.false) c.loop-other.invariant
+    ]

@@ -1,0 +1,21 @@
+use Rattle.std.proofs.Common.{sym, ap, ◌∙◌}
+use Rattle.std.specs.List.{swap}
+use Rattle.sym_model.specs.Permutation.{kept}
+use Rattle.perm_codes.proofs.CoverSteps.{found_below, passed_below}
+use Rattle.perm_codes.proofs.covers.covers_below.Goals as goal
+use Rattle.perm_codes.proofs.covers.covers_below.Goals.{then-makes_one_inversion+in_ok-from_slice+in_ok-push, else-makes_one_inversion}
+
+pub loop-other-preserved : goal.loop-other-preserved
+loop-other-preserved c =
+    let w = c.args.letters.now in
+    elim c.if-makes_one_inversion.branch [
+      | then-makes_one_inversion+in_ok-from_slice+in_ok-push s ↦
+          ap (λ (v : _). v.items) s.covers-is ∙ s.in_ok-push.ensures.items
+          ∙ found_below w c.args.place c.loop-other.other c.loop-other.covers.items s.exchanged.result c.loop-other-test.true c.requires.inside c.requires.permutation
+          (sym c.makes_one_inversion.ensures ∙ s.if-makes_one_inversion.true) c.loop-other.invariant
+          (s.exchanged.ensures ∙ ap (λ v. kept (swap v c.loop-other.other c.args.place)) s.in_ok-from_slice.ensures.ok)
+      | else-makes_one_inversion s ↦
+          ap (λ (v : _). v.items) s.covers-is
+          ∙ passed_below w c.args.place c.loop-other.other c.loop-other.covers.items c.loop-other-test.true c.requires.inside c.requires.permutation
+          (sym c.makes_one_inversion.ensures ∙ s.if-makes_one_inversion.false) c.loop-other.invariant
+    ]

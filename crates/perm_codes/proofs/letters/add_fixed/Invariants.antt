@@ -1,0 +1,9 @@
+-- The fixed letters up to this place are added.
+use Rattle.std.proofs.Common.{◌≡◌, ◌-◌, ◌≤◌, ◌++◌, length}
+use Rattle.sym_model.specs.Partition.{after}
+use Rattle.perm_codes.proofs.letters.add_fixed.Given as goal
+
+abbrev pub invariant-loop-at : goal.invariant-loop-at
+invariant-loop-at l =
+    (l.at - length l.letters ≤ l.last - length l.letters)
+    × (l.list.items ≡ l.letters ++ after (length l.letters) (l.at - length l.letters))

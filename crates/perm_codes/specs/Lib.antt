@@ -1,0 +1,2 @@
+pub mod CoverLists
+pub mod Limits

@@ -1,0 +1,96 @@
+//! The covers of a permutation at a place.
+ghost use Rattle.std.specs.Prelude.{◌≡◌, ◌+◌, ◌-◌, ◌<◌, length, map, IfOk};
+ghost use Rattle.sym_model.specs.Partition.{after};
+ghost use Rattle.sym_model.specs.Permutation.{covers_among, times_swap};
+ghost use Rattle.perm_codes.specs.CoverLists.{CoverLists};
+ghost use Rattle.perm_codes.specs.Limits.{IsShortPermutation};
+
+use crate::letters::makes_one_inversion;
+use crate::perm::Perm;
+use calc_base::NoMemory;
+use smallvec::SmallVec;
+use std::alloc::Global;
+use std::marker::Model;
+
+/// The covers of a permutation at a place: what comes of it where the letter there changes places with another and
+/// exactly one more inversion is made.
+#[derive(Drop)]
+pub struct Covers {
+    up: Vec<Perm>,
+    down: Vec<Perm>,
+}
+
+impl Model for Covers {
+    ghost use Rattle.perm_codes.specs.CoverLists.{CoverLists};
+
+    ghost Value = { CoverLists };
+
+    ghost view = { λ c. record { up = c.up.items; down = c.down.items } };
+}
+
+impl Covers {
+    /// The covers with the other place greater, which rises.
+    pub fn up(&self) -> &[Perm]
+        ensures { result.now ≡ self.now.up }
+    {
+        self.up.as_slice()
+    }
+
+    /// The covers with the other place smaller, which rises.
+    pub fn down(&self) -> &[Perm]
+        ensures { result.now ≡ self.now.down }
+    {
+        self.down.as_slice()
+    }
+
+    /// The covers at a place, counted from 0, of the permutation with these letters, the other places being theirs.
+    pub(crate) fn of_letters(
+        alloc: Global,
+        letters: &[u8],
+        place: usize,
+    ) -> Result<Covers, NoMemory>
+        requires permutation { IsShortPermutation letters.now }
+        requires inside { place < length letters.now }
+        ensures up { IfOk result (λ c. c.up ≡ covers_among letters.now (map
+            (λ j. times_swap (place + 1) j letters.now) (after (place + 1) (length letters.now - (place + 1))))) }
+        ensures down { IfOk result (λ c. c.down ≡ covers_among letters.now (map
+            (λ i. times_swap i (place + 1) letters.now) (after 0 place))) }
+    {
+        Ok(Covers {
+            up: covers_above(alloc, letters, place)?,
+            down: covers_below(alloc, letters, place)?,
+        })
+    }
+}
+
+/// The covers where the letter at a place, counted from 0, changes places with one further right.
+fn covers_above(alloc: Global, letters: &[u8], place: usize) -> Result<Vec<Perm>, NoMemory>
+    requires permutation { IsShortPermutation letters.now }
+    requires inside { place < length letters.now }
+    ensures { IfOk result (λ list. list.items ≡ covers_among letters.now (map
+        (λ j. times_swap (place + 1) j letters.now) (after (place + 1) (length letters.now - (place + 1))))) }
+{
+    let mut covers = Vec::new(alloc);
+    for other in place + 1..letters.len() {
+        if makes_one_inversion(letters, place, other) {
+            covers.push(Perm::exchanged(SmallVec::from_slice(alloc, letters)?, place, other))?;
+        }
+    }
+    Ok(covers)
+}
+
+/// The covers where the letter at a place, counted from 0, changes places with one further left.
+fn covers_below(alloc: Global, letters: &[u8], place: usize) -> Result<Vec<Perm>, NoMemory>
+    requires permutation { IsShortPermutation letters.now }
+    requires inside { place < length letters.now }
+    ensures { IfOk result (λ list. list.items ≡ covers_among letters.now (map
+        (λ i. times_swap i (place + 1) letters.now) (after 0 place))) }
+{
+    let mut covers = Vec::new(alloc);
+    for other in 0..place {
+        if makes_one_inversion(letters, other, place) {
+            covers.push(Perm::exchanged(SmallVec::from_slice(alloc, letters)?, other, place))?;
+        }
+    }
+    Ok(covers)
+}

@@ -1,0 +1,37 @@
+//! Why a list of numbers is not taken as the letters of a permutation, or as its code.
+ghost use Rattle.std.specs.Prelude.{◌≡◌};
+ghost use Rattle.perm_codes.specs.declared.fault.PermFault.TheVariants.{NoMemory as no_memory};
+
+use calc_base::NoMemory;
+use std::alloc::AllocError;
+use thiserror::Error;
+
+/// Why a list of numbers is not taken as the letters of a permutation, or as its code.
+#[derive(Clone, Copy, Debug, PartialEq, Eq, Hash, Error)]
+pub enum PermFault {
+    #[error("no letter")]
+    Empty,
+    #[error("more than 255 letters")]
+    TooMany,
+    /// The number at the place `at`, counted from 0, can't stand there.
+    #[error("the number at place {at} can't stand there")]
+    Letter { at: usize },
+    #[error("out of memory")]
+    NoMemory,
+}
+
+impl From<AllocError> for PermFault {
+    ghost from_gives = { λ _ e. e ≡ no_memory };
+
+    fn from(_: AllocError) -> Self {
+        PermFault::NoMemory
+    }
+}
+
+impl From<NoMemory> for PermFault {
+    ghost from_gives = { λ _ e. e ≡ no_memory };
+
+    fn from(_: NoMemory) -> Self {
+        PermFault::NoMemory
+    }
+}

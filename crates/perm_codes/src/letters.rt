@@ -1,0 +1,155 @@
+// Lists of letters: what is read off them, and how they are made.
+ghost use Rattle.std.specs.Prelude.{◌≡◌, ℕ, ◌+◌, ◌<◌, ◌≤◌, ◌==◌, ◌&&◌, nat_lt, length, take, swap, IsOk, IfOk, MatchOption};
+ghost use Rattle.std.specs.List.{list_any};
+ghost use Rattle.sym_model.specs.Sum.{Once};
+ghost use Rattle.sym_model.specs.PlaceOrders.{smaller, inversions, places};
+ghost use Rattle.sym_model.specs.Permutation.{IsOneLine, IsCode, kept, last_descent, letters_by_code, with_fixed};
+ghost use Rattle.perm_codes.specs.Limits.{ExceedsFirstAt, IsShortPermutation, OffendsFirstAt};
+
+use smallvec::SmallVec;
+use std::alloc::{AllocError, Global};
+
+/// The letters of a permutation. Up to 16 are kept with no memory taken.
+pub(crate) type Letters = SmallVec<u8, 16>;
+
+/// The first place, counted from 0, whose letter is 0, is greater than the number of letters or occurs earlier.
+pub(crate) fn first_offence(letters: &[u16]) -> Option<usize>
+    ensures { MatchOption result (IsOneLine letters.now) (OffendsFirstAt letters.now) }
+{
+    for (at, letter) in letters.iter().enumerate() {
+        if *letter == 0 || usize::from(*letter) > letters.len() || letters[..at].contains(letter) {
+            return Some(at);
+        }
+    }
+    None
+}
+
+/// The first place, counted from 0, whose entry is greater than the number of entries after it.
+pub(crate) fn first_excess(code: &[u16]) -> Option<usize>
+    requires { length code.now ≤ 255 }
+    ensures { MatchOption result (IsCode code.now) (ExceedsFirstAt code.now) }
+{
+    for (at, entry) in code.iter().enumerate() {
+        if usize::from(*entry) + at + 1 > code.len() {
+            return Some(at);
+        }
+    }
+    None
+}
+
+/// How many letters are smaller than `bound`.
+pub(crate) fn count_smaller(bound: u8, letters: &[u8]) -> u16
+    requires { length letters.now ≤ 255 }
+    ensures count { result ≡ smaller bound letters.now }
+    ensures most { result ≤ length letters.now }
+{
+    letters.iter().filter(|letter| **letter < bound).count() as u16
+}
+
+/// The number of inversions.
+pub(crate) fn count_inversions(letters: &[u8]) -> u16
+    requires { length letters.now ≤ 255 }
+    ensures { result ≡ inversions letters.now }
+{
+    let mut count: u16 = 0;
+    for (i, letter) in letters.iter().enumerate() {
+        count += count_smaller(*letter, &letters[i + 1..]);
+    }
+    count
+}
+
+/// The last descent.
+pub(crate) fn find_last_descent(letters: &[u8]) -> Option<u16>
+    requires some { 0 < length letters.now }
+    requires few { length letters.now ≤ 255 }
+    ensures { result ≡ last_descent letters.now }
+{
+    let mut i = letters.len() - 1;
+    while i > 0 {
+        if letters[i - 1] > letters[i] {
+            return Some(i as u16);
+        }
+        i -= 1;
+    }
+    None
+}
+
+/// How many letters stand before the fixed ones at the end; the first letter is always one of them.
+pub(crate) fn count_kept(letters: &[u8]) -> usize
+    ensures { take result letters.now ≡ kept letters.now }
+{
+    let mut len = letters.len();
+    while len > 1 && usize::from(letters[len - 1]) == len {
+        len -= 1;
+    }
+    len
+}
+
+/// Whether the letters at two places, counted from 0, in each other's place make one more inversion: the first is the
+/// smaller, and no letter between them is greater than the one and smaller than the other.
+pub(crate) fn makes_one_inversion(letters: &[u8], first: usize, second: usize) -> bool
+    requires order { first < second }
+    requires inside { second < length letters.now }
+    requires once { Once letters.now }
+    ensures { result ≡ (inversions (swap letters.now first second) == inversions letters.now + 1) }
+{
+    let low = letters[first];
+    let high = letters[second];
+    low < high && !has_between(&letters[first + 1..second], low, high)
+}
+
+/// Whether some letter is greater than the one number and smaller than the other.
+fn has_between(letters: &[u8], low: u8, high: u8) -> bool
+    ensures { result ≡ list_any (λ letter. nat_lt low letter && nat_lt letter high) letters.now }
+{
+    letters.iter().any(|letter| low < *letter && *letter < high)
+}
+
+/// The letters of a permutation, each in a byte.
+pub(crate) fn narrow(alloc: Global, letters: &[u16]) -> Result<Letters, AllocError>
+    requires { IsShortPermutation letters.now }
+    ensures ok { IfOk result (λ list. list.items ≡ letters.now) }
+    ensures inline { length letters.now ≤ 16 → IsOk result }
+{
+    let mut list = SmallVec::new(alloc);
+    list.reserve(letters.len())?;
+    for letter in letters {
+        list.push_reserved(*letter as u8);
+    }
+    Ok(list)
+}
+
+/// The letters with fixed ones added up to the place `last`.
+pub(crate) fn add_fixed(alloc: Global, letters: &[u8], last: usize) -> Result<Letters, AllocError>
+    requires { last ≤ 255 }
+    ensures { IfOk result (λ list. list.items ≡ with_fixed last letters.now) }
+{
+    let mut list = SmallVec::from_slice(alloc, letters)?;
+    for at in letters.len()..last {
+        list.push(at as u8 + 1)?;
+    }
+    Ok(list)
+}
+
+/// The letters that a code chooses: for each entry, of those that are left the one with so many smaller ones.
+pub(crate) fn choose(alloc: Global, code: &[u16]) -> Result<Letters, AllocError>
+    requires few { length code.now ≤ 255 }
+    requires code { IsCode code.now }
+    ensures { IfOk result (λ list. list.items ≡ letters_by_code code.now (places (length code.now))) }
+{
+    let mut left = add_fixed(alloc, &[], code.len())?;
+    let mut list = SmallVec::new(alloc);
+    for entry in code {
+        list.push(left.remove(usize::from(*entry)))?;
+    }
+    Ok(list)
+}
+
+/// Puts the letters at two places, counted from 0, in each other's place.
+pub(crate) fn exchange(letters: &mut Letters, first: usize, second: usize)
+    requires first { first < length letters.old.items }
+    requires second { second < length letters.old.items }
+    ensures { letters.new.items ≡ swap letters.old.items first second }
+{
+    letters.as_mut_slice().swap(first, second);
+}

@@ -1,0 +1,267 @@
+//! The type of a permutation.
+ghost use Rattle.std.specs.Prelude.{◌≡◌, ℕ, ◌+◌, ◌<◌, ◌≤◌, ◌↔◌, length, nat_eq, swap, IsOk, IfOk, OnOk, IsErrOf};
+ghost use Rattle.std.specs.Cmp.{partial_equiv_from_equiv};
+ghost use Rattle.std.specs.Cmp.Lexicographic.{pointwise, nat_list_eq_equiv};
+ghost use Rattle.std.specs.Cmp.Rules.{hashing};
+ghost use Rattle.std.specs.Hash as fed;
+ghost use Rattle.std.proofs.Common.{rules};
+ghost use Rattle.sym_model.specs.PlaceOrders.{inversions};
+ghost use Rattle.sym_model.specs.Permutation.{IsCode, IsOneLine, code, covers_down, covers_up, from_code, kept, last_descent, letter, times_swap};
+ghost use Rattle.sym_model.specs.PrintedOrder.{permutation_order};
+ghost use Rattle.perm_codes.specs.Limits.{ExceedsFirstAt, HasInversions, IsShortPermutation, IsWithinLimits, OffendsFirstAt};
+
+use crate::covers::Covers;
+use crate::letters::{
+    Letters, add_fixed, choose, count_inversions, count_kept, count_smaller, exchange,
+    find_last_descent, first_excess, first_offence, narrow,
+};
+use crate::{PermFault, Word};
+use calc_base::NoMemory;
+use smallvec::SmallVec;
+use std::alloc::Global;
+use std::cmp::Ordering;
+use std::hash::{Hash, Hasher};
+use std::marker::Model;
+
+/// The most letters of a permutation.
+const MAX_LETTERS: usize = 255;
+
+/// A permutation in one-line form, of 1 to 255 letters, without fixed letters at its end; the identity keeps the
+/// letter 1. Up to 16 letters are kept with no memory taken.
+#[derive(Debug, Drop)]
+pub struct Perm {
+    letters: Letters,
+    inversions: u16,
+}
+
+impl Model for Perm {
+    ghost use Rattle.std.specs.Prelude.{ℕ, List};
+    ghost use Rattle.perm_codes.specs.Limits.{HasInversions};
+
+    ghost Value = { List ℕ };
+
+    ghost view = { λ p. p.letters.items };
+
+    ghost invariant = { λ p. HasInversions p.letters.items p.inversions };
+}
+
+impl Perm {
+    /// The permutation with these letters, where fixed letters at the end are dropped.
+    ///
+    /// It is refused as `Empty` where there is no letter, as `TooMany` where there are more than 255, else as `Letter`
+    /// at the first place, counted from 0, whose letter is 0, is greater than the number of letters or occurs earlier.
+    /// At most 16 letters take no memory.
+    pub fn from_letters(alloc: Global, letters: &[u16]) -> Result<Perm, PermFault>
+        ensures ok { IfOk result (λ w. w ≡ kept letters.now) }
+        ensures limits { OnOk result (IsShortPermutation letters.now) }
+        ensures empty { IsErrOf result PermFault.Empty ↔ (length letters.now ≡ 0) }
+        ensures too_many { IsErrOf result PermFault.TooMany ↔ (255 < length letters.now) }
+        ensures letter { (at : ℕ) → IsErrOf result (PermFault.Letter at)
+            ↔ ((length letters.now ≤ 255) × OffendsFirstAt letters.now at) }
+        ensures inline { length letters.now ≤ 16 → ¬ IsErrOf result PermFault.NoMemory }
+    {
+        if letters.is_empty() {
+            return Err(PermFault::Empty);
+        }
+        if letters.len() > MAX_LETTERS {
+            return Err(PermFault::TooMany);
+        }
+        if let Some(at) = first_offence(letters) {
+            return Err(PermFault::Letter { at });
+        }
+        Ok(Perm::from_valid_letters(alloc, letters)?)
+    }
+
+    /// The permutation with these letters, of which the caller knows that they are one. At most 16 letters take no
+    /// memory.
+    pub fn from_valid_letters(alloc: Global, letters: &[u16]) -> Result<Perm, NoMemory>
+        requires { IsShortPermutation letters.now }
+        ensures ok { IfOk result (λ w. w ≡ kept letters.now) }
+        ensures inline { length letters.now ≤ 16 → IsOk result }
+    {
+        Ok(Perm::trimmed(narrow(alloc, letters)?))
+    }
+
+    /// The permutation whose code, followed by zeros up to the length of this list, is this list.
+    ///
+    /// It is refused as `Empty` and `TooMany` where `from_letters` is, else as `Letter` at the first place, counted
+    /// from 0, whose entry is greater than the number of entries after it.
+    pub fn from_code(alloc: Global, code: &[u16]) -> Result<Perm, PermFault>
+        ensures ok { IfOk result (λ w. w ≡ from_code code.now) }
+        ensures is_code { OnOk result (IsCode code.now) }
+        ensures empty { IsErrOf result PermFault.Empty ↔ (length code.now ≡ 0) }
+        ensures too_many { IsErrOf result PermFault.TooMany ↔ (255 < length code.now) }
+        ensures letter { (at : ℕ) → IsErrOf result (PermFault.Letter at)
+            ↔ ((length code.now ≤ 255) × ExceedsFirstAt code.now at) }
+    {
+        if code.is_empty() {
+            return Err(PermFault::Empty);
+        }
+        if code.len() > MAX_LETTERS {
+            return Err(PermFault::TooMany);
+        }
+        if let Some(at) = first_excess(code) {
+            return Err(PermFault::Letter { at });
+        }
+        Ok(Perm::trimmed(choose(alloc, code)?))
+    }
+
+    /// The letters.
+    pub fn letters(&self) -> &[u8]
+        ensures value { result.now ≡ self.now }
+        ensures limits { IsWithinLimits self.now }
+    {
+        self.letters.as_slice()
+    }
+
+    /// The number of letters.
+    pub fn len(&self) -> u16
+        ensures value { result ≡ length self.now }
+        ensures limits { IsWithinLimits self.now }
+    {
+        self.letters().len() as u16
+    }
+
+    /// The letter at place `i`, counted from 1; past the end the letters are fixed.
+    pub fn letter(&self, i: u16) -> u16
+        requires { 1 ≤ i }
+        ensures value { result ≡ letter self.now i }
+        ensures limits { IsWithinLimits self.now }
+    {
+        match self.letters().get(usize::from(i) - 1) {
+            Some(letter) => u16::from(*letter),
+            None => i,
+        }
+    }
+
+    /// The number of inversions.
+    pub fn inversions(&self) -> u16
+        ensures value { result ≡ inversions self.now }
+        ensures limits { IsWithinLimits self.now }
+    {
+        self.inversions
+    }
+
+    /// The last place whose letter is greater than the next. None exactly for the identity.
+    pub fn last_descent(&self) -> Option<u16>
+        ensures value { result ≡ last_descent self.now }
+        ensures limits { IsWithinLimits self.now }
+    {
+        find_last_descent(self.letters())
+    }
+
+    /// How this permutation and `other` stand in print: fewer inversions first, then rising lexicographic order of the
+    /// letters. `Equal` only for equal permutations.
+    pub fn cmp_printed(&self, other: &Perm) -> Ordering
+        ensures value { result ≡ permutation_order self.now other.now }
+        ensures equal { result ≡ Ordering.Equal → self.now ≡ other.now }
+        ensures limits { IsWithinLimits self.now }
+    {
+        self.inversions()
+            .cmp(&other.inversions())
+            .then(self.letters().cmp(&other.letters()))
+    }
+
+    /// An equal permutation. At most 16 letters take no memory.
+    pub fn copy(&self) -> Result<Perm, NoMemory>
+        ensures ok { IfOk result (λ copy. copy ≡ self.now) }
+        ensures inline { length self.now ≤ 16 → IsOk result }
+    {
+        Ok(Perm {
+            letters: SmallVec::from_slice(*self.letters.allocator(), self.letters.as_slice())?,
+            inversions: self.inversions,
+        })
+    }
+
+    /// The code: for each place the number of smaller letters to the right.
+    pub fn code(&self) -> Result<Word, NoMemory>
+        ensures { IfOk result (λ word. word ≡ code self.now) }
+    {
+        let letters = self.letters();
+        let mut code = [0u16; MAX_LETTERS];
+        for (i, letter) in letters.iter().enumerate() {
+            code[i] = count_smaller(*letter, &letters[i + 1..]);
+        }
+        Word::from_slice(*self.letters.allocator(), &code[..letters.len()])
+    }
+
+    /// The permutation with the letters at the places `i` and `j`, counted from 1, in each other's place.
+    pub fn times_swap(&self, i: u16, j: u16) -> Result<Perm, NoMemory>
+        requires first { 1 ≤ i }
+        requires order { i < j }
+        requires second { j ≤ 255 }
+        ensures { IfOk result (λ w. w ≡ times_swap i j self.now) }
+    {
+        let letters = add_fixed(*self.letters.allocator(), self.letters(), usize::from(j))?;
+        Ok(Perm::exchanged(letters, usize::from(i) - 1, usize::from(j) - 1))
+    }
+
+    /// The permutations with exactly one more inversion that come of this one where the letter at place `r`, counted
+    /// from 1, changes places with another.
+    pub fn covers_at(&self, r: u16) -> Result<Covers, NoMemory>
+        requires place { 1 ≤ r }
+        requires last { r ≤ 254 }
+        requires letters { length self.now ≤ 254 }
+        ensures up { IfOk result (λ covers. covers.up ≡ covers_up r self.now) }
+        ensures down { IfOk result (λ covers. covers.down ≡ covers_down r self.now) }
+    {
+        let last = self.len().max(r) + 1;
+        let letters = add_fixed(*self.letters.allocator(), self.letters(), usize::from(last))?;
+        Covers::of_letters(
+            *self.letters.allocator(),
+            letters.as_slice(),
+            usize::from(r) - 1,
+        )
+    }
+
+    /// The permutation with these letters, but for the fixed ones at the end.
+    fn trimmed(letters: Letters) -> Perm
+        requires { IsShortPermutation letters.items }
+        ensures { result ≡ kept letters.items }
+    {
+        let mut letters = letters;
+        let len = count_kept(letters.as_slice());
+        letters.truncate(len);
+        let inversions = count_inversions(letters.as_slice());
+        Perm {
+            letters,
+            inversions,
+        }
+    }
+
+    /// The permutation with these letters, those at two places, counted from 0, in each other's place.
+    pub(crate) fn exchanged(letters: Letters, first: usize, second: usize) -> Perm
+        requires permutation { IsShortPermutation letters.items }
+        requires first { first < length letters.items }
+        requires second { second < length letters.items }
+        ensures { result ≡ kept (swap letters.items first second) }
+    {
+        let mut letters = letters;
+        exchange(&mut letters, first, second);
+        Perm::trimmed(letters)
+    }
+}
+
+impl PartialEq for Perm {
+    ghost eq = { pointwise nat_eq };
+
+    ghost laws = { partial_equiv_from_equiv nat_list_eq_equiv };
+
+    fn eq(&self, other: &Perm) -> bool {
+        self.letters() == other.letters()
+    }
+}
+
+impl Eq for Perm {
+    ghost laws = { nat_list_eq_equiv };
+}
+
+impl Hash for Perm {
+    ghost hash_input = { fed.slice fed.u8 };
+
+    ghost respects_eq = { Prim.search (hashing, rules) };
+
+    fn hash<H: Hasher>(&self, state: &mut H) {
+        self.letters().hash(state);
+    }
+}
