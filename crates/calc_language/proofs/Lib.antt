@@ -1,11 +1,2 @@
-pub mod TreeFacts
-pub mod WeightFacts
-pub mod GrowthFacts
-pub mod FirstOffences
-pub mod ScanFacts
-pub mod ScanRuns
-pub mod BuildFacts
-pub mod BuildRuns
-pub mod JudgeFacts
 pub mod WordsFacts
 pub mod ReadingFacts

@@ -1,183 +1,193 @@
 -- Where words go wrong, word by word, and what they are otherwise.
-use Rattle.std.proofs.Common.{◌≡◌, ℕ, zero, suc, ◌<◌, ◌≤◌, List, [], ◌∷◌, ◌++◌, length, take, map, refl, sym, ap, ◌∙◌, subst, arith, Option, None, Result, Ok, Err, inl, inr}
+use Rattle.std.proofs.Common.{◌≡◌, ℕ, ◌<◌, ◌==◌, nat_lt, Bool, true, false, ◌&&◌, ◌||◌, cond, List, [], ◌∷◌, ◌++◌, length, map, refl, sym, ap, ◌∙◌, subst, arith, Option, Some, None, option_map, Ok, Err, inl, inr, eq-eqb}
 use Rattle.std.specs.Prelude.{codes}
-use Rattle.std.proofs.lemmas.List.{append-nil}
-use Rattle.sym_model.specs.Expansion.{Basis, monomials, elementaries, completes, power_sums, schurs}
-use Rattle.sym_model.specs.Expression.{Tree, number}
-use Rattle.sym_model.specs.Words.{Phrase, numeral, SpellsPhrase, SpellsTree, tree, letter, IsTarget, Command as PlainCommand, expand, SpellsCommand}
-use Rattle.sym_model.specs.Offence.{Offence, offences, first_of, BeginsExpression, BeginsCommand, IsLongestPrefix, AwaitsExpression, IsSyntaxPlace, HasFirstOffence}
+use Rattle.std.proofs.lemmas.Bool.Decides.{nat_tests}
+use Rattle.sym_model.specs.Polynomial.{same}
+use Rattle.sym_model.proofs.Exponents.{same_true}
+use Rattle.sym_model.specs.Expansion.{monomials}
+use Rattle.sym_model.specs.Phrase.{Phrase, SpellsPhrase}
+use Rattle.sym_model.specs.ExpressionOffence.{WordOffence, comes_first, earlier, first_of, offences}
+use Rattle.sym_model.specs.Form.{Form, SomeOf, Has, empty, sequence, word, target, formula}
+use Rattle.sym_model.specs.Command.{expand}
+use Rattle.sym_model.specs.CommandOffence.{Offence, is_no_later, earlier_of, first_offence}
+use Rattle.sym_model.specs.Entry.{Entry, HasFirstOffence}
+use Rattle.sym_model.specs.Grammar.{expand_entry}
+use Rattle.calc_language.specs.BuiltCommands.{built_targets, command_entries}
+use Rattle.sym_model.specs.SyntaxPlace.{IsSyntaxPlace}
+use Rattle.word_laws.specs.Reading.{is_expression, forms_of}
+use Rattle.word_laws.proofs.LongestPrefixes.{CanBe}
+use Rattle.word_laws.proofs.ExpressionWords.{tells_expressions}
+use Rattle.word_laws.proofs.Stands.{Stands, stands_next, wrong_word, wrong_expression, ends_early}
+use Rattle.calc_base.specs.declared.words.Basis.TheVariants.{M}
 use Rattle.calc_base.specs.declared.words.WordsFault.{WordsFault}
-use Rattle.calc_base.specs.declared.words.WordsFault.TheVariants.{Syntax, Literal, Range, Shape, NoMemory}
-use Rattle.calc_language.specs.declared.words.Command.{Command}
-use Rattle.calc_language.specs.Reading.{command_of, IsRead, IsJudged}
+use Rattle.calc_base.specs.declared.words.WordsFault.TheVariants.{Syntax}
+use Rattle.calc_expressions.specs.declared.formula.Formula.{Formula}
+use Rattle.calc_expressions.specs.declared.reading.ExpressionFault.{ExpressionFault}
+use Rattle.calc_expressions.specs.declared.reading.ExpressionFault.TheVariants.{Syntax as Wrong, Literal as Wide, Range as Past, Shape as Misshapen, NoMemory as Full}
+use Rattle.calc_expressions.specs.Reading.{IsRead as IsReadAs, IsExpression, IsWrongByte}
+use Rattle.calc_language.specs.declared.words.Command.TheVariants.{Expand}
+use Rattle.calc_language.specs.Reading.{placed, IsRead}
 
 abbrev Words : Type 0
 Words = List (List ℕ)
 
-letter-target : (t : Basis) → IsTarget t → letter t ≡ codes "m"
-letter-target monomials h = refl
-letter-target elementaries h = absurd h
-letter-target completes h = absurd h
-letter-target power_sums h = absurd h
-letter-target schurs h = absurd h
+-- the one command that is built
+abbrev pub the_entry : Entry
+the_entry = expand_entry built_targets
 
--- what the words of a command are
-record CommandIs (words : Words) : Type 0 where
-  word : List ℕ
-  e : Tree
-  words_are : words ≡ codes "expand" ∷ codes "m" ∷ word ∷ []
-  spelled : SpellsTree word e
+pub only : (P : Entry → Type 0) → SomeOf P command_entries → P the_entry
+only P (inl h) = h
+only P (inr h) = absurd h
 
-command_is : (words : Words) (c : PlainCommand) → SpellsCommand words c → CommandIs words
-command_is words (expand t e) h = record {
-  word = h.0;
-  e = e;
-  words_are = h.1.1 ∙ ap (λ l. codes "expand" ∷ l ∷ h.0 ∷ []) (letter-target t h.1.0);
-  spelled = h.2;
+-- words of its form
+abbrev has_command : (z : List ℕ) (e : Phrase) → SpellsPhrase z e → Has the_entry.form (codes "expand" ∷ codes "m" ∷ z ∷ [])
+has_command z e s = record {
+  written = (tt, (monomials, e));
+  allowed = (tt, (inl refl, s.allowed));
+  spelled = ap (λ v. codes "expand" ∷ codes "m" ∷ v ∷ []) s.spelled;
 }
 
-begins_is : (words : Words) → BeginsCommand words → (rest : Words) × CommandIs (words ++ rest)
-begins_is words b = (b.0, command_is (words ++ b.0) b.1 b.2)
+-- what is still to come after the words so far
+abbrev target_and_expression : Form
+target_and_expression = sequence (word (target built_targets)) (word formula)
 
-first_word : (x : List ℕ) (xs : Words) → BeginsCommand (x ∷ xs) → x ≡ codes "expand"
-first_word x xs b = let c = begins_is (x ∷ xs) b in let e = c.1.words_are in cc
+abbrev after_expand : Form
+after_expand = sequence empty target_and_expression
 
-second_word : (x y : List ℕ) (xs : Words) → BeginsCommand (x ∷ y ∷ xs) → y ≡ codes "m"
-second_word x y xs b = let c = begins_is (x ∷ y ∷ xs) b in let e = c.1.words_are in cc
+abbrev after_target : Form
+after_target = sequence empty (word formula)
 
-third_word : (x y z : List ℕ) (xs : Words) → BeginsCommand (x ∷ y ∷ z ∷ xs) → (e : Tree) × SpellsTree z e
-third_word x y z xs b =
-    let c = begins_is (x ∷ y ∷ z ∷ xs) b in
-    let w = c.1.words_are in
-    let same : c.1.word ≡ z = cc in (c.1.e, subst (λ v. SpellsTree v c.1.e) same c.1.spelled)
+can_all : CanBe (forms_of command_entries)
+can_all = (refl, tt)
 
-no_fourth : (x y z v : List ℕ) (xs : Words) → BeginsCommand (x ∷ y ∷ z ∷ v ∷ xs) → ⊥
-no_fourth x y z v xs b = let c = begins_is (x ∷ y ∷ z ∷ v ∷ xs) b in let w = c.1.words_are in cc
+some_entry : 0 < length command_entries
+some_entry = omega arith
 
-one : SpellsTree (codes "1") (number 1)
-one = (numeral (codes "1"), record { allowed = record { nonempty = omega arith; digits = ((omega arith, omega arith), tt) }; spelled = refl }, refl)
+stands_first : (words : Words) → Stands command_entries words [] words the_entry.form []
+stands_first words = record { words_are = refl; still = refl }
 
-begins_three : (z : List ℕ) (e : Tree) → SpellsTree z e → BeginsCommand (codes "expand" ∷ codes "m" ∷ z ∷ [])
-begins_three z e h = ([], expand monomials e, (z, (tt, refl), h))
+stands_second : (rest : Words) → Stands command_entries (codes "expand" ∷ rest) (codes "expand" ∷ []) rest after_expand []
+stands_second rest = record { words_are = refl; still = refl }
 
-begins_two : BeginsCommand (codes "expand" ∷ codes "m" ∷ [])
-begins_two = (codes "1" ∷ [], expand monomials (number 1), (codes "1", (tt, refl), one))
+stands_third : (rest : Words) → Stands command_entries (codes "expand" ∷ codes "m" ∷ rest) (codes "expand" ∷ codes "m" ∷ []) rest after_target []
+stands_third rest = record { words_are = refl; still = refl }
 
-begins_one : BeginsCommand (codes "expand" ∷ [])
-begins_one = (codes "m" ∷ codes "1" ∷ [], expand monomials (number 1), (codes "1", (tt, refl), one))
+-- the forms that a word leaves, where one test decides
+abbrev kept_first : Bool → List Form
+kept_first b = (map (λ h. sequence h target_and_expression) (cond b (empty ∷ []) []) ++ []) ++ []
 
-begins_none : BeginsCommand []
-begins_none = (codes "expand" ∷ codes "m" ∷ codes "1" ∷ [], expand monomials (number 1), (codes "1", (tt, refl), one))
+abbrev kept_second : Bool → List Form
+kept_second b = (map (λ h. sequence h (word formula)) (cond (b || false) (empty ∷ []) []) ++ []) ++ []
 
-begins_all : (words : Words) (c : PlainCommand) → SpellsCommand words c → BeginsCommand words
-begins_all words c h = ([], c, subst (λ v. SpellsCommand v c) (sym (append-nil words)) h)
+abbrev kept_third : Bool → List Form
+kept_third b = cond b (empty ∷ []) [] ++ []
 
--- the words stop before the word that is awaited
-awaits_two : (words : Words) → AwaitsExpression words → length words ≡ 2
-awaits_two words h = ap length h.2
-
-pub place-empty : IsSyntaxPlace [] 0 0
-place-empty = record {
-  no_command = λ c h. let w = (command_is [] c h).words_are in cc;
-  word_is = record { within = omega arith; begins = begins_none; longest = λ j k b. k };
-  byte_is = inr ((λ h. absurd (omega (arith, awaits_two [] h.0))), refl);
-}
-
-pub place-first : (x : List ℕ) (xs : Words) → (x ≡ codes "expand" → ⊥) → IsSyntaxPlace (x ∷ xs) 0 0
-place-first x xs n = record {
-  no_command = λ c h. n (first_word x xs (begins_all (x ∷ xs) c h));
-  word_is = record { within = omega arith; begins = begins_none; longest = longest };
-  byte_is = inr ((λ h. absurd (omega (arith, awaits_two [] h.0))), refl);
-}
+not_same : (u v : List ℕ) → (v ≡ u → ⊥) → same u v ≡ false
+not_same u v n = by (same u v) refl
   where
-    longest : (j : ℕ) → j ≤ length (x ∷ xs) → BeginsCommand (take j (x ∷ xs)) → j ≤ 0
-    longest zero k b = omega arith
-    longest (suc j) k b = absurd (n (first_word x (take j xs) b))
+    by : (b : Bool) → same u v ≡ b → b ≡ false
+    by true e = absurd (n (sym (same_true u v e)))
+    by false e = refl
 
-pub place-one : IsSyntaxPlace (codes "expand" ∷ []) 1 0
-place-one = record {
-  no_command = λ c h. let w = (command_is (codes "expand" ∷ []) c h).words_are in cc;
-  word_is = record { within = omega arith; begins = begins_one; longest = λ j k b. k };
-  byte_is = inr ((λ h. absurd (omega (arith, awaits_two (codes "expand" ∷ []) h.0))), refl);
-}
-
-pub place-second : (y : List ℕ) (xs : Words) → (y ≡ codes "m" → ⊥) → IsSyntaxPlace (codes "expand" ∷ y ∷ xs) 1 0
-place-second y xs n = record {
-  no_command = λ c h. n (second_word (codes "expand") y xs (begins_all (codes "expand" ∷ y ∷ xs) c h));
-  word_is = record { within = omega arith; begins = begins_one; longest = longest };
-  byte_is = inr ((λ h. absurd (omega (arith, awaits_two (codes "expand" ∷ []) h.0))), refl);
-}
+no_expression : (z : List ℕ) → ((e : Phrase) → SpellsPhrase z e → ⊥) → is_expression z ≡ false
+no_expression z n = by (is_expression z) refl
   where
-    longest : (j : ℕ) → j ≤ length (codes "expand" ∷ y ∷ xs) → BeginsCommand (take j (codes "expand" ∷ y ∷ xs)) → j ≤ 1
-    longest zero k b = omega arith
-    longest (suc zero) k b = omega arith
-    longest (suc (suc j)) k b = absurd (n (second_word (codes "expand") y (take j xs) b))
+    by : (b : Bool) → is_expression z ≡ b → b ≡ false
+    by true e = let p = tells_expressions.sound z e in absurd (n p.0 p.1)
+    by false e = refl
 
-pub place-two : IsSyntaxPlace (codes "expand" ∷ codes "m" ∷ []) 2 0
-place-two = record {
-  no_command = λ c h. let w = (command_is (codes "expand" ∷ codes "m" ∷ []) c h).words_are in cc;
-  word_is = record { within = omega arith; begins = begins_two; longest = λ j k b. k };
-  byte_is = inr ((λ h. absurd (omega (arith, h.1))), refl);
-}
+pub place-empty : IsSyntaxPlace command_entries [] 0 0
+place-empty = ends_early command_entries can_all some_entry [] [] the_entry.form [] (stands_first []) refl
 
-no_tree : (z : List ℕ) → ((e : Phrase) → SpellsPhrase z e → ⊥) → (e : Tree) → SpellsTree z e → ⊥
-no_tree z n e h = n h.0 h.1
+pub place-first : (x : List ℕ) (xs : Words) → (x ≡ codes "expand" → ⊥) → IsSyntaxPlace command_entries (x ∷ xs) 0 0
+place-first x xs n =
+    wrong_word command_entries can_all some_entry (x ∷ xs) [] x xs the_entry.form [] (stands_first (x ∷ xs))
+    (ap kept_first (not_same (codes "expand") x n)) refl
 
-pub place-word : (z : List ℕ) (xs : Words) (byte : ℕ) → ((e : Phrase) → SpellsPhrase z e → ⊥) → IsLongestPrefix BeginsExpression z byte
-    → IsSyntaxPlace (codes "expand" ∷ codes "m" ∷ z ∷ xs) 2 byte
-place-word z xs byte n p = record {
-  no_command = λ c h. let t = third_word (codes "expand") (codes "m") z xs (begins_all (codes "expand" ∷ codes "m" ∷ z ∷ xs) c h) in no_tree z n t.0 t.1;
-  word_is = record { within = omega arith; begins = begins_two; longest = longest };
-  byte_is = inl ((monomials, tt, refl), omega arith, p);
-}
-  where
-    longest : (j : ℕ) → j ≤ length (codes "expand" ∷ codes "m" ∷ z ∷ xs) → BeginsCommand (take j (codes "expand" ∷ codes "m" ∷ z ∷ xs)) → j ≤ 2
-    longest zero k b = omega arith
-    longest (suc zero) k b = omega arith
-    longest (suc (suc zero)) k b = omega arith
-    longest (suc (suc (suc j))) k b =
-        let t = third_word (codes "expand") (codes "m") z (take j xs) b in absurd (no_tree z n t.0 t.1)
+pub place-one : IsSyntaxPlace command_entries (codes "expand" ∷ []) 1 0
+place-one = ends_early command_entries can_all some_entry (codes "expand" ∷ []) (codes "expand" ∷ []) after_expand [] (stands_second []) refl
 
-pub place-fourth : (z v : List ℕ) (xs : Words) (e : Phrase) → SpellsPhrase z e → IsSyntaxPlace (codes "expand" ∷ codes "m" ∷ z ∷ v ∷ xs) 3 0
-place-fourth z v xs e s = record {
-  no_command = λ c h. no_fourth (codes "expand") (codes "m") z v xs (begins_all (codes "expand" ∷ codes "m" ∷ z ∷ v ∷ xs) c h);
-  word_is = record { within = omega arith; begins = begins_three z (tree e) (e, s, refl); longest = longest };
-  byte_is = inr ((λ h. absurd (omega (arith, awaits_two (codes "expand" ∷ codes "m" ∷ z ∷ []) h.0))), refl);
-}
-  where
-    longest : (j : ℕ) → j ≤ length (codes "expand" ∷ codes "m" ∷ z ∷ v ∷ xs) → BeginsCommand (take j (codes "expand" ∷ codes "m" ∷ z ∷ v ∷ xs)) → j ≤ 3
-    longest zero k b = omega arith
-    longest (suc zero) k b = omega arith
-    longest (suc (suc zero)) k b = omega arith
-    longest (suc (suc (suc zero))) k b = omega arith
-    longest (suc (suc (suc (suc j)))) k b = absurd (no_fourth (codes "expand") (codes "m") z v (take j xs) b)
+pub place-second : (y : List ℕ) (xs : Words) → (y ≡ codes "m" → ⊥) → IsSyntaxPlace command_entries (codes "expand" ∷ y ∷ xs) 1 0
+place-second y xs n =
+    wrong_word command_entries can_all some_entry (codes "expand" ∷ y ∷ xs) (codes "expand" ∷ []) y xs after_expand [] (stands_second (y ∷ xs))
+    (ap kept_second (not_same (codes "m") y n)) refl
 
--- three words whose expression has been judged
-offends : (z : List ℕ) (e : Phrase) (first : Option Offence) → SpellsPhrase z e → first_of (offences monomials e) ≡ first
-    → HasFirstOffence (codes "expand" ∷ codes "m" ∷ z ∷ []) first
-offends z e first s h = record {
-  target = monomials;
-  word = z;
-  phrase = e;
-  words_are = (tt, refl);
-  spelled = s;
-  first_is = sym h;
-}
+pub place-two : IsSyntaxPlace command_entries (codes "expand" ∷ codes "m" ∷ []) 2 0
+place-two =
+    ends_early command_entries can_all some_entry (codes "expand" ∷ codes "m" ∷ []) (codes "expand" ∷ codes "m" ∷ []) after_target [] (stands_third []) refl
 
-accepted : (z : List ℕ) (e : Phrase) (c : PlainCommand) → SpellsPhrase z e → c ≡ expand monomials (tree e) → SpellsCommand (codes "expand" ∷ codes "m" ∷ z ∷ []) c
-accepted z e c s h = subst (SpellsCommand (codes "expand" ∷ codes "m" ∷ z ∷ [])) (sym h) (z, (tt, refl), (e, s, refl))
+pub place-word : (z : List ℕ) (xs : Words) (byte : ℕ) → IsWrongByte z byte → IsSyntaxPlace command_entries (codes "expand" ∷ codes "m" ∷ z ∷ xs) 2 byte
+place-word z xs byte p =
+    wrong_expression command_entries can_all some_entry (codes "expand" ∷ codes "m" ∷ z ∷ xs) (codes "expand" ∷ codes "m" ∷ []) z xs after_target [] byte
+    (stands_third (z ∷ xs)) (ap kept_third (no_expression z p.0)) refl p.1
 
-pub read-judged : (z : List ℕ) (r : Result Command WordsFault) → IsJudged z r → IsRead (codes "expand" ∷ codes "m" ∷ z ∷ []) r
-read-judged z (Ok c) h = (accepted z h.0 (command_of c) h.1 h.3, offends z h.0 None h.1 h.2)
-read-judged z (Err (Syntax at)) h = absurd h
-read-judged z (Err (Literal at)) h = (offends z h.0 _ h.1 h.2, h.3)
-read-judged z (Err (Range at)) h = (offends z h.0 _ h.1 h.2, h.3)
-read-judged z (Err (Shape at)) h = (offends z h.0 _ h.1 h.2, h.3)
-read-judged z (Err NoMemory) h = tt
+pub place-fourth : (z v : List ℕ) (xs : Words) (e : Phrase) → SpellsPhrase z e → IsSyntaxPlace command_entries (codes "expand" ∷ codes "m" ∷ z ∷ v ∷ xs) 3 0
+place-fourth z v xs e s =
+    wrong_word command_entries can_all some_entry (codes "expand" ∷ codes "m" ∷ z ∷ v ∷ xs) (codes "expand" ∷ codes "m" ∷ z ∷ []) v xs empty []
+    (stands_next command_entries (codes "expand" ∷ codes "m" ∷ z ∷ v ∷ xs) (codes "expand" ∷ codes "m" ∷ []) z (v ∷ xs) after_target empty [] []
+    (stands_third (z ∷ v ∷ xs)) (ap kept_third (tells_expressions.complete z e s)))
+    refl refl
 
-pub syntax-read : (words v : Words) (f : WordsFault) (w b : ℕ) → words ≡ v → f ≡ Syntax (record { word = w; byte = b }) → IsSyntaxPlace v w b → IsRead words (Err f)
+-- the offences of an expression, with the word at which it stands, come in the same order
+abbrev at_word : ℕ → WordOffence → Offence
+at_word k o = (k, o.0, o.1)
+
+same_word : (p q r : Bool) → p ≡ false → q ≡ true → (p || (q && r)) ≡ r
+same_word false true r h k = refl
+same_word true q r h k = cc
+same_word false false r h k = cc
+
+not_less : (k : ℕ) → nat_lt k k ≡ false
+not_less k = grind (arith, nat_tests)
+
+same_order : (k : ℕ) (o p : WordOffence) → is_no_later (at_word k o) (at_word k p) ≡ comes_first o p
+same_order k o p = same_word (nat_lt k k) (k == k) (comes_first o p) (not_less k) (eq-eqb k k refl)
+
+chosen : (k : ℕ) (o p : WordOffence) (b : Bool) → cond b (Some (at_word k o)) (Some (at_word k p)) ≡ option_map (at_word k) (cond b (Some o) (Some p))
+chosen k o p true = refl
+chosen k o p false = refl
+
+earlier-placed : (k : ℕ) (o : WordOffence) (rest : Option WordOffence) → earlier_of (at_word k o) (option_map (at_word k) rest) ≡ option_map (at_word k) (earlier (Some o) rest)
+earlier-placed k o None = refl
+earlier-placed k o (Some p) =
+    ap (λ b. cond b (Some (at_word k o)) (Some (at_word k p))) (same_order k o p) ∙ chosen k o p (comes_first o p)
+
+first-placed : (k : ℕ) (os : List WordOffence) → first_offence (map (at_word k) os) ≡ option_map (at_word k) (first_of os)
+first-placed k [] = refl
+first-placed k (o ∷ os) = ap (earlier_of (at_word k o)) (first-placed k os) ∙ earlier-placed k o (first_of os)
+
+-- three words of which the third has been read as an expression
+abbrev three : List ℕ → Words
+three z = codes "expand" ∷ codes "m" ∷ z ∷ []
+
+offends : (z : List ℕ) (e : Phrase) (first : Option WordOffence) → SpellsPhrase z e → first_of (offences monomials e) ≡ first
+    → HasFirstOffence command_entries (three z) (option_map (at_word 2) first)
+offends z e first s h =
+    inl
+    (record {
+      has = has_command z e s;
+      first_is = sym (first-placed 2 (offences monomials e) ∙ ap (option_map (at_word 2)) h);
+    })
+
+pub read-expression : (z : List ℕ) (f : Formula) → IsExpression monomials z f → IsRead (three z) (Ok (Expand M f))
+read-expression z f h =
+    inl
+    (record {
+      has = has_command z h.0 h.1;
+      says_it = ap (expand monomials) h.3;
+      no_offence = first-placed 2 (offences monomials h.0) ∙ ap (option_map (at_word 2)) h.2;
+    })
+
+pub read-fault : (z : List ℕ) (e : ExpressionFault) → IsReadAs monomials z (Err e) → IsRead (three z) (Err (placed 2 e))
+read-fault z (Wrong byte) h = place-word z [] byte h
+read-fault z (Wide byte) h = offends z h.0 _ h.1 h.2
+read-fault z (Past byte) h = offends z h.0 _ h.1 h.2
+read-fault z (Misshapen byte) h = offends z h.0 _ h.1 h.2
+read-fault z Full h = tt
+
+pub syntax-read : (words v : Words) (f : WordsFault) (w b : ℕ) → words ≡ v → f ≡ Syntax (record { word = w; byte = b }) → IsSyntaxPlace command_entries v w b → IsRead words (Err f)
 syntax-read words v f w b e k p =
-    subst (λ y. IsRead words (Err y)) (sym k) (subst (λ x. IsSyntaxPlace x w b) (sym e) p)
+    subst (λ y. IsRead words (Err y)) (sym k) (subst (λ x. IsSyntaxPlace command_entries x w b) (sym e) p)
 
 pub no_words : {A : Type 0} (f : A → List ℕ) (xs : List A) → length xs ≡ 0 → map f xs ≡ []
 no_words f [] h = refl

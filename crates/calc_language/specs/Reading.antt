@@ -1,46 +1,50 @@
 -- What the words of a command are read as (this project's own).
-use Rattle.std.specs.Prelude.{◌≡◌, ℕ, List, Some, None, Result, Ok, Err, ◌⊎◌}
-use Rattle.sym_model.specs.Expansion.{monomials}
-use Rattle.sym_model.specs.Words.{Phrase, SpellsPhrase, tree, Command as PlainCommand, expand}
-use Rattle.sym_model.specs.Offence.{Kind, literal, range, shape, Offence, first_of, offences, HasFirstOffence, SpellsWithoutOffence, IsSyntaxPlace}
+use Rattle.std.specs.Prelude.{◌≡◌, ℕ, ◌≤◌, List, Some, Result, Ok, Err, ◌⊎◌}
+use Rattle.sym_model.specs.Expression.{degree}
+use Rattle.sym_model.specs.ExpressionOffence.{literal, range, shape, degree_limit}
+use Rattle.sym_model.specs.Command.{Command as PlainCommand, expand}
+use Rattle.sym_model.specs.CommandOffence.{Offence}
+use Rattle.sym_model.specs.Entry.{HasFirstOffence, SpellsWithoutOffence}
+use Rattle.calc_language.specs.BuiltCommands.{command_entries}
+use Rattle.sym_model.specs.SyntaxPlace.{IsSyntaxPlace}
 use Rattle.calc_base.specs.declared.words.WordsFault.{WordsFault}
 use Rattle.calc_base.specs.declared.words.WordsFault.TheVariants.{Syntax, Literal, Range, Shape, NoMemory}
+use Rattle.calc_expressions.specs.Trees.{basis_of, tree_of}
+use Rattle.calc_expressions.specs.declared.reading.ExpressionFault.{ExpressionFault}
+use Rattle.calc_expressions.specs.declared.reading.ExpressionFault.TheVariants.{Syntax as Wrong, Literal as Wide, Range as Past, Shape as Misshapen, NoMemory as Full}
 use Rattle.calc_language.specs.declared.words.Command.{Command}
 use Rattle.calc_language.specs.declared.words.Command.TheVariants.{Expand}
-use Rattle.calc_language.specs.Trees.{basis_of, tree_of}
 
 -- the plain command
 abbrev pub command_of : Command → PlainCommand
 command_of (Expand target formula) = expand (basis_of target) (tree_of formula.tree)
 
+-- the degree of a command's expression is within the limit of its target
+abbrev pub IsWithinItsLimit : Command → Type 0
+IsWithinItsLimit (Expand target formula) = degree (tree_of formula.tree) ≤ degree_limit (basis_of target)
+
 -- the words are this command without offence, or go wrong or first offend at this place; want of memory says nothing of them
 abbrev pub IsRead : List (List ℕ) → Result Command WordsFault → Type 0
-IsRead words (Ok command) = SpellsWithoutOffence words (command_of command)
-IsRead words (Err (Syntax at)) = IsSyntaxPlace words at.word at.byte
-IsRead words (Err (Literal at)) = HasFirstOffence words (Some (at.byte, literal)) × (at.word ≡ 2)
-IsRead words (Err (Range at)) = HasFirstOffence words (Some (at.byte, range)) × (at.word ≡ 2)
-IsRead words (Err (Shape at)) = HasFirstOffence words (Some (at.byte, shape)) × (at.word ≡ 2)
+IsRead words (Ok command) = SpellsWithoutOffence command_entries words (command_of command)
+IsRead words (Err (Syntax at)) = IsSyntaxPlace command_entries words at.word at.byte
+IsRead words (Err (Literal at)) = HasFirstOffence command_entries words (Some (at.word, at.byte, literal))
+IsRead words (Err (Range at)) = HasFirstOffence command_entries words (Some (at.word, at.byte, range))
+IsRead words (Err (Shape at)) = HasFirstOffence command_entries words (Some (at.word, at.byte, shape))
 IsRead words (Err NoMemory) = Unit {0}
 
--- an expression's word is this command into the monomials without offence, or first offends at this place
-abbrev pub IsJudged : List ℕ → Result Command WordsFault → Type 0
-IsJudged word (Ok command) =
-    (phrase : Phrase) × SpellsPhrase word phrase × (first_of (offences monomials phrase) ≡ None)
-    × (command_of command ≡ expand monomials (tree phrase))
-IsJudged word (Err (Syntax at)) = ⊥
-IsJudged word (Err (Literal at)) =
-    (phrase : Phrase) × SpellsPhrase word phrase × (first_of (offences monomials phrase) ≡ Some (at.byte, literal)) × (at.word ≡ 2)
-IsJudged word (Err (Range at)) =
-    (phrase : Phrase) × SpellsPhrase word phrase × (first_of (offences monomials phrase) ≡ Some (at.byte, range)) × (at.word ≡ 2)
-IsJudged word (Err (Shape at)) =
-    (phrase : Phrase) × SpellsPhrase word phrase × (first_of (offences monomials phrase) ≡ Some (at.byte, shape)) × (at.word ≡ 2)
-IsJudged word (Err NoMemory) = Unit {0}
+-- the refusal of an expression that stands at the word
+abbrev pub placed : ℕ → ExpressionFault → WordsFault
+placed word (Wrong byte) = Syntax (record { word = word; byte = byte })
+placed word (Wide byte) = Literal (record { word = word; byte = byte })
+placed word (Past byte) = Range (record { word = word; byte = byte })
+placed word (Misshapen byte) = Shape (record { word = word; byte = byte })
+placed word Full = NoMemory
 
--- the refusal of an offence in the word of an expression
-abbrev pub IsFaultOf : ℕ × Kind → WordsFault → Type 0
-IsFaultOf o (Literal at) = (o ≡ (at.byte, literal)) × (at.word ≡ 2)
-IsFaultOf o (Range at) = (o ≡ (at.byte, range)) × (at.word ≡ 2)
-IsFaultOf o (Shape at) = (o ≡ (at.byte, shape)) × (at.word ≡ 2)
+-- the refusal names the offence
+abbrev pub IsFaultOf : Offence → WordsFault → Type 0
+IsFaultOf o (Literal at) = o ≡ (at.word, at.byte, literal)
+IsFaultOf o (Range at) = o ≡ (at.word, at.byte, range)
+IsFaultOf o (Shape at) = o ≡ (at.word, at.byte, shape)
 IsFaultOf o _ = ⊥
 
 -- the command is accepted, but for want of memory

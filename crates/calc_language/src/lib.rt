@@ -1,19 +1,10 @@
-//! The words of a command: expressions with their weights, and how words are read as a command.
+//! The words of a command, and how they are read. The expressions in them are those of `calc_expressions`, which are
+//! passed on.
 #![tactic(auto)]
 
-mod builder;
-mod expr;
-mod formula;
-mod offence;
-mod scan;
-mod symbol;
-mod weigh;
+mod built;
 mod words;
 
-pub use calc_base::{Basis, Weight};
-pub use expr::Expr;
-pub use formula::Formula;
+pub use built::built_commands_law;
+pub use calc_expressions::{Basis, Expr, Formula, Weight, degree_limit};
 pub use words::{Command, read_words};
-
-#[cfg(test)]
-mod tests;

@@ -1,0 +1,81 @@
+-- How fast factorials and the growth of a conversion grow, and when a product of three is past 128 bits.
+use Rattle.std.proofs.Common.{◌≡◌, ℕ, zero, suc, ◌+◌, ◌*◌, ◌^◌, ◌<◌, ◌≤◌, refl, ap, ◌∙◌, arith, add-one, inl, inr, ⊎_elim, ◌⊎◌}
+use Rattle.std.proofs.Math.Nat.{mul-le-mul, pow-suc, pow-zero}
+use Rattle.sym_model.specs.Expansion.{Basis, monomials, elementaries, completes, power_sums, schurs}
+use Rattle.sym_model.specs.Expression.{Tree, denominator, degree}
+use Rattle.sym_model.specs.Weight.{numerator, factorial, growth, weight}
+use Rattle.calc_base.specs.declared.words.Basis.{Basis as Letter}
+use Rattle.calc_base.specs.declared.words.Basis.TheVariants.{E, H, P}
+use Rattle.calc_expressions.specs.Trees.{basis_of}
+use Rattle.calc_expressions.proofs.WeightFacts.{Positive, Wide, times-grows, times-positive}
+
+pub pow-positive : (n k : ℕ) → 0 < n → 0 < n ^ k
+pow-positive n zero h = rw pow-zero (omega arith)
+pow-positive n (suc k) h = rw pow-suc (times-positive (n ^ k) n (pow-positive n k h) h)
+
+factorial-positive : (k : ℕ) → 0 < factorial k
+factorial-positive zero = omega arith
+factorial-positive (suc k) = times-positive (suc k) (factorial k) (omega arith) (factorial-positive k)
+
+pub factorial-step : (k : ℕ) → factorial (k + 1) ≡ factorial k * (k + 1)
+factorial-step k = ap factorial (add-one k) ∙ omega arith
+
+factorial-rises : (k j : ℕ) → k ≤ j → factorial k ≤ factorial j
+factorial-rises zero j h = factorial-positive j
+factorial-rises (suc k) zero h = absurd (omega arith)
+factorial-rises (suc k) (suc j) h = mul-le-mul h (factorial-rises k j (omega arith))
+
+pub factorial-small : (k : ℕ) → k ≤ 20 → factorial k ≤ 2432902008176640000
+factorial-small k h = factorial-rises k 20 h
+
+pub growth-positive : (b : Basis) (d : ℕ) → 0 < growth b d
+growth-positive b zero = omega arith
+growth-positive monomials (suc d) = pow-positive (suc d) (suc d) (omega arith)
+growth-positive schurs (suc d) = pow-positive (suc d) (suc d) (omega arith)
+growth-positive elementaries (suc d) = times-positive _ _ (factorial-positive (suc d)) (pow-positive (2 * suc d) (suc d) (omega arith))
+growth-positive completes (suc d) = times-positive _ _ (factorial-positive (suc d)) (pow-positive (2 * suc d) (suc d) (omega arith))
+growth-positive power_sums (suc d) = times-positive _ _ (factorial-positive (suc d)) (pow-positive (2 * suc d) (suc d) (omega arith))
+
+-- the growth into p, h and e
+pub growth-with_factorial : (b : Basis) → (b ≡ power_sums) ⊎ (b ≡ completes) ⊎ (b ≡ elementaries) → (d : ℕ) → growth b d ≡ factorial d * (2 * d) ^ d
+growth-with_factorial b h zero = refl
+growth-with_factorial b (inl e) (suc d) = ap (λ x. growth x (suc d)) e
+growth-with_factorial b (inr (inl e)) (suc d) = ap (λ x. growth x (suc d)) e
+growth-with_factorial b (inr (inr e)) (suc d) = ap (λ x. growth x (suc d)) e
+
+-- where one number is too great, so is the product of all three
+pub wide-weight : (b : Basis) (e : Tree) → Positive e → Wide e → 2 ^ 127 ≤ weight b e
+wide-weight b e h (inl w) =
+    omega (
+      arith,
+      w,
+      times-grows (numerator e) (denominator e) h.1,
+      times-grows (numerator e * denominator e) (growth b (degree e)) (growth-positive b (degree e)),
+    )
+wide-weight b e h (inr w) =
+    omega (
+      arith,
+      w,
+      times-grows (denominator e) (numerator e) h.0,
+      times-grows (numerator e * denominator e) (growth b (degree e)) (growth-positive b (degree e)),
+    )
+
+pub high-weight : (b : Basis) (e : Tree) → Positive e → 2 ^ 127 ≤ growth b (degree e) → 2 ^ 127 ≤ weight b e
+high-weight b e h w =
+    omega (arith, w, times-grows (growth b (degree e)) (numerator e * denominator e) (times-positive (numerator e) (denominator e) h.0 h.1))
+
+pub wide-product : (b : Basis) (e : Tree) → 2 ^ 127 ≤ numerator e * denominator e → 2 ^ 127 ≤ weight b e
+wide-product b e w =
+    omega (arith, w, times-grows (numerator e * denominator e) (growth b (degree e)) (growth-positive b (degree e)))
+
+-- where the power alone is past 128 bits, so is the growth
+pub growth-past : (target : Letter) → (target ≡ P) ⊎ ((target ≡ H) ⊎ (target ≡ E)) → (d b k : ℕ) → b ≡ d → k ≡ d
+    → ((2 * b) ^ k < 2 ^ 128 → ⊥) → growth (basis_of target) d < 2 ^ 128 → ⊥
+growth-past target h d b k e f past small =
+    let letters = ⊎_elim (λ p. inl (ap basis_of p)) (⊎_elim (λ p. inr (inl (ap basis_of p))) (λ p. inr (inr (ap basis_of p)))) h in
+    past (rw (e, f) (omega (
+      arith,
+      small,
+      growth-with_factorial (basis_of target) letters d,
+      times-grows ((2 * d) ^ d) (factorial d) (factorial-positive d),
+    )))

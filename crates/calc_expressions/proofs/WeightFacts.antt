@@ -1,0 +1,207 @@
+-- The numbers of a weight are positive, and no part of an expression has a greater one than the whole.
+use Rattle.std.proofs.Common.{◌≡◌, ℕ, zero, suc, ◌+◌, ◌*◌, ◌/◌, ◌^◌, ◌<◌, ◌≤◌, ◌⊎◌, inl, inr, max, Bool, ◌&&◌, IsTrue, Option, None, refl, sym, ap, ◌∙◌, subst, arith, pos, ℤ, negsuc}
+use Rattle.std.specs.Prelude.{nat_abs}
+use lib.Signed.{le_z, lt_z}
+use Rattle.std.proofs.lemmas.Bool.{and_parts, false≢true, ltb-true}
+use Rattle.std.proofs.Math.Nat.{div-mul_cancel, mul-div_cancel, mul-le-mul_left}
+use Rattle.calc_base.specs.declared.words.Weight.{Weight}
+use Rattle.sym_model.specs.Canonical.{gcd}
+use Rattle.sym_model.specs.Expression.{Tree, sum, product, denominator, lcm}
+use Rattle.sym_model.specs.Weight.{numerator}
+use Rattle.sym_model.proofs.GreatestCommonDivisors.{IsGcd-gcd, gcd-positive}
+use Rattle.calc_expressions.specs.declared.expr.Expr.{Expr, Number, Fraction, Atom, Negation', Sum', Difference', Product'}
+use Rattle.calc_expressions.specs.Trees.{tree_of, has_no_signs}
+use Rattle.calc_expressions.specs.Weights.{IsWeighed}
+
+pub times-grows : (a b : ℕ) → 0 < b → a ≤ a * b
+times-grows a b h = omega (arith, mul-le-mul_left a h)
+
+pub times-positive : (a b : ℕ) → 0 < a → 0 < b → 0 < a * b
+times-positive a b h k = omega (arith, times-grows a b k)
+
+-- the two numbers over their greatest common divisor
+record Parts (d k : ℕ) : Type 0 where
+  first : d / gcd d k * gcd d k ≡ d
+  second : k / gcd d k * gcd d k ≡ k
+  positive : 0 < gcd d k
+  first_positive : 0 < d / gcd d k
+  second_positive : 0 < k / gcd d k
+
+quotient-positive : (a g d : ℕ) → a * g ≡ d → 0 < d → 0 < a
+quotient-positive zero g d e h = absurd (omega (arith, e, h))
+quotient-positive (suc a) g d e h = omega arith
+
+parts_of : (d k : ℕ) → 0 < d → 0 < k → Parts d k
+parts_of d k hd hk =
+    let a = div-mul_cancel (gcd d k) (IsGcd-gcd d k).0 in
+    let b = div-mul_cancel (gcd d k) (IsGcd-gcd d k).1 in
+    record {
+      first = a;
+      second = b;
+      positive = gcd-positive d k hd;
+      first_positive = quotient-positive _ _ _ a hd;
+      second_positive = quotient-positive _ _ _ b hk;
+    }
+
+cross : (a b g d k : ℕ) → a * g ≡ d → b * g ≡ k → d * b ≡ a * k
+cross a b g d k e f = rw (← e, ← f) (omega arith)
+
+over_first : (a b g d k : ℕ) → a * g ≡ d → b * g ≡ k → 0 < d → a * k / d ≡ b
+over_first a b g d k e f h =
+    let turn : a * k ≡ b * d = rw (← e, ← f) (omega arith) in
+    ap (λ n. n / d) turn ∙ mul-div_cancel b h
+
+-- the least common multiple over each of the two numbers
+pub lcm-over_first : (d k : ℕ) → 0 < d → 0 < k → lcm d k / d ≡ k / gcd d k
+lcm-over_first d k hd hk =
+    let p = parts_of d k hd hk in over_first _ _ (gcd d k) d k p.first p.second hd
+
+pub lcm-over_second : (d k : ℕ) → 0 < d → 0 < k → lcm d k / k ≡ d / gcd d k
+lcm-over_second d k hd hk = mul-div_cancel (d / gcd d k) hk
+
+lcm-at_least_first : (d k : ℕ) → 0 < d → 0 < k → d ≤ lcm d k
+lcm-at_least_first d k hd hk =
+    let p = parts_of d k hd hk in
+    let q : d * (k / gcd d k) ≡ lcm d k = cross (d / gcd d k) (k / gcd d k) (gcd d k) d k p.first p.second in
+    omega (arith, times-grows d (k / gcd d k) p.second_positive, q)
+
+lcm-at_least_second : (d k : ℕ) → 0 < d → 0 < k → k ≤ lcm d k
+lcm-at_least_second d k hd hk =
+    let p = parts_of d k hd hk in omega (arith, times-grows k (d / gcd d k) p.first_positive)
+
+abbrev pub Positive : Tree → Type 0
+Positive e = (0 < numerator e) × (0 < denominator e)
+
+abbrev pub Wide : Tree → Type 0
+Wide e = (2 ^ 127 ≤ numerator e) ⊎ (2 ^ 127 ≤ denominator e)
+
+pos_at_least : (a : ℕ) → 0 < max 1 a
+pos_at_least a = omega arith
+
+abs_positive : (n : ℤ) → IsTrue (lt_z (pos 0) n) → 0 < nat_abs n
+abs_positive (pos n) h = ltb-true 0 n h
+abs_positive (negsuc n) h = absurd (false≢true h)
+
+one_of : (p q : Bool) → IsTrue (p && q) → IsTrue p × IsTrue q
+one_of p q h = and_parts p q h
+
+product-positive : (e f : Tree) → Positive e → Positive f → Positive (product e f)
+product-positive e f h k =
+    (times-positive (numerator e) (numerator f) h.0 k.0, times-positive (denominator e) (denominator f) h.1 k.1)
+
+-- the numbers of a sum, over the least common denominator
+abbrev joined : ℕ → ℕ → ℕ → ℕ → ℕ
+joined n m d k = n * (lcm d k / d) + m * (lcm d k / k)
+
+joined-at_least_first : (n m d k : ℕ) → 0 < d → 0 < k → n ≤ joined n m d k
+joined-at_least_first n m d k hd hk =
+    let one : 0 < lcm d k / d = rw (lcm-over_first d k hd hk) (parts_of d k hd hk).second_positive in
+    omega (arith, times-grows n (lcm d k / d) one)
+
+joined-at_least_second : (n m d k : ℕ) → 0 < d → 0 < k → m ≤ joined n m d k
+joined-at_least_second n m d k hd hk =
+    let one : 0 < lcm d k / k = rw (lcm-over_second d k hd hk) (parts_of d k hd hk).first_positive in
+    omega (arith, times-grows m (lcm d k / k) one)
+
+pub joined-by_parts : (n m d k : ℕ) → 0 < d → 0 < k → joined n m d k ≡ n * (k / gcd d k) + m * (d / gcd d k)
+joined-by_parts n m d k hd hk = rw (lcm-over_first d k hd hk, lcm-over_second d k hd hk) refl
+
+abbrev JoinedPositive : Tree → Tree → Type 0
+JoinedPositive e f =
+    (0 < joined (numerator e) (numerator f) (denominator e) (denominator f)) × (0 < lcm (denominator e) (denominator f))
+
+joined-positive : (e f : Tree) → Positive e → Positive f → JoinedPositive e f
+joined-positive e f h k = (
+  omega (arith, h.0, joined-at_least_first (numerator e) (numerator f) (denominator e) (denominator f) h.1 k.1),
+  omega (arith, h.1, lcm-at_least_first (denominator e) (denominator f) h.1 k.1),
+)
+
+-- an expression without signs has positive numbers
+pub positive : (e : Expr) → IsTrue (has_no_signs e) → Positive (tree_of e)
+positive (Number num) h = (pos_at_least (nat_abs num), omega arith)
+positive (Fraction num den) h =
+    (pos_at_least (nat_abs num), abs_positive den (one_of (le_z (pos 0) num) (lt_z (pos 0) den) h).1)
+positive (Atom basis label) h = (omega arith, omega arith)
+positive (Negation' p inner) h = positive inner h
+positive (Sum' p left q right) h =
+    let s = one_of (has_no_signs left) (has_no_signs right) h in
+    joined-positive (tree_of left) (tree_of right) (positive left s.0) (positive right s.1)
+positive (Difference' p left q right) h =
+    let s = one_of (has_no_signs left) (has_no_signs right) h in
+    joined-positive (tree_of left) (tree_of right) (positive left s.0) (positive right s.1)
+positive (Product' p left q right) h =
+    let s = one_of (has_no_signs left) (has_no_signs right) h in
+    product-positive (tree_of left) (tree_of right) (positive left s.0) (positive right s.1)
+
+-- where a part is too wide, so is the whole
+pub wide-product_left : (e f : Tree) → Positive f → Wide e → Wide (product e f)
+wide-product_left e f h (inl w) = inl (omega (arith, w, times-grows (numerator e) (numerator f) h.0))
+wide-product_left e f h (inr w) = inr (omega (arith, w, times-grows (denominator e) (denominator f) h.1))
+
+pub wide-product_right : (e f : Tree) → Positive e → Wide f → Wide (product e f)
+wide-product_right e f h (inl w) = inl (omega (arith, w, times-grows (numerator f) (numerator e) h.0))
+wide-product_right e f h (inr w) = inr (omega (arith, w, times-grows (denominator f) (denominator e) h.1))
+
+abbrev pub WideJoined : Tree → Tree → Type 0
+WideJoined e f =
+    (2 ^ 127 ≤ joined (numerator e) (numerator f) (denominator e) (denominator f))
+    ⊎ (2 ^ 127 ≤ lcm (denominator e) (denominator f))
+
+pub wide-joined_left : (e f : Tree) → Positive e → Positive f → Wide e → WideJoined e f
+wide-joined_left e f h k (inl w) = inl (omega (arith, w, joined-at_least_first (numerator e) (numerator f) (denominator e) (denominator f) h.1 k.1))
+wide-joined_left e f h k (inr w) = inr (omega (arith, w, lcm-at_least_first (denominator e) (denominator f) h.1 k.1))
+
+pub wide-joined_right : (e f : Tree) → Positive e → Positive f → Wide f → WideJoined e f
+wide-joined_right e f h k (inl w) = inl (omega (arith, w, joined-at_least_second (numerator e) (numerator f) (denominator e) (denominator f) h.1 k.1))
+wide-joined_right e f h k (inr w) = inr (omega (arith, w, lcm-at_least_second (denominator e) (denominator f) h.1 k.1))
+
+-- the answers of a weighing whose parts are those of a product, a sum or a difference
+abbrev pub Signless : Expr → Expr → Type 0
+Signless l r = IsTrue (has_no_signs l && has_no_signs r)
+
+pub none-product_right : (answer : Option Weight) (l r : Expr) → Signless l r → answer ≡ None → Wide (tree_of r)
+    → IsWeighed answer (numerator (product (tree_of l) (tree_of r))) (denominator (product (tree_of l) (tree_of r)))
+none-product_right answer l r h e w =
+    let s = one_of (has_no_signs l) (has_no_signs r) h in
+    subst (λ a. IsWeighed a (numerator (product (tree_of l) (tree_of r))) (denominator (product (tree_of l) (tree_of r)))) (sym e)
+    (wide-product_right (tree_of l) (tree_of r) (positive l s.0) w)
+
+pub none-product_left : (answer : Option Weight) (l r : Expr) → Signless l r → answer ≡ None → Wide (tree_of l)
+    → IsWeighed answer (numerator (product (tree_of l) (tree_of r))) (denominator (product (tree_of l) (tree_of r)))
+none-product_left answer l r h e w =
+    let s = one_of (has_no_signs l) (has_no_signs r) h in
+    subst (λ a. IsWeighed a (numerator (product (tree_of l) (tree_of r))) (denominator (product (tree_of l) (tree_of r)))) (sym e)
+    (wide-product_left (tree_of l) (tree_of r) (positive r s.1) w)
+
+pub none-joined_left : (answer : Option Weight) (l r : Expr) → Signless l r → answer ≡ None → Wide (tree_of l)
+    → IsWeighed answer (numerator (sum (tree_of l) (tree_of r))) (denominator (sum (tree_of l) (tree_of r)))
+none-joined_left answer l r h e w =
+    let s = one_of (has_no_signs l) (has_no_signs r) h in
+    subst (λ a. IsWeighed a (numerator (sum (tree_of l) (tree_of r))) (denominator (sum (tree_of l) (tree_of r)))) (sym e)
+    (wide-joined_left (tree_of l) (tree_of r) (positive l s.0) (positive r s.1) w)
+
+pub none-joined_right : (answer : Option Weight) (l r : Expr) → Signless l r → answer ≡ None → Wide (tree_of r)
+    → IsWeighed answer (numerator (sum (tree_of l) (tree_of r))) (denominator (sum (tree_of l) (tree_of r)))
+none-joined_right answer l r h e w =
+    let s = one_of (has_no_signs l) (has_no_signs r) h in
+    subst (λ a. IsWeighed a (numerator (sum (tree_of l) (tree_of r))) (denominator (sum (tree_of l) (tree_of r)))) (sym e)
+    (wide-joined_right (tree_of l) (tree_of r) (positive l s.0) (positive r s.1) w)
+
+-- a part that was weighed
+abbrev pub Gives : Expr → Weight → Type 0
+Gives e w =
+    (w.num ≡ numerator (tree_of e)) × (w.den ≡ denominator (tree_of e)) × (numerator (tree_of e) < 2 ^ 127) × (denominator (tree_of e) < 2 ^ 127)
+
+pub given-positive : (l r : Expr) (w : Weight) → Signless l r → Gives l w → 0 < w.den
+given-positive l r w h g =
+    let s = one_of (has_no_signs l) (has_no_signs r) h in
+    subst (λ n. 0 < n) (sym g.1) (positive l s.0).1
+
+pub some-joined : (answer : Option Weight) (l r : Expr) (v w : Weight) → Signless l r → Gives l v → Gives r w
+    → IsWeighed answer (v.num * (w.den / gcd v.den w.den) + w.num * (v.den / gcd v.den w.den)) (v.den / gcd v.den w.den * w.den)
+    → IsWeighed answer (numerator (sum (tree_of l) (tree_of r))) (denominator (sum (tree_of l) (tree_of r)))
+some-joined answer l r v w h a b k =
+    let s = one_of (has_no_signs l) (has_no_signs r) h in
+    let same = joined-by_parts (numerator (tree_of l)) (numerator (tree_of r)) (denominator (tree_of l)) (denominator (tree_of r)) (positive l s.0).1 (positive r s.1).1 in
+    subst (λ n. IsWeighed answer n (denominator (sum (tree_of l) (tree_of r)))) (sym same)
+    (rw (a.0, a.1, b.0, b.1) at k)

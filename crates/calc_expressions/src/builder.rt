@@ -1,0 +1,456 @@
+// The tree of a word that is known to be an expression, built from left to right with no recursion.
+ghost use Rattle.std.specs.Prelude.{◌≡◌, ℕ, ◌+◌, ◌*◌, ◌^◌, ◌<◌, ◌≤◌, IfOk, option_map, true};
+ghost use Rattle.expression_laws.specs.LeftToRight.{join_factor, join_term, join, at, awaited, in_number, in_entry, other, start, found, after_factor, before_factor, in_list_step, step};
+ghost use Rattle.calc_expressions.specs.ScanSteps.{IsSoundDigit};
+ghost use Rattle.calc_expressions.specs.Symbols.{symbol_in};
+ghost use Rattle.calc_expressions.specs.Trees.{basis_of};
+ghost use Rattle.calc_expressions.specs.Building.{builds, built_of, terms_in, factors_in, part_in, opened_in, state_of, state_in, AreEntries, IsFine, IsBuildable};
+ghost use Rattle.sym_model.specs.Phrase.{Phrase, SpellsPhrase, tree};
+
+use crate::Expr;
+use crate::scan::extended;
+use crate::symbol::{Symbol, symbol_of};
+use calc_base::{Basis, NoMemory};
+use partitions::Partition;
+use std::alloc::Global;
+
+// What stands before a term: nothing, a minus at the front, or an expression and its operator.
+#[derive(Drop)]
+pub(crate) enum LeadingTerms {
+    NoTerm,
+    Negating,
+    Adding(Box<Expr>),
+    Subtracting(Box<Expr>),
+}
+
+// What stands before a factor: nothing, or a term and a star.
+#[derive(Drop)]
+pub(crate) enum LeadingFactors {
+    NoFactor,
+    Multiplying(Box<Expr>),
+}
+
+// The term that a factor ends.
+fn term_of(alloc: Global, before: LeadingFactors, factor: Expr) -> Result<Expr, NoMemory>
+    ensures { IfOk result (λ e. built_of e ≡ join_factor builds (factors_in before) (built_of factor)) }
+{
+    match before {
+        LeadingFactors::NoFactor => Ok(factor),
+        LeadingFactors::Multiplying(left) => Ok(Expr::Product {
+            left,
+            right: Box::new(alloc, factor)?,
+        }),
+    }
+}
+
+// The expression that a term ends.
+fn expression_of(alloc: Global, before: LeadingTerms, term: Expr) -> Result<Expr, NoMemory>
+    ensures { IfOk result (λ e. built_of e ≡ join_term builds (terms_in before) (built_of term)) }
+{
+    match before {
+        LeadingTerms::NoTerm => Ok(term),
+        LeadingTerms::Negating => Ok(Expr::Negation {
+            inner: Box::new(alloc, term)?,
+        }),
+        LeadingTerms::Adding(left) => Ok(Expr::Sum {
+            left,
+            right: Box::new(alloc, term)?,
+        }),
+        LeadingTerms::Subtracting(left) => Ok(Expr::Difference {
+            left,
+            right: Box::new(alloc, term)?,
+        }),
+    }
+}
+
+// The expression that a factor ends.
+fn joined(
+    alloc: Global,
+    terms: LeadingTerms,
+    factors: LeadingFactors,
+    factor: Expr,
+) -> Result<Expr, NoMemory>
+    ensures { IfOk result (λ e. built_of e ≡ join builds (terms_in terms) (factors_in factors) (built_of factor)) }
+{
+    expression_of(alloc, terms, term_of(alloc, factors, factor)?)
+}
+
+// What is there of a factor, and of an atom's list the numbers before a comma.
+#[derive(Drop)]
+pub(crate) enum Part {
+    Awaited,
+    Number(u128),
+    Slash(u128),
+    Denominator(u128, u128),
+    Letter(Basis),
+    List(Basis, Vec<u16>),
+    Entry(Basis, Vec<u16>, u128),
+    Closed(Expr),
+}
+
+// What stands before a factor, back to the last open parenthesis.
+#[derive(Drop)]
+pub(crate) struct Frame {
+    pub(crate) terms: LeadingTerms,
+    pub(crate) factors: LeadingFactors,
+}
+
+// What has been built: the part of a factor, what stands before it, and the same for each parenthesis that is open.
+#[derive(Drop)]
+pub(crate) struct Builder {
+    pub(crate) part: Part,
+    pub(crate) frame: Frame,
+    pub(crate) opened: Vec<Frame>,
+}
+
+// A number as an expression.
+fn number(value: u128) -> Expr
+    requires { value < 2 ^ 127 }
+    ensures { built_of result ≡ builds.numeral_of value }
+{
+    Expr::Number { num: value as i128 }
+}
+
+// A fraction as an expression.
+fn fraction(num: u128, den: u128) -> Expr
+    requires num { num < 2 ^ 127 }
+    requires den { den < 2 ^ 127 }
+    ensures { built_of result ≡ builds.ratio_of num den }
+{
+    Expr::Fraction {
+        num: num as i128,
+        den: den as i128,
+    }
+}
+
+// An atom as an expression.
+fn atom(alloc: Global, basis: Basis, numbers: &[u16]) -> Result<Expr, NoMemory>
+    requires { AreEntries numbers.now }
+    ensures { IfOk result (λ e. built_of e ≡ builds.label_of (basis_of basis) numbers.now) }
+{
+    let label = Partition::from_valid_numbers(alloc, numbers)?;
+    Ok(Expr::Atom { basis, label })
+}
+
+impl Builder {
+    // Where a factor is awaited.
+    fn awaiting(frame: Frame, opened: Vec<Frame>) -> Builder
+        ensures { state_of result
+            ≡ at awaited (terms_in frame.terms) (factors_in frame.factors) (opened_in opened.items) }
+    {
+        Builder {
+            part: Part::Awaited,
+            frame,
+            opened,
+        }
+    }
+}
+
+// After a byte that follows a whole factor; none where it is at fault.
+fn after_factor(
+    alloc: Global,
+    factor: Expr,
+    frame: Frame,
+    opened: Vec<Frame>,
+    symbol: Symbol,
+) -> Result<Option<Builder>, NoMemory>
+    ensures { IfOk result (λ b. state_in b
+        ≡ after_factor builds (built_of factor) (terms_in frame.terms) (factors_in frame.factors) (opened_in opened.items) (symbol_in symbol)) }
+{
+    let Frame { terms, factors } = frame;
+    match symbol {
+        Symbol::Star => {
+            let term = Box::new(alloc, term_of(alloc, factors, factor)?)?;
+            let frame = Frame {
+                terms,
+                factors: LeadingFactors::Multiplying(term),
+            };
+            Ok(Some(Builder::awaiting(frame, opened)))
+        }
+        Symbol::Plus => {
+            let sum = Box::new(alloc, joined(alloc, terms, factors, factor)?)?;
+            let frame = Frame {
+                terms: LeadingTerms::Adding(sum),
+                factors: LeadingFactors::NoFactor,
+            };
+            Ok(Some(Builder::awaiting(frame, opened)))
+        }
+        Symbol::Minus => {
+            let sum = Box::new(alloc, joined(alloc, terms, factors, factor)?)?;
+            let frame = Frame {
+                terms: LeadingTerms::Subtracting(sum),
+                factors: LeadingFactors::NoFactor,
+            };
+            Ok(Some(Builder::awaiting(frame, opened)))
+        }
+        Symbol::Close => {
+            let mut opened = opened;
+            match opened.pop() {
+                None => Ok(None),
+                Some(frame) => {
+                    let part = Part::Closed(joined(alloc, terms, factors, factor)?);
+                    Ok(Some(Builder {
+                        part,
+                        frame,
+                        opened,
+                    }))
+                }
+            }
+        }
+        _ => Ok(None),
+    }
+}
+
+// After a byte where a factor is awaited; none where it is at fault.
+fn before_factor(
+    frame: Frame,
+    opened: Vec<Frame>,
+    symbol: Symbol,
+) -> Result<Option<Builder>, NoMemory>
+    requires { IsSoundDigit (symbol_in symbol) }
+    ensures { IfOk result (λ b. state_in b
+        ≡ before_factor builds (terms_in frame.terms) (factors_in frame.factors) (opened_in opened.items) (symbol_in symbol)) }
+{
+    match symbol {
+        Symbol::Digit(byte) => Ok(Some(Builder {
+            part: Part::Number(u128::from(byte - b'0')),
+            frame,
+            opened,
+        })),
+        Symbol::Letter(basis) => Ok(Some(Builder {
+            part: Part::Letter(basis),
+            frame,
+            opened,
+        })),
+        Symbol::Open => {
+            let mut opened = opened;
+            opened.push(frame)?;
+            let frame = Frame {
+                terms: LeadingTerms::NoTerm,
+                factors: LeadingFactors::NoFactor,
+            };
+            Ok(Some(Builder::awaiting(frame, opened)))
+        }
+        Symbol::Minus => match frame {
+            Frame {
+                terms: LeadingTerms::NoTerm,
+                factors: LeadingFactors::NoFactor,
+            } => {
+                let frame = Frame {
+                    terms: LeadingTerms::Negating,
+                    factors: LeadingFactors::NoFactor,
+                };
+                Ok(Some(Builder::awaiting(frame, opened)))
+            }
+            _ => Ok(None),
+        },
+        _ => Ok(None),
+    }
+}
+
+// After a byte in an atom's list where a number may begin; none where it is at fault.
+fn in_list(
+    alloc: Global,
+    basis: Basis,
+    numbers: Vec<u16>,
+    frame: Frame,
+    opened: Vec<Frame>,
+    symbol: Symbol,
+) -> Result<Option<Builder>, NoMemory>
+    requires { IsSoundDigit (symbol_in symbol) }
+    ensures { IfOk result (λ b. state_in b
+        ≡ in_list_step builds (basis_of basis) numbers.items (terms_in frame.terms) (factors_in frame.factors) (opened_in opened.items) (symbol_in symbol)) }
+{
+    match symbol {
+        Symbol::Digit(byte) => Ok(Some(Builder {
+            part: Part::Entry(basis, numbers, u128::from(byte - b'0')),
+            frame,
+            opened,
+        })),
+        Symbol::CloseList => {
+            if numbers.is_empty() {
+                Ok(Some(Builder {
+                    part: Part::Closed(atom(alloc, basis, &[])?),
+                    frame,
+                    opened,
+                }))
+            } else {
+                Ok(None)
+            }
+        }
+        _ => Ok(None),
+    }
+}
+
+// After a byte that follows a number of an atom's list; none where it is at fault.
+fn in_entry(
+    alloc: Global,
+    basis: Basis,
+    numbers: Vec<u16>,
+    value: u128,
+    frame: Frame,
+    opened: Vec<Frame>,
+    symbol: Symbol,
+) -> Result<Option<Builder>, NoMemory>
+    requires { IsFine (in_entry (basis_of basis) numbers.items value) (symbol_in symbol) }
+    ensures { IfOk result (λ b. state_in b
+        ≡ step builds (at (in_entry (basis_of basis) numbers.items value) (terms_in frame.terms) (factors_in frame.factors) (opened_in opened.items)) (symbol_in symbol)) }
+{
+    match symbol {
+        Symbol::Digit(byte) => Ok(Some(Builder {
+            part: Part::Entry(basis, numbers, extended(value, byte)),
+            frame,
+            opened,
+        })),
+        Symbol::Comma => {
+            let mut numbers = numbers;
+            numbers.push(value as u16)?;
+            Ok(Some(Builder {
+                part: Part::List(basis, numbers),
+                frame,
+                opened,
+            }))
+        }
+        Symbol::CloseList => {
+            let mut numbers = numbers;
+            numbers.push(value as u16)?;
+            Ok(Some(Builder {
+                part: Part::Closed(atom(alloc, basis, &numbers)?),
+                frame,
+                opened,
+            }))
+        }
+        _ => Ok(None),
+    }
+}
+
+impl Builder {
+    // Before the first byte.
+    fn start(alloc: Global) -> Builder
+        ensures { state_of result ≡ start }
+    {
+        let frame = Frame {
+            terms: LeadingTerms::NoTerm,
+            factors: LeadingFactors::NoFactor,
+        };
+        Builder::awaiting(frame, Vec::new(alloc))
+    }
+
+    // After a symbol, where a number that ends before it is no offence; none where the symbol is at fault.
+    fn after(self, alloc: Global, symbol: Symbol) -> Result<Option<Builder>, NoMemory>
+        requires digit { IsSoundDigit (symbol_in symbol) }
+        requires fine { IsFine (part_in self.part) (symbol_in symbol) }
+        ensures { IfOk result (λ b. state_in b ≡ step builds (state_of self) (symbol_in symbol)) }
+    {
+        let Builder {
+            part,
+            frame,
+            opened,
+        } = self;
+        match part {
+            Part::Awaited => before_factor(frame, opened, symbol),
+            Part::Number(value) => after_number(alloc, value, frame, opened, symbol),
+            Part::Slash(num) => match symbol {
+                Symbol::Digit(byte) => Ok(Some(Builder {
+                    part: Part::Denominator(num, u128::from(byte - b'0')),
+                    frame,
+                    opened,
+                })),
+                _ => Ok(None),
+            },
+            Part::Denominator(num, den) => match symbol {
+                Symbol::Digit(byte) => Ok(Some(Builder {
+                    part: Part::Denominator(num, extended(den, byte)),
+                    frame,
+                    opened,
+                })),
+                symbol => after_factor(alloc, fraction(num, den), frame, opened, symbol),
+            },
+            Part::Letter(basis) => match symbol {
+                Symbol::OpenList => Ok(Some(Builder {
+                    part: Part::List(basis, Vec::new(alloc)),
+                    frame,
+                    opened,
+                })),
+                _ => Ok(None),
+            },
+            Part::List(basis, numbers) => in_list(alloc, basis, numbers, frame, opened, symbol),
+            Part::Entry(basis, numbers, value) => in_entry(
+                alloc, basis, numbers, value, frame, opened, symbol,
+            ),
+            Part::Closed(factor) => after_factor(alloc, factor, frame, opened, symbol),
+        }
+    }
+
+    // The expression that has been built, if one is there whole, where a number at its end is no offence.
+    fn finish(self, alloc: Global) -> Result<Option<Expr>, NoMemory>
+        requires { IsFine (part_in self.part) other }
+        ensures { IfOk result (λ e. option_map built_of e ≡ found builds (state_of self)) }
+    {
+        let Builder {
+            part,
+            frame,
+            opened,
+        } = self;
+        if !opened.is_empty() {
+            return Ok(None);
+        }
+        let Frame { terms, factors } = frame;
+        match part {
+            Part::Number(value) => Ok(Some(joined(alloc, terms, factors, number(value))?)),
+            Part::Denominator(num, den) => Ok(Some(joined(
+                alloc,
+                terms,
+                factors,
+                fraction(num, den),
+            )?)),
+            Part::Closed(factor) => Ok(Some(joined(alloc, terms, factors, factor)?)),
+            _ => Ok(None),
+        }
+    }
+}
+
+// After a byte that follows a number; none where it is at fault.
+fn after_number(
+    alloc: Global,
+    value: u128,
+    frame: Frame,
+    opened: Vec<Frame>,
+    symbol: Symbol,
+) -> Result<Option<Builder>, NoMemory>
+    requires { IsFine (in_number value) (symbol_in symbol) }
+    ensures { IfOk result (λ b. state_in b
+        ≡ step builds (at (in_number value) (terms_in frame.terms) (factors_in frame.factors) (opened_in opened.items)) (symbol_in symbol)) }
+{
+    match symbol {
+        Symbol::Digit(byte) => Ok(Some(Builder {
+            part: Part::Number(extended(value, byte)),
+            frame,
+            opened,
+        })),
+        Symbol::Slash => Ok(Some(Builder {
+            part: Part::Slash(value),
+            frame,
+            opened,
+        })),
+        symbol => after_factor(alloc, number(value), frame, opened, symbol),
+    }
+}
+
+// The tree of a word that is an expression whose numbers are no offence and within the greatest degree.
+pub(crate) fn build(alloc: Global, word: &[u8]) -> Result<Expr, NoMemory>
+    requires { IsBuildable word.now }
+    ensures { IfOk result (λ e. (phrase : Phrase) → SpellsPhrase word.now phrase → built_of e ≡ (tree phrase, true)) }
+{
+    let mut builder = Builder::start(alloc);
+    for byte in word {
+        match builder.after(alloc, symbol_of(*byte))? {
+            None => unreachable!(),
+            Some(next) => builder = next,
+        }
+    }
+    match builder.finish(alloc)? {
+        None => unreachable!(),
+        Some(tree) => Ok(tree),
+    }
+}

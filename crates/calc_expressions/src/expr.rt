@@ -1,0 +1,61 @@
+// The tree of an expression.
+ghost use Rattle.std.specs.Prelude.{◌≡◌, ◌≤◌, ◌↔◌, IsTrue, min};
+ghost use Rattle.sym_model.specs.Expression.{degree, nesting};
+ghost use Rattle.calc_expressions.specs.Trees.{tree_of, has_no_signs};
+
+use calc_base::Basis;
+use partitions::Partition;
+
+/// An expression: a number, a fraction that need not be in lowest terms, an atom, and what is made of these.
+#[derive(Debug, Drop)]
+pub enum Expr {
+    Number { num: i128 },
+    Fraction { num: i128, den: i128 },
+    Atom { basis: Basis, label: Partition },
+    Negation { inner: Box<Expr> },
+    Sum { left: Box<Expr>, right: Box<Expr> },
+    Difference { left: Box<Expr>, right: Box<Expr> },
+    Product { left: Box<Expr>, right: Box<Expr> },
+}
+
+// A degree above each that a formula may have: degrees are told apart below it.
+const HIGH: u16 = 21;
+
+impl Expr {
+    // Whether the nesting is at most `limit` and no number has a sign.
+    pub(crate) fn is_plain_within(&self, limit: u16) -> bool
+        ensures { IsTrue result ↔ ((nesting (tree_of self.now) ≤ limit) × IsTrue (has_no_signs self.now)) }
+    {
+        if limit == 0 {
+            return false;
+        }
+        match self {
+            Expr::Number { num } => *num >= 0,
+            Expr::Fraction { num, den } => *num >= 0 && *den > 0,
+            Expr::Atom { .. } => true,
+            Expr::Negation { inner } => inner.is_plain_within(limit - 1),
+            Expr::Sum { left, right }
+            | Expr::Difference { left, right }
+            | Expr::Product { left, right } => {
+                left.is_plain_within(limit - 1) && right.is_plain_within(limit - 1)
+            }
+        }
+    }
+
+    // The degree, or `HIGH` where it is greater.
+    pub(crate) fn capped_degree(&self) -> u16
+        ensures { result ≡ min 21 (degree (tree_of self.now)) }
+    {
+        match self {
+            Expr::Number { .. } | Expr::Fraction { .. } => 0,
+            Expr::Atom { label, .. } => label.size().min(HIGH),
+            Expr::Negation { inner } => inner.capped_degree(),
+            Expr::Sum { left, right } | Expr::Difference { left, right } => {
+                left.capped_degree().max(right.capped_degree())
+            }
+            Expr::Product { left, right } => (left.capped_degree() + right.capped_degree()).min(
+                HIGH,
+            ),
+        }
+    }
+}

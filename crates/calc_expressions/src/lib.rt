@@ -1,0 +1,16 @@
+//! Expressions: how a word is read as one, and their degrees and weights.
+#![tactic(auto)]
+
+mod builder;
+mod expr;
+mod formula;
+mod offence;
+mod reading;
+mod scan;
+mod symbol;
+mod weigh;
+
+pub use calc_base::{Basis, Weight};
+pub use expr::Expr;
+pub use formula::{Formula, degree_limit};
+pub use reading::{ExpressionFault, read_expression, wrong_byte};

@@ -1,0 +1,119 @@
+// The weights of expressions, in numbers of 128 bits.
+ghost use Rattle.std.specs.Prelude.{◌≡◌, ◌+◌, ◌*◌, ◌/◌, ◌^◌, ◌<◌, ◌≤◌, IsTrue, SomeIff, MatchOption};
+ghost use Rattle.sym_model.specs.Canonical.{gcd};
+ghost use Rattle.sym_model.specs.Expression.{denominator, degree as degree_of};
+ghost use Rattle.sym_model.specs.Weight.{numerator, factorial, growth, weight};
+ghost use Rattle.calc_expressions.specs.Trees.{basis_of, tree_of, has_no_signs};
+ghost use Rattle.calc_expressions.specs.Weights.{IsWeighed};
+
+use crate::Expr;
+use calc_base::{Basis, Weight};
+
+// The numbers of a weight are below this.
+const LIMIT: u128 = 1 << 127;
+
+// The greatest common divisor, by Euclid's rule.
+fn gcd(mut a: u128, mut b: u128) -> u128
+    ensures { result ≡ gcd a b }
+{
+    while b != 0 {
+        let rest = a % b;
+        a = b;
+        b = rest;
+    }
+    a
+}
+
+// The weight with these numbers, if they are below the limit.
+fn weight_of(num: u128, den: u128) -> Option<Weight>
+    ensures { IsWeighed result num den }
+{
+    if num < LIMIT && den < LIMIT {
+        Some(Weight { num, den })
+    } else {
+        None
+    }
+}
+
+// The weight of a sum or a difference, over the least common denominator. A denominator over the greatest common
+// divisor of both is the least common multiple over the other one.
+fn sum_weight(a: Weight, b: Weight) -> Option<Weight>
+    requires { 0 < a.den }
+    ensures { let g = gcd a.den b.den in IsWeighed result (a.num * (b.den / g) + b.num * (a.den / g)) (a.den / g * b.den) }
+{
+    let common = gcd(a.den, b.den);
+    let from_a = b.den / common;
+    let from_b = a.den / common;
+    let den = from_b.checked_mul(b.den)?;
+    let a_num = a.num.checked_mul(from_a)?;
+    let b_num = b.num.checked_mul(from_b)?;
+    weight_of(a_num.checked_add(b_num)?, den)
+}
+
+// The weight of a product.
+fn product_weight(a: Weight, b: Weight) -> Option<Weight>
+    ensures { IsWeighed result (a.num * b.num) (a.den * b.den) }
+{
+    weight_of(a.num.checked_mul(b.num)?, a.den.checked_mul(b.den)?)
+}
+
+impl Expr {
+    // The two numbers of the weight; none exactly where one of them is 2^127 or more.
+    pub(crate) fn weigh(&self) -> Option<Weight>
+        requires { IsTrue (has_no_signs self.now) }
+        ensures { IsWeighed result (numerator (tree_of self.now)) (denominator (tree_of self.now)) }
+    {
+        match self {
+            Expr::Number { num } => weight_of((*num as u128).max(1), 1),
+            Expr::Fraction { num, den } => weight_of((*num as u128).max(1), *den as u128),
+            Expr::Atom { .. } => weight_of(1, 1),
+            Expr::Negation { inner } => inner.weigh(),
+            Expr::Sum { left, right } | Expr::Difference { left, right } => sum_weight(
+                left.weigh()?,
+                right.weigh()?,
+            ),
+            Expr::Product { left, right } => product_weight(left.weigh()?, right.weigh()?),
+        }
+    }
+}
+
+// d!, for the degrees of formulas.
+fn factorial(d: u16) -> u128
+    requires { d ≤ 20 }
+    ensures { result ≡ factorial d }
+{
+    let mut product: u128 = 1;
+    for k in 0..d {
+        product *= u128::from(k) + 1;
+    }
+    product
+}
+
+// How much a conversion into the target can raise the coefficients at a degree; none where that is 2^128 or more.
+fn growth(target: Basis, d: u16) -> Option<u128>
+    requires { d ≤ 20 }
+    ensures { SomeIff result (growth (basis_of target) d < 2 ^ 128) (growth (basis_of target) d) }
+{
+    let exponent = u32::from(d);
+    match target {
+        Basis::M | Basis::S => u128::from(d).checked_pow(exponent),
+        Basis::P | Basis::H | Basis::E => {
+            let power = (2 * u128::from(d)).checked_pow(exponent)?;
+            factorial(d).checked_mul(power)
+        }
+    }
+}
+
+// The weight for the target; none only where it is 2^127 or more.
+pub(crate) fn checked_weight(tree: &Expr, degree: u16, target: Basis) -> Option<u128>
+    requires plain { IsTrue (has_no_signs tree.now) }
+    requires low { degree ≤ 20 }
+    requires degree { degree ≡ degree_of (tree_of tree.now) }
+    ensures { MatchOption result
+        (2 ^ 127 ≤ weight (basis_of target) (tree_of tree.now))
+        (λ w. w ≡ weight (basis_of target) (tree_of tree.now)) }
+{
+    let numbers = tree.weigh()?;
+    let growth = growth(target, degree)?;
+    numbers.num.checked_mul(numbers.den)?.checked_mul(growth)
+}

@@ -1,0 +1,34 @@
+use Rattle.std.proofs.Common.{◌≡◌, ◌-◌, length, map, refl, sym, ap, ◌∙◌, subst, arith, ◌∷◌}
+use Rattle.std.specs.Prelude.{string_bytes, codes}
+use Rattle.std.proofs.lemmas.List.{length-map}
+use Rattle.sym_model.specs.Command.{coprod}
+use Rattle.sym_model.specs.Grammar.{coprod_words, coprod_entry}
+use Rattle.sym_model.specs.WordForms.{partition_words}
+use Rattle.sym_model.specs.Form.{EachOf}
+use Rattle.calc_words.specs.NumberRuns.{IsNumber}
+use Rattle.calc_words.specs.Standing.{WrongAt}
+use Rattle.calc_words.proofs.Standing.{wrong_the, behind_the}
+use Rattle.calc_words.proofs.Commands.{syntax_read, coprod_read}
+use Rattle.calc_words.proofs.coprod.read.Goals as goal
+
+pub returns-in_default : goal.returns-in_default
+returns-in_default c =
+    let words = map string_bytes c.args.words.now in
+    syntax_read coprod_entry coprod words (length words) 0 c.syntax.result refl
+    (wrong_the (codes "coprod") partition_words words c.in_default.ensures) (omega arith) c.syntax.ensures
+
+pub returns-in-Ok : goal.returns-in-Ok
+returns-in-Ok c =
+    let words = map string_bytes c.args.words.now in
+    let parts = map string_bytes c.in-Ok.parts.now in
+    let same : parts ≡ map string_bytes c.in-Some.rest.now = ap (map string_bytes) c.in-Ok.ensures.ok.0 in
+    coprod_read words parts c.read_partition.result (c.in-Some.ensures ∙ ap (λ ws. codes "coprod" ∷ ws) (sym same))
+    (subst (EachOf IsNumber) (sym same) c.in-Ok.ensures.ok.1) c.read_partition.ensures
+
+pub returns-in-Err : goal.returns-in-Err
+returns-in-Err c =
+    let words = map string_bytes c.args.words.now in
+    syntax_read coprod_entry coprod words c.in-Err.left (length c.args.words.now - c.in-Err.left) c.syntax-in-Err.result refl
+    (subst (λ ws. WrongAt coprod_words ws c.in-Err.left) (sym c.in-Some.ensures)
+    (behind_the (codes "coprod") partition_words (map string_bytes c.in-Some.rest.now) c.in-Err.left c.in-Err.ensures.wrong))
+    (ap (λ n. n - c.in-Err.left) (sym (length-map c.args.words.now string_bytes))) c.syntax-in-Err.ensures

@@ -1,0 +1,36 @@
+use Rattle.std.proofs.Common.{◌≡◌, ◌<◌, length, map, sym, ap, ◌∙◌, arith}
+use Rattle.std.specs.Prelude.{string_bytes}
+use Rattle.sym_model.specs.PrintedBlock.{decimal_value}
+use Rattle.sym_model.specs.WordForms.{numbers, partition}
+use Rattle.calc_words.proofs.Judging.{number_at, counted, wide_first, kind_first, goes_on}
+use Rattle.calc_words.proofs.partition_list.read_partition.Goals as goal
+
+pub returns-in_default : goal.returns-in_default
+returns-in_default c =
+    let ws = c.args.words.now in
+    let ns = numbers (map string_bytes ws) in
+    let e = number_at string_bytes decimal_value ws c.loop-count.count c.index-words-count.result c.loop-count-test.true c.index-words-count.is in
+    let h : c.loop-count.count < length ns = let x = counted string_bytes decimal_value ws in omega (arith, x) in
+    wide_first (λ p. p ≡ partition (map string_bytes ws)) c.args.at ns c.loop-count.count c.loop-count.cells _ c.loop-count.last c.loop-count.parts
+    c.loop-count.invariant h (e ∙ ap decimal_value (sym c.as_bytes.ensures.value)) (sym c.value_of.ensures ∙ c.in_default.is) c.offence.result c.offence.ensures
+
+pub returns-in-Some-part_offence : goal.returns-in-Some-part_offence
+returns-in-Some-part_offence c =
+    let ws = c.args.words.now in
+    let ns = numbers (map string_bytes ws) in
+    let e = number_at string_bytes decimal_value ws c.loop-count.count c.index-words-count.result c.loop-count-test.true c.index-words-count.is in
+    let h : c.loop-count.count < length ns = let x = counted string_bytes decimal_value ws in omega (arith, x) in
+    kind_first (λ p. p ≡ partition (map string_bytes ws)) c.args.at ns c.loop-count.count c.loop-count.cells _ c.in-Some.value c.loop-count.last c.loop-count.parts
+    c.loop-count.invariant h (e ∙ ap decimal_value (sym c.as_bytes.ensures.value)) (sym c.in-Some.is ∙ c.value_of.ensures)
+    c.in-Some-part_offence.kind (sym c.in-Some-part_offence.is ∙ c.part_offence.ensures)
+    c.offence-in-Some-part_offence.result c.offence-in-Some-part_offence.ensures
+
+pub loop-count-preserved : goal.loop-count-preserved
+loop-count-preserved c =
+    let ws = c.args.words.now in
+    let ns = numbers (map string_bytes ws) in
+    let e = number_at string_bytes decimal_value ws c.loop-count.count c.index-words-count.result c.loop-count-test.true c.index-words-count.is in
+    let h : c.loop-count.count < length ns = let x = counted string_bytes decimal_value ws in omega (arith, x) in
+    goes_on c.args.at ns c.loop-count.count c.loop-count.cells _ c.in-Some.value c.loop-count.last c.loop-count.parts
+    c.loop-count.invariant h (e ∙ ap decimal_value (sym c.as_bytes.ensures.value)) (sym c.in-Some.is ∙ c.value_of.ensures)
+    (sym c.part_offence.ensures ∙ c.in_default-part_offence.is)

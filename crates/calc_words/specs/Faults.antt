@@ -1,0 +1,12 @@
+-- The refusals of the words of a command (this project's own).
+use Rattle.std.specs.Prelude.{ℕ}
+use Rattle.calc_base.specs.declared.words.WordsFault.{WordsFault}
+use Rattle.calc_base.specs.declared.words.WordsFault.TheVariants.{Literal, Range, Shape}
+use Rattle.calc_words.specs.declared.offence.Kind.{Kind}
+use Rattle.calc_words.specs.declared.offence.Kind.TheVariants.{Literal as Wide, Range as Past, Shape as Misshapen}
+
+-- the refusal of the number that is this word
+abbrev pub fault_of : ℕ → Kind → WordsFault
+fault_of word Wide = Literal (record { word = word; byte = 0 })
+fault_of word Past = Range (record { word = word; byte = 0 })
+fault_of word Misshapen = Shape (record { word = word; byte = 0 })

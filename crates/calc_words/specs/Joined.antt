@@ -1,0 +1,16 @@
+-- A command among others, whose names tell them apart (this project's own).
+use Rattle.std.specs.Prelude.{◌≡◌, ℕ, List, ◌∷◌}
+use Rattle.sym_model.specs.Sum.{Among}
+use Rattle.sym_model.specs.Form.{Has, Awaits}
+use Rattle.sym_model.specs.Entry.{Entry}
+
+-- words of the command begin with its name
+pub record Named (e : Entry) : Type 0 where
+  pub spells : (words : List (List ℕ)) → Has e.form words → (rest : List (List ℕ)) × (words ≡ e.name ∷ rest)
+  pub awaits : (words : List (List ℕ)) → Awaits e.form words → (rest : List (List ℕ)) × (words ≡ e.name ∷ rest)
+
+-- the command is one of these, and no other of them has its name
+pub record Joined (e : Entry) (entries : List Entry) : Type 0 where
+  pub among : Among e entries
+  pub alone : (f : Entry) → Among f entries → f.name ≡ e.name → f ≡ e
+  pub named : (f : Entry) → Among f entries → Named f

@@ -1,0 +1,9 @@
+pub mod NumberRuns
+pub mod Reading
+pub mod Faults
+pub mod PartRules
+pub mod Standing
+pub mod Rows
+pub mod Entries
+pub mod ReadShapes
+pub mod Joined

@@ -1,0 +1,49 @@
+-- What the words of a command are read as, for any list of commands (this project's own).
+use Rattle.std.specs.Prelude.{◌≡◌, ℕ, List, Option, Some, None, Result, Ok, Err, ◌⊎◌}
+use Rattle.sym_model.specs.ExpressionOffence.{literal, range, shape}
+use Rattle.sym_model.specs.Command.{Command}
+use Rattle.sym_model.specs.CommandOffence.{Offence}
+use Rattle.sym_model.specs.Entry.{Entry, HasFirstOffence, SpellsWithoutOffence}
+use Rattle.sym_model.specs.SyntaxPlace.{IsSyntaxPlace}
+use Rattle.calc_base.specs.declared.words.WordsFault.{WordsFault}
+use Rattle.calc_base.specs.declared.words.WordsFault.TheVariants.{Syntax, Literal, Range, Shape, NoMemory}
+
+-- the words say this command without offence, or go wrong or first offend at this place; want of memory says nothing of them
+abbrev pub IsRead : {A : Type 0} → List Entry → (A → Command) → List (List ℕ) → Result A WordsFault → Type 0
+IsRead entries says words (Ok answer) = SpellsWithoutOffence entries words (says answer)
+IsRead entries says words (Err (Syntax at)) = IsSyntaxPlace entries words at.word at.byte
+IsRead entries says words (Err (Literal at)) = HasFirstOffence entries words (Some (at.word, at.byte, literal))
+IsRead entries says words (Err (Range at)) = HasFirstOffence entries words (Some (at.word, at.byte, range))
+IsRead entries says words (Err (Shape at)) = HasFirstOffence entries words (Some (at.word, at.byte, shape))
+IsRead entries says words (Err NoMemory) = Unit {0}
+
+-- the answer has the property and there is no offence, or the refusal is that of the first one; want of memory says nothing
+abbrev pub IsJudged : {A : Type 0} → (A → Type 0) → Option Offence → Result A WordsFault → Type 0
+IsJudged P first (Ok answer) = P answer × (first ≡ None)
+IsJudged P first (Err (Syntax at)) = ⊥
+IsJudged P first (Err (Literal at)) = first ≡ Some (at.word, at.byte, literal)
+IsJudged P first (Err (Range at)) = first ≡ Some (at.word, at.byte, range)
+IsJudged P first (Err (Shape at)) = first ≡ Some (at.word, at.byte, shape)
+IsJudged P first (Err NoMemory) = Unit {0}
+
+-- the refusal names the offence
+abbrev pub IsFaultOf : Offence → WordsFault → Type 0
+IsFaultOf o (Literal at) = o ≡ (at.word, at.byte, literal)
+IsFaultOf o (Range at) = o ≡ (at.word, at.byte, range)
+IsFaultOf o (Shape at) = o ≡ (at.word, at.byte, shape)
+IsFaultOf o _ = ⊥
+
+-- the command is accepted, but for want of memory
+abbrev pub Accepts : {A : Type 0} → (A → Command) → Command → Result A WordsFault → Type 0
+Accepts says c (Ok answer) = says answer ≡ c
+Accepts says c (Err fault) = fault ≡ NoMemory
+
+-- the offence is refused, but for want of memory
+abbrev pub Refuses : {A : Type 0} → Offence → Result A WordsFault → Type 0
+Refuses o (Ok answer) = ⊥
+Refuses o (Err fault) = IsFaultOf o fault ⊎ (fault ≡ NoMemory)
+
+-- words that go wrong at a place are refused there, but for want of memory
+abbrev pub GoesWrong : {A : Type 0} → ℕ → ℕ → Result A WordsFault → Type 0
+GoesWrong word byte (Ok answer) = ⊥
+GoesWrong word byte (Err fault) = (fault ≡ Syntax (record { word = word; byte = byte })) ⊎ (fault ≡ NoMemory)

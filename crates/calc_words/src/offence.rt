@@ -1,0 +1,34 @@
+// Refusals of the words of a command.
+ghost use Rattle.std.specs.Prelude.{◌≡◌};
+ghost use Rattle.calc_words.specs.Faults.{fault_of};
+
+use calc_base::{Place, WordsFault};
+
+// What a number offends by.
+#[derive(Clone, Copy, Debug)]
+pub(crate) enum Kind {
+    Literal,
+    Range,
+    Shape,
+}
+
+// Words that are no command, at this word.
+pub(crate) fn syntax(word: u64) -> WordsFault
+    ensures { result ≡ WordsFault.Syntax (record { word = word; byte = 0 }) }
+{
+    WordsFault::Syntax {
+        at: Place { word, byte: 0 },
+    }
+}
+
+// The refusal of the number that is this word.
+pub(crate) fn offence(word: u64, kind: Kind) -> WordsFault
+    ensures { result ≡ fault_of word kind }
+{
+    let at = Place { word, byte: 0 };
+    match kind {
+        Kind::Literal => WordsFault::Literal { at },
+        Kind::Range => WordsFault::Range { at },
+        Kind::Shape => WordsFault::Shape { at },
+    }
+}

@@ -1,0 +1,72 @@
+// Partitions as they are written.
+ghost use Rattle.std.specs.Prelude.{◌≡◌, ◌≤◌, ◌<◌, ◌+◌, ◌^◌, map, length, string_bytes, IfOk, IfErr};
+ghost use Rattle.sym_model.specs.Partition.{without_last_zeros};
+ghost use Rattle.sym_model.specs.CommandOffence.{first_offence, part_offences};
+ghost use Rattle.sym_model.specs.WordForms.{numbers as numbers_of, partition};
+ghost use Rattle.calc_words.specs.PartRules.{part_kind};
+ghost use Rattle.calc_words.specs.Reading.{IsJudged};
+
+use crate::numbers::value_of;
+use crate::offence::{Kind, offence};
+use calc_base::WordsFault;
+use partitions::Partition;
+use std::alloc::Global;
+
+// The most numbers of a partition that is written, and the most cells.
+const MOST_PARTS: usize = 64;
+
+const MOST_CELLS: u128 = 512;
+
+// What a number offends by that stands behind so many with so many cells, the last of them this one.
+fn part_offence(count: usize, cells: u16, last: Option<u16>, value: u128) -> Option<Kind>
+    requires { value < 2 ^ 127 }
+    ensures { result ≡ part_kind count cells last value }
+{
+    if count == MOST_PARTS || u128::from(cells) + value > MOST_CELLS {
+        return Some(Kind::Range);
+    }
+    match last {
+        Some(last) if value > u128::from(last) => Some(Kind::Shape),
+        _ => None,
+    }
+}
+
+// The partition of numbers that are known to be one, so that only memory can be wanting.
+fn partition_of(alloc: Global, parts: &[u16]) -> Result<Partition, WordsFault>
+    ensures ok { IfOk result (λ p. p ≡ without_last_zeros parts.now) }
+    ensures err { IfErr result (λ fault. fault ≡ WordsFault.NoMemory) }
+{
+    match Partition::from_parts(alloc, parts) {
+        Ok(partition) => Ok(partition),
+        Err(_) => Err(WordsFault::NoMemory),
+    }
+}
+
+// The partition of the numbers that are these words, the first of which is the word `at`, or their first offence.
+pub(crate) fn read_partition(
+    alloc: Global,
+    at: u64,
+    words: &[String],
+) -> Result<Partition, WordsFault>
+    requires { at + length words.now < 2 ^ 64 }
+    ensures { IsJudged (λ p. p ≡ partition (map string_bytes words.now))
+        (first_offence (part_offences at (numbers_of (map string_bytes words.now)))) result }
+{
+    let mut parts: [u16; MOST_PARTS] = [0; MOST_PARTS];
+    let mut cells: u16 = 0;
+    let mut last: Option<u16> = None;
+    for (count, word) in words.iter().enumerate() {
+        let place = at + count as u64;
+        let Some(value) = value_of(word.as_bytes()) else {
+            return Err(offence(place, Kind::Literal));
+        };
+        if let Some(kind) = part_offence(count, cells, last, value) {
+            return Err(offence(place, kind));
+        }
+        let part = value as u16;
+        parts[count] = part;
+        cells += part;
+        last = Some(part);
+    }
+    partition_of(alloc, &parts[..words.len()])
+}
