@@ -1,0 +1,12 @@
+pub mod PhraseAtoms
+pub mod WholeLists
+pub mod Bounds
+pub mod PartitionTerms
+pub mod ListedTerms
+pub mod TableSums
+pub mod CommonMultiples
+pub mod Conversions
+pub mod AtomLists
+pub mod Quotients
+pub mod DividedLists
+pub mod TreeFacts

@@ -1,0 +1,84 @@
+-- The partitions of a number one after another, as terms with the coefficient 1.
+use Rattle.std.proofs.Common.{◌≡◌, ℕ, zero, suc, ◌≤◌, List, [], ◌∷◌, ◌++◌, map, replicate, sym, ◌∙◌, ap, subst, refl, inl, inr, arith, append_assoc, pos, cond}
+use Rattle.std.specs.Prelude.{Option, Some}
+use Rattle.std.specs.Option.{option_to_list}
+use Rattle.std.proofs.lemmas.List.{map-append}
+use Rattle.sym_model.specs.Sum.{Among, Once}
+use Rattle.sym_model.specs.Polynomial.{Term, same, coefficient}
+use Rattle.sym_model.specs.Partition.{IsPartition, ArePositive, size}
+use Rattle.sym_model.specs.PartitionList.{partitions_of}
+use Rattle.sym_model.specs.WholeTerms.{WholeTerms}
+use Rattle.sym_model.proofs.Sums.{total_map, total_none}
+use Rattle.sym_model.proofs.Exponents.{same_apart}
+use Rattle.sym_model.proofs.SortedParts.{rows_within_size}
+use Rattle.sym_model.proofs.PartitionLists.{partitions_of-tells, Once-FallsLexicographically, FallsLexicographically-partitions_within}
+use Rattle.monomial_laws.proofs.AtomTerms.{size-ones, Falls-ones}
+use Rattle.partitions.specs.Limits.{IsWithinLimits}
+
+-- the labels with the coefficient 1
+abbrev pub ones : List (List ℕ) → WholeTerms
+ones labels = map (λ (parts : List ℕ). (parts, pos 1)) labels
+
+pub ones-push : (labels : List (List ℕ)) (label : List ℕ) → ones labels ++ (label, pos 1) ∷ [] ≡ ones (labels ++ label ∷ [])
+ones-push labels label = sym (map-append (λ (parts : List ℕ). (parts, pos 1)) labels (label ∷ []))
+
+-- the current label comes behind those before it, and before the rest
+pub listed_on : (before old new all : List (List ℕ)) (item : Option (List ℕ)) (label : List ℕ) → before ++ old ≡ all
+    → old ≡ option_to_list item ++ new → item ≡ Some label → before ++ (label ∷ new) ≡ all
+listed_on before old new all item label e next current =
+    ap (λ t. before ++ t) (ap (λ o. option_to_list o ++ new) (sym current) ∙ sym next) ∙ e
+
+Among-after : (before : List (List ℕ)) (label : List ℕ) (new : List (List ℕ)) → Among label (before ++ (label ∷ new))
+Among-after [] label new = inl refl
+Among-after (l ∷ before) label new = inr (Among-after before label new)
+
+Among-before : (before : List (List ℕ)) (label x : List ℕ) (new : List (List ℕ)) → Among x before → Among x (before ++ new)
+Among-before [] label x new m = absurd m
+Among-before (l ∷ before) label x new (inl e) = inl e
+Among-before (l ∷ before) label x new (inr m) = inr (Among-before before label x new m)
+
+-- it is one of the partitions
+pub listed_partition : (before new : List (List ℕ)) (d : ℕ) (label : List ℕ) → before ++ (label ∷ new) ≡ partitions_of d → IsPartition label × (size label ≡ d)
+listed_partition before new d label e =
+    let P : List (List ℕ) → Type 0 = λ l. Among label l in
+    let t = partitions_of-tells d label (subst P e (Among-after before label new)) in (t.0, t.1)
+
+pub IsWithinLimits-low : (parts : List ℕ) → IsPartition parts → size parts ≤ 512 → IsWithinLimits parts
+IsWithinLimits-low parts p h = record { partition = p; few = let r = rows_within_size parts p.positive in omega arith; small = omega arith }
+
+pub IsWithinLimits-listed : (before new : List (List ℕ)) (d : ℕ) (label : List ℕ) → d ≤ 512 → before ++ (label ∷ new) ≡ partitions_of d → IsWithinLimits label
+IsWithinLimits-listed before new d label h e =
+    let t = listed_partition before new d label e in
+    let s = t.1 in
+    IsWithinLimits-low label t.0 (omega arith)
+
+-- and is not among those before it
+once_before : (before new : List (List ℕ)) (label : List ℕ) → Once (before ++ (label ∷ new)) → Among label before → ⊥
+once_before [] new label o m = m
+once_before (l ∷ before) new label o (inl e) = o.0 (subst (λ x. Among x (before ++ (label ∷ new))) e (Among-after before label new))
+once_before (l ∷ before) new label o (inr m) = once_before before new label o.1 m
+
+coefficient-absent : (labels : List (List ℕ)) (label : List ℕ) → (Among label labels → ⊥) → coefficient (ones labels) label ≡ pos 0
+coefficient-absent labels label n =
+    total_map (λ (t : Term). cond (same t.0 label) t.1 (pos 0)) (λ (parts : List ℕ). (parts, pos 1)) labels
+    ∙ total_none (λ (parts : List ℕ). cond (same parts label) (pos 1) (pos 0)) labels
+    (λ parts m. ap (λ b. cond b (pos 1) (pos 0)) (same_apart parts label (λ e. n (subst (λ x. Among x labels) e m))))
+
+pub coefficient-listed : (before new : List (List ℕ)) (d : ℕ) (label : List ℕ) → before ++ (label ∷ new) ≡ partitions_of d → coefficient (ones before) label ≡ pos 0
+coefficient-listed before new d label e =
+    coefficient-absent before label
+    (once_before before new label
+    (let P : List (List ℕ) → Type 0 = λ l. Once l in
+    subst P (sym e) (Once-FallsLexicographically (partitions_of d) (FallsLexicographically-partitions_within d d d))))
+
+pub listed_next : (before new all : List (List ℕ)) (label : List ℕ) → before ++ (label ∷ new) ≡ all → (before ++ label ∷ []) ++ new ≡ all
+listed_next before new all label e = append_assoc before (label ∷ []) new ∙ e
+
+-- k ones
+positive-ones : (k : ℕ) → ArePositive (replicate k 1)
+positive-ones zero = tt
+positive-ones (suc k) = (omega arith, positive-ones k)
+
+pub IsWithinLimits-ones : (k : ℕ) → k ≤ 512 → IsWithinLimits (replicate k 1)
+IsWithinLimits-ones k h =
+    IsWithinLimits-low (replicate k 1) (record { falls = Falls-ones k; positive = positive-ones k }) (omega (arith, size-ones k))

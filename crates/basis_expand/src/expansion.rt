@@ -1,0 +1,35 @@
+//! The expansion of an expression in m.
+ghost use Rattle.std.specs.Prelude.{◌≡◌, ℕ, ◌^◌, ◌≤◌, IfOk, IsErrOf};
+ghost use Rattle.sym_model.specs.Expansion.{monomials, IsExpansionOf};
+ghost use Rattle.sym_model.specs.Expression.{cleared_value, degree, denominator};
+ghost use Rattle.sym_model.specs.ListWeight.{IsBounded};
+ghost use Rattle.sym_model.specs.Weight.{numerator, weight};
+ghost use Rattle.calc_expressions.specs.Trees.{tree_of};
+ghost use Rattle.basis_expand.specs.LabelSizes.{AreWithin};
+ghost use Rattle.basis_expand.specs.ReadableAtoms.{HasReadableAtoms};
+
+use crate::conversion::converted;
+use crate::division::divided;
+use calc_base::SumFault;
+use calc_expressions::Formula;
+use coeff_rings::Frac;
+use partitions::Partition;
+use sparse_polys::Lin;
+use std::alloc::Global;
+
+/// The expansion of a formula in m, in every number of variables. Its coefficients are bounded by the two numbers of the
+/// formula's weight.
+///
+/// It is refused as `Large` only where the weight for the target m is 2^127 or more. The atoms are those that an expression
+/// of words can have, in m, e, h and p.
+pub fn to_monomial(alloc: Global, formula: &Formula) -> Result<Lin<Partition, Frac>, SumFault>
+    requires { HasReadableAtoms (tree_of formula.now.tree) }
+    ensures value { let e = tree_of formula.now.tree in
+        IfOk result (λ list. (n : ℕ) → IsExpansionOf monomials list n (cleared_value e n) (denominator e)) }
+    ensures bounded { let e = tree_of formula.now.tree in IfOk result (IsBounded (numerator e) (denominator e)) }
+    ensures labels { IfOk result (AreWithin (degree (tree_of formula.now.tree))) }
+    ensures large { IsErrOf result SumFault.Large → 2 ^ 127 ≤ weight monomials (tree_of formula.now.tree) }
+{
+    let converted = converted(alloc, formula.tree())?;
+    divided(alloc, &converted.terms, converted.den)
+}

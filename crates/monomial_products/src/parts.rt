@@ -1,0 +1,47 @@
+// Single parts of a partition.
+ghost use Rattle.std.specs.Prelude.{◌≡◌, ◌<◌, ◌^◌, IfOk};
+ghost use Rattle.sym_model.specs.Bases.{has};
+ghost use Rattle.sym_model.specs.Partition.{size};
+ghost use Rattle.sym_model.specs.RaisedPart.{without_one};
+
+use std::alloc::{AllocError, Global};
+
+// Whether the number is a part.
+pub(crate) fn has_part(parts: &[u16], part: u16) -> bool
+    ensures { result ≡ has part parts.now }
+{
+    for p in parts {
+        if *p == part {
+            return true;
+        }
+    }
+    false
+}
+
+// The parts without the first one that is the number.
+pub(crate) fn without_part(alloc: Global, parts: &[u16], part: u16) -> Result<Vec<u16>, AllocError>
+    ensures { IfOk result (λ rest. rest.items ≡ without_one part parts.now) }
+{
+    let mut rest = Vec::new(alloc);
+    let mut found = false;
+    for p in parts {
+        if !found && *p == part {
+            found = true;
+        } else {
+            rest.push(*p)?;
+        }
+    }
+    Ok(rest)
+}
+
+// The sum of the parts.
+pub(crate) fn size_of(parts: &[u16]) -> u16
+    requires { size parts.now < 2 ^ 16 }
+    ensures { result ≡ size parts.now }
+{
+    let mut sum = 0;
+    for p in parts {
+        sum += *p;
+    }
+    sum
+}
