@@ -1,0 +1,190 @@
+-- Columns that are added letter by letter are those that may be next.
+use Rattle.std.proofs.Common.{◌≡◌, ℕ, zero, suc, ◌+◌, ◌-◌, ◌<◌, ◌≤◌, ◌==◌, ◌⊎◌, inl, inr, nat_le, Bool, true, false, cond, ◌&&◌, List, [], ◌∷◌, ◌++◌, append_assoc, append-nil, map, length, take, drop, refl, sym, ap, ap₂, ◌∙◌, arith}
+use Rattle.std.proofs.lemmas.Bool.{cases_lt, cases_eq, lt-ltb, le-ltb, le-leb, lt-leb, ne_eqb, eq-eqb}
+use Rattle.sym_model.specs.Partition.{after}
+use Rattle.sym_model.specs.Polynomial.{join, resize}
+use Rattle.sym_model.specs.Schur.{times_in, content}
+use Rattle.sym_model.specs.GoodTableau.{is_falling}
+use Rattle.tableau_laws.specs.PaddedRows.{letters_at, words_over}
+use Rattle.tableau_laws.specs.Grid.{is_chain, may_precede, pass_by_place, may_stand_above}
+use Rattle.tableau_laws.specs.ColumnFold.{may_be_next}
+use Rattle.tableau_laws.proofs.ColumnCounts.{sum_at_start}
+use Rattle.lr_product.specs.WeighedSum.{sum_over, next_states}
+use Rattle.lr_product.specs.Extension.{numbers_from, greatest_letter, least_letter, letters_end, raised, extended}
+use Rattle.lr_product.proofs.Raising.{take_all, length-raised}
+use Rattle.lr_product.proofs.Ranges.{sum-ext, sum-each, sum-map, sum-under, after-numbers, range-passing, numbers-ext}
+
+-- ---- sums and contents
+
+resize_same : (n : ℕ) (ν : List ℕ) → length ν ≡ n → resize n ν ≡ ν
+resize_same zero [] e = refl
+resize_same zero (a ∷ ν) e = absurd (omega arith)
+resize_same (suc n) [] e = absurd (omega arith)
+resize_same (suc n) (a ∷ ν) e = ap (λ l. a ∷ l) (resize_same n ν (omega arith))
+
+pub join-nothing : (n : ℕ) (ν : List ℕ) → length ν ≡ n → join ν (content n []) ≡ ν
+join-nothing n ν e = sum_at_start n ν (omega arith) ∙ resize_same n ν e
+
+raise_from : (i b : ℕ) (ν c : List ℕ) (m : ℕ) → length ν ≡ m
+    → join ν (map (λ k. cond (b == k) 1 0 + times_in k c) (after i m)) ≡ join (raised (b - i) ν) (map (λ k. times_in k c) (after i m))
+raise_from i b [] c zero e = by (b - i)
+  where
+    by : (x : ℕ) → [] ≡ join (raised x []) []
+    by zero = refl
+    by (suc x) = refl
+raise_from i b [] c (suc m) e = absurd (omega arith)
+raise_from i b (x ∷ ν) c zero e = absurd (omega arith)
+raise_from i b (x ∷ ν) c (suc m) e = by (cases_lt b (i + 1)) (cases_eq b (i + 1)) (raise_from (i + 1) b ν c m (omega arith))
+  where
+    head : (t : Bool) (y : ℕ) → x + (cond t 1 0) ≡ y → x + (cond t 1 0 + times_in (i + 1) c) ≡ y + times_in (i + 1) c
+    head t y h = omega arith
+
+    by : (b < i + 1) ⊎ (i + 1 ≤ b) → (b ≡ i + 1) ⊎ (b ≡ i + 1 → ⊥)
+        → join ν (map (λ k. cond (b == k) 1 0 + times_in k c) (after (i + 1) m)) ≡ join (raised (b - (i + 1)) ν) (map (λ k. times_in k c) (after (i + 1) m))
+        → (x + (cond (b == (i + 1)) 1 0 + times_in (i + 1) c)) ∷ join ν (map (λ k. cond (b == k) 1 0 + times_in k c) (after (i + 1) m))
+        ≡ join (raised (b - i) (x ∷ ν)) (times_in (i + 1) c ∷ map (λ k. times_in k c) (after (i + 1) m))
+    by (inl l) d rest =
+        let z : b - i ≡ 0 = omega arith in
+        let y : b - (i + 1) ≡ 0 = omega arith in
+        ap₂ ◌∷◌ (ap (λ t. x + (cond t 1 0 + times_in (i + 1) c)) (ne_eqb b (i + 1) (λ q. absurd (omega arith))) ∙ (let h : x + (0 + times_in (i + 1) c) ≡ x + times_in (i + 1) c = omega arith in h))
+        (rest ∙ ap (λ k. join (raised k ν) (map (λ j. times_in j c) (after (i + 1) m))) y)
+        ∙ ap (λ k. join (raised k (x ∷ ν)) (times_in (i + 1) c ∷ map (λ j. times_in j c) (after (i + 1) m))) (sym z)
+    by (inr l) (inl q) rest =
+        let z : b - i ≡ 1 = omega arith in
+        let y : b - (i + 1) ≡ 0 = omega arith in
+        ap₂ ◌∷◌ (ap (λ t. x + (cond t 1 0 + times_in (i + 1) c)) (eq-eqb b (i + 1) q) ∙ (let h : x + (1 + times_in (i + 1) c) ≡ (x + 1) + times_in (i + 1) c = omega arith in h))
+        (rest ∙ ap (λ k. join (raised k ν) (map (λ j. times_in j c) (after (i + 1) m))) y)
+        ∙ ap (λ k. join (raised k (x ∷ ν)) (times_in (i + 1) c ∷ map (λ j. times_in j c) (after (i + 1) m))) (sym z)
+    by (inr l) (inr d) rest =
+        let z : b - i ≡ suc (suc (b - (i + 2))) = omega (arith, d) in
+        let y : b - (i + 1) ≡ suc (b - (i + 2)) = omega (arith, d) in
+        ap₂ ◌∷◌ (ap (λ t. x + (cond t 1 0 + times_in (i + 1) c)) (ne_eqb b (i + 1) d) ∙ (let h : x + (0 + times_in (i + 1) c) ≡ x + times_in (i + 1) c = omega arith in h))
+        (rest ∙ ap (λ k. join (raised k ν) (map (λ j. times_in j c) (after (i + 1) m))) y)
+        ∙ ap (λ k. join (raised k (x ∷ ν)) (times_in (i + 1) c ∷ map (λ j. times_in j c) (after (i + 1) m))) (sym z)
+
+pub join-raised : (n b : ℕ) (ν c : List ℕ) → length ν ≡ n → join ν (content n (b ∷ c)) ≡ join (raised b ν) (content n c)
+join-raised n b ν c e = raise_from 0 b ν c n e ∙ ap (λ k. join (raised k ν) (content n c)) (let z : b - 0 ≡ b = omega arith in z)
+
+raised-append : (b : ℕ) (ν w : List ℕ) → b ≤ length ν → raised b (ν ++ w) ≡ raised b ν ++ w
+raised-append zero ν w h = refl
+raised-append (suc b) [] w h = absurd (omega arith)
+raised-append (suc zero) (a ∷ ν) w h = refl
+raised-append (suc (suc b)) (a ∷ ν) w h = ap (λ l. a ∷ l) (raised-append (suc b) ν w (omega arith))
+
+drop_all : (s w : List ℕ) → drop (length s) (s ++ w) ≡ w
+drop_all [] [] = refl
+drop_all [] (a ∷ w) = refl
+drop_all (a ∷ s) w = drop_all s w
+
+-- ---- one letter
+
+-- whether a letter is at most its right neighbour
+abbrev fits : ℕ → List ℕ → Bool
+fits b [] = true
+fits b (r ∷ right) = nat_le b r
+
+pass-cons : (b : ℕ) (c right : List ℕ) → pass_by_place nat_le (b ∷ c) right ≡ fits b right && pass_by_place nat_le c (drop 1 right)
+pass-cons b [] [] = refl
+pass-cons b (x ∷ c) [] = refl
+pass-cons b c (r ∷ []) = refl
+pass-cons b c (r ∷ s ∷ right) = refl
+
+regroup : (above chain fit pass falls : Bool) → ((above && chain) && ((fit && pass) && falls)) ≡ ((above && fit) && (chain && (pass && falls)))
+regroup above chain fit pass falls = grind arith
+
+cond_and : (p q : Bool) (x : ℕ) → cond (p && q) x 0 ≡ cond p (cond q x 0) 0
+cond_and true q x = refl
+cond_and false q x = refl
+
+-- the letters for a place, below a and left of right, are those of a range
+letters-range : (n : ℕ) (p : Bool) (a : ℕ) (right : List ℕ) (S : ℕ → ℕ) → a ≤ n
+    → sum_over (λ b. cond (may_stand_above a b && fits b right) (S b) 0) (letters_at n p)
+    ≡ sum_over S (numbers_from (least_letter p a) (letters_end n p right a - least_letter p a))
+letters-range n false zero right S h = ap (λ t. cond t (S 0) 0 + 0) (fits-zero right)
+  where
+    fits-zero : (r : List ℕ) → fits 0 r ≡ true
+    fits-zero [] = refl
+    fits-zero (x ∷ r) = le-leb 0 x (omega arith)
+letters-range n false (suc a) right S h =
+    ap (λ t. cond (t && fits 0 right) (S 0) 0 + 0) (le-ltb (suc a) (0 + (1 - suc a)) (omega arith))
+    ∙ sym (ap (λ t. sum_over S (numbers_from 0 (cond t 1 0 - 0))) (ne_eqb (suc a) 0 (λ q. absurd (omega arith))))
+letters-range n true a right S h =
+    ap (sum_over (λ b. cond (may_stand_above a b && fits b right) (S b) 0)) (after-numbers 0 n)
+    ∙ range-passing (λ b. may_stand_above a b && fits b right) S (greatest_letter n right + 1) 1 (a + 1) n (omega arith)
+    (λ b l g. ap (λ t. t && fits b right) (le-ltb a (b + (1 - a)) (omega arith)))
+    (λ b l g. ap₂ (λ (s t : Bool). s && t) (lt-ltb a (b + (1 - a)) (omega arith)) (fits-yes b right (omega arith)))
+    (λ b l g q. ap₂ (λ (s t : Bool). s && t) (lt-ltb a (b + (1 - a)) (omega arith)) (fits-no b right (omega arith) (omega arith)))
+    (within right)
+  where
+    fits-yes : (b : ℕ) (r : List ℕ) → b ≤ greatest_letter n r → fits b r ≡ true
+    fits-yes b [] g = refl
+    fits-yes b (x ∷ r) g = le-leb b x (omega arith)
+
+    fits-no : (b : ℕ) (r : List ℕ) → greatest_letter n r < b → b ≤ n → fits b r ≡ false
+    fits-no b [] g q = absurd (omega arith)
+    fits-no b (x ∷ r) g q = lt-leb b x (omega arith)
+
+    within : (r : List ℕ) → greatest_letter n r + 1 ≤ 1 + n
+    within [] = omega arith
+    within (x ∷ r) = omega arith
+
+end-within : (n : ℕ) (p : Bool) (right : List ℕ) (a : ℕ) → letters_end n p right a ≤ n + 1
+end-within n true [] a = omega arith
+end-within n true (r ∷ right) a = omega arith
+end-within n false right a = by (a == 0)
+  where
+    by : (t : Bool) → cond t 1 0 ≤ n + 1
+    by true = omega arith
+    by false = omega arith
+
+-- ---- whole columns
+
+-- a column below a letter that goes on from a state
+abbrev goes_on : ℕ → List ℕ → ℕ → (List ℕ → List ℕ → ℕ) → List ℕ → List ℕ → List ℕ → ℕ
+goes_on n right a f ν w c =
+    cond (is_chain may_stand_above (a ∷ c) && (pass_by_place nat_le c right && is_falling (join ν (content n c)))) (f (join ν (content n c)) (w ++ c)) 0
+
+goes_on-cons : (n : ℕ) (right : List ℕ) (a : ℕ) (f : List ℕ → List ℕ → ℕ) (ν w : List ℕ) (b : ℕ) (c : List ℕ) → length ν ≡ n
+    → goes_on n right a f ν w (b ∷ c) ≡ cond (may_stand_above a b && fits b right) (goes_on n (drop 1 right) b f (raised b ν) (w ++ b ∷ []) c) 0
+goes_on-cons n right a f ν w b c e =
+    ap₂ (λ (x : Bool) (s : List ℕ). cond (is_chain may_stand_above (a ∷ b ∷ c) && (x && is_falling s)) (f s (w ++ (b ∷ c))) 0) (pass-cons b c right) (join-raised n b ν c e)
+    ∙ ap₂ (λ (x : Bool) (v : List ℕ). cond x (f (join (raised b ν) (content n c)) v) 0)
+    (regroup (may_stand_above a b) (is_chain may_stand_above (b ∷ c)) (fits b right) (pass_by_place nat_le c (drop 1 right)) (is_falling (join (raised b ν) (content n c))))
+    (sym (append_assoc w (b ∷ []) c))
+    ∙ cond_and (may_stand_above a b && fits b right) (is_chain may_stand_above (b ∷ c) && (pass_by_place nat_le c (drop 1 right) && is_falling (join (raised b ν) (content n c)))) (f (join (raised b ν) (content n c)) ((w ++ b ∷ []) ++ c))
+
+extended-words : (n : ℕ) (line : List Bool) (right : List ℕ) (a : ℕ) (f : List ℕ → List ℕ → ℕ) (ν w : List ℕ) → length ν ≡ n → a ≤ n
+    → extended n line right a f (ν ++ w) ≡ sum_over (goes_on n right a f ν w) (words_over n line)
+extended-words n [] right a f ν w e h =
+    ap₂ (λ (s v : List ℕ). cond (is_falling s) (f s v) 0)
+    (ap (λ k. take k (ν ++ w)) (sym e) ∙ take_all ν w ∙ sym (join-nothing n ν e)) (ap (λ k. drop k (ν ++ w)) (sym e) ∙ drop_all ν w ∙ sym (append-nil w))
+    ∙ (let z : goes_on n right a f ν w [] ≡ goes_on n right a f ν w [] + 0 = omega arith in z)
+extended-words n (p ∷ line) right a f ν w e h =
+    let S : ℕ → ℕ = λ b. sum_over (goes_on n (drop 1 right) b f (raised b ν) (w ++ b ∷ [])) (words_over n line) in
+    let low = least_letter p a in
+    let end = letters_end n p right a in
+    numbers-ext (λ b. extended n line (drop 1 right) b f (raised b (ν ++ w) ++ (b ∷ []))) S low (end - low)
+    (λ b l g.
+    let k = end-within n p right a in
+    let q : b ≤ n = omega arith in
+    ap (extended n line (drop 1 right) b f) (ap (λ s. s ++ (b ∷ [])) (raised-append b ν w (omega arith)) ∙ append_assoc (raised b ν) w (b ∷ []))
+    ∙ extended-words n line (drop 1 right) b f (raised b ν) (w ++ b ∷ []) (length-raised b ν ∙ e) q)
+    ∙ sym (letters-range n p a right S h)
+    ∙ sym (sum-each (goes_on n right a f ν w) (λ b. map (λ c. b ∷ c) (words_over n line)) (letters_at n p)
+    ∙ sum-ext (λ b. sum_over (goes_on n right a f ν w) (map (λ c. b ∷ c) (words_over n line))) (λ b. cond (may_stand_above a b && fits b right) (S b) 0)
+    (λ b. sum-map (goes_on n right a f ν w) (λ c. b ∷ c) (words_over n line)
+    ∙ sum-ext (λ c. goes_on n right a f ν w (b ∷ c)) (λ c. cond (may_stand_above a b && fits b right) (goes_on n (drop 1 right) b f (raised b ν) (w ++ b ∷ []) c) 0)
+    (λ c. goes_on-cons n right a f ν w b c e) (words_over n line)
+    ∙ sum-under (may_stand_above a b && fits b right) (goes_on n (drop 1 right) b f (raised b ν) (w ++ b ∷ [])) (words_over n line))
+    (letters_at n p))
+
+pub extended-next : (n : ℕ) (line : List Bool) (right : List ℕ) (f : List ℕ → List ℕ → ℕ) (ν : List ℕ) → length ν ≡ n
+    → extended n line right 0 f ν ≡ next_states n line f ν right
+extended-next n line right f ν e =
+    ap (extended n line right 0 f) (sym (append-nil ν)) ∙ extended-words n line right 0 f ν [] e (omega arith)
+    ∙ sum-ext (goes_on n right 0 f ν []) (λ c. cond (may_be_next n ν right c) (f (join ν (content n c)) c) 0)
+    (λ c. ap (λ t. cond ((t && is_chain may_stand_above c) && (pass_by_place nat_le c right && is_falling (join ν (content n c)))) (f (join ν (content n c)) c) 0) (first c)) (words_over n line)
+  where
+    first : (c : List ℕ) → may_precede may_stand_above 0 c ≡ true
+    first [] = refl
+    first (b ∷ c) = lt-ltb 0 (b + (1 - 0)) (omega arith)

@@ -1,0 +1,13 @@
+mod Agreeing
+mod Tables
+mod Raising
+mod LetterSums
+mod Lines
+mod Ranges
+mod ColumnExtension
+mod Steps
+mod Reaching
+mod ColumnsOfCounts
+mod Heights
+mod Rounds
+mod Sums

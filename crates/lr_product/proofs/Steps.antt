@@ -1,0 +1,74 @@
+-- A table with one column more: its entries one by one.
+use Rattle.std.proofs.Common.{◌≡◌, ℕ, zero, suc, ◌+◌, ◌*◌, ◌^◌, ◌<◌, ◌≤◌, ◌⊎◌, inl, inr, ◌==◌, nat_le, Bool, true, false, ◌&&◌, cond, List, [], ◌∷◌, length, take, drop, refl, sym, ap, ap₂, ◌∙◌, arith}
+use Rattle.std.specs.Prelude.{Some, slice_get}
+use Rattle.std.proofs.lemmas.Bool.{leb-true, eqb-true, cases_lt}
+use Rattle.sym_model.specs.Partition.{size}
+use Rattle.lr_product.specs.WeighedSum.{at_state, weighed, unreached}
+use Rattle.lr_product.specs.Capped.{Agree}
+use Rattle.lr_product.proofs.Agreeing.{agree_same, agree_then, agree_sum, agree_times}
+
+pub weighed-drop : (n : ℕ) (g : List ℕ → List ℕ → ℕ) (es : List (List ℕ × ℕ)) (i : ℕ) (p : List ℕ × ℕ) → slice_get es i ≡ Some p
+    → weighed n g (drop i es) ≡ p.1 * at_state n g p.0 + weighed n g (drop (i + 1) es)
+weighed-drop n g [] i p h = cc
+weighed-drop n g (e ∷ es) zero p h =
+    let here : e ≡ p = cc in
+    ap₂ (λ (x : List ℕ × ℕ) (ds : List (List ℕ × ℕ)). x.1 * at_state n g x.0 + weighed n g ds) here (none_dropped es)
+  where
+    none_dropped : (ds : List (List ℕ × ℕ)) → ds ≡ drop 0 ds
+    none_dropped [] = refl
+    none_dropped (d ∷ ds) = refl
+weighed-drop n g (e ∷ es) (suc i) p h =
+    let k : suc i + 1 ≡ suc (i + 1) = omega arith in
+    weighed-drop n g es i p h ∙ ap (λ j. p.1 * at_state n g p.0 + weighed n g (drop j (e ∷ es))) (sym k)
+
+positive_factor : (w x : ℕ) → 0 < w → w * x ≡ 0 → x ≡ 0
+positive_factor w zero h e = refl
+positive_factor zero (suc x) h e = absurd (omega arith)
+positive_factor (suc w) (suc x) h e = absurd (omega arith)
+
+pub weighed-none : (n : ℕ) (g : List ℕ → List ℕ → ℕ) (es : List (List ℕ × ℕ)) (i : ℕ) (key : List ℕ) (w : ℕ) → weighed n g es ≡ 0 → slice_get es i ≡ Some (key, w) → 0 < w → at_state n g key ≡ 0
+weighed-none n g [] i key w z h l = cc
+weighed-none n g (e ∷ es) zero key w z h l =
+    let here : e ≡ (key, w) = cc in
+    positive_factor w (at_state n g key) l (ap (λ (x : List ℕ × ℕ). x.1 * at_state n g x.0) (sym here) ∙ (let q : e.1 * at_state n g e.0 ≡ 0 = omega arith in q))
+weighed-none n g (e ∷ es) (suc i) key w z h l = weighed-none n g es i key w (omega arith) h l
+
+-- 0 where both truth values are true, else 1
+abbrev no_of : Bool → Bool → ℕ
+no_of p q = cond (p && q) 0 1
+
+pub reached-tells : (n m : ℕ) (ν right : List ℕ) → unreached n m ν right ≡ 0 → (length ν ≡ n) × (size ν ≤ m)
+reached-tells n m ν right h = by (length ν == n) (nat_le (size ν) m) refl refl h
+  where
+    by : (p q : Bool) → (length ν == n) ≡ p → nat_le (size ν) m ≡ q → no_of p q ≡ 0 → (length ν ≡ n) × (size ν ≤ m)
+    by true true e d k = (eqb-true (length ν) n e, leb-true (size ν) m d)
+    by true false e d k = absurd (omega arith)
+    by false q e d k = absurd (omega arith)
+
+pub agree_entry : (now next rest all rest' ways counted x : ℕ) → Agree (now + rest) all → rest ≡ ways * x + rest' → Agree counted ways → Agree next (now + counted * x) → Agree (next + rest') all
+agree_entry now next rest all rest' ways counted x p e a q =
+    let more = agree_sum (counted * x) (ways * x) (now + rest') (agree_times counted ways x a) in
+    agree_then _ _ _ (agree_sum next (now + counted * x) rest' q)
+    (agree_then _ _ _ (agree_same _ (counted * x + (now + rest')) (omega arith)) (agree_then _ _ _ more (agree_then _ _ _ (agree_same _ (now + rest) (omega arith)) p)))
+
+pub length_taken : (n : ℕ) (s : List ℕ) → length (take n s) ≡ n → n ≤ length s
+length_taken zero s h = omega arith
+length_taken (suc n) [] h = absurd (omega arith)
+length_taken (suc n) (a ∷ s) h = let i = length_taken n s (omega arith) in omega arith
+
+pub agree_positive : (a w : ℕ) → Agree a w → 0 < a → 0 < w
+agree_positive a (suc w) p h = omega arith
+agree_positive a zero p h = by (cases_lt a (2 ^ 127))
+  where
+    by : (a < 2 ^ 127) ⊎ (2 ^ 127 ≤ a) → 0 < 0
+    by (inl l) = let e = p.below l in omega arith
+    by (inr l) = let e = p.past l in omega arith
+
+pub weighed-past : (n : ℕ) (g : List ℕ → List ℕ → ℕ) (es : List (List ℕ × ℕ)) (i : ℕ) → length es ≤ i → weighed n g (drop i es) ≡ 0
+weighed-past n g [] zero h = refl
+weighed-past n g [] (suc i) h = refl
+weighed-past n g (e ∷ es) zero h = absurd (omega arith)
+weighed-past n g (e ∷ es) (suc i) h = weighed-past n g es i (omega arith)
+
+pub agree_past : (now rest all : ℕ) → rest ≡ 0 → Agree (now + rest) all → Agree now all
+agree_past now rest all e p = agree_then _ _ _ (agree_same now (now + rest) (omega arith)) p

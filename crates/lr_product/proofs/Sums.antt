@@ -1,0 +1,98 @@
+-- The count of a sum in a table, and the counts of products.
+use Rattle.std.proofs.Common.{◌≡◌, ℕ, zero, suc, ◌+◌, ◌*◌, ◌^◌, ◌<◌, ◌≤◌, ◌==◌, Bool, true, false, cond, ◌&&◌, List, [], ◌∷◌, map, min, length, take, refl, sym, ap, ap₂, ◌∙◌, arith, pos}
+use Rattle.std.specs.Prelude.{nat_eq}
+use Rattle.std.specs.Cmp.Lexicographic.{pointwise}
+use Rattle.std.proofs.lemmas.Bool.{ne_eqb, lt-leb}
+use Rattle.std.proofs.lemmas.Int.{ints}
+use Rattle.sym_model.specs.Sum.{select}
+use Rattle.sym_model.specs.Partition.{ArePositive, IsPartition, rows, in_front, without_last_zeros}
+use Rattle.sym_model.specs.Polynomial.{same, join, resize}
+use Rattle.sym_model.specs.Schur.{words, content, tableaux}
+use Rattle.sym_model.specs.Partition.{cells}
+use Rattle.sym_model.specs.GoodTableau.{column_reading, is_good, is_among, product_count}
+use Rattle.tableau_laws.specs.ColumnFold.{column_lines, is_sum}
+use Rattle.tableau_laws.proofs.ColumnCounts.{product_count-columns}
+use Rattle.lr_product.specs.WeighedSum.{at_state, weighed, over_states, comes_to}
+use Rattle.lr_product.specs.Capped.{Agree}
+use Rattle.lr_product.proofs.Agreeing.{agree_same, agree_then}
+use Rattle.lr_product.proofs.Steps.{agree_entry}
+use Rattle.lr_product.proofs.ColumnsOfCounts.{over-states, over-ext}
+
+pub same-whole : (s ν : List ℕ) → length s ≤ length ν → ArePositive ν → pointwise nat_eq s ν ≡ same (without_last_zeros s) ν
+same-whole [] [] h p = refl
+same-whole [] (b ∷ ν) h p = refl
+same-whole (a ∷ s) [] h p = absurd (omega arith)
+same-whole (suc a ∷ s) (b ∷ ν) h p = ap (λ t. (suc a == b) && t) (same-whole s ν (omega arith) p.1)
+same-whole (zero ∷ s) (b ∷ ν) h p =
+    let n = ne_eqb 0 b (λ e. let q = p.0 in absurd (omega arith)) in
+    ap (λ t. t && pointwise nat_eq s ν) n ∙ sym (by (without_last_zeros s) n)
+  where
+    by : (l : List ℕ) → (0 == b) ≡ false → same (in_front 0 l) (b ∷ ν) ≡ false
+    by [] n = refl
+    by (x ∷ l) n = ap (λ t. t && same (x ∷ l) ν) n
+
+length_take : (n : ℕ) (s : List ℕ) → length (take n s) ≤ n
+length_take zero [] = omega arith
+length_take zero (a ∷ s) = omega arith
+length_take (suc n) [] = omega arith
+length_take (suc n) (a ∷ s) = let i = length_take n s in omega arith
+
+pub begins : (s ν : List ℕ) → ArePositive ν → pointwise nat_eq (take (length ν) s) ν ≡ same (without_last_zeros (take (length ν) s)) ν
+begins s ν p = same-whole (take (length ν) s) ν (length_take (length ν) s) p
+
+pos_comes : (parts ν right : List ℕ) → pos (comes_to parts ν right) ≡ is_sum parts ν right
+pos_comes parts ν right = by (same (without_last_zeros ν) parts)
+  where
+    by : (t : Bool) → pos (cond t 1 0) ≡ cond t (pos 1) (pos 0)
+    by true = refl
+    by false = refl
+
+pub states-count : (k : ℕ) (λ' μ ν : List ℕ) → IsPartition λ' → IsPartition μ → rows λ' ≤ k
+    → over_states k (column_lines μ []) (comes_to ν) (resize k λ') [] ≡ product_count k λ' μ ν
+states-count k λ' μ ν p q h =
+    let e : pos (over_states k (column_lines μ []) (comes_to ν) (resize k λ') []) ≡ pos (product_count k λ' μ ν) =
+    over-states k (column_lines μ []) (comes_to ν) (resize k λ') []
+    ∙ over-ext k (column_lines μ []) (λ s r. pos (comes_to ν s r)) (is_sum ν) (pos_comes ν) (resize k λ') []
+    ∙ sym (product_count-columns k λ' μ ν p q h) in
+    omega (arith, ints)
+
+none_among : (ws : List (List ℕ)) → select (λ w. is_among w []) ws ≡ []
+none_among [] = refl
+none_among (w ∷ ws) = none_among ws
+
+pub product_count-none : (k : ℕ) (λ' μ ν : List ℕ) → k < rows λ' → product_count k λ' μ ν ≡ 0
+product_count-none k λ' μ ν h =
+    let came : List ℕ → Bool = λ w. same (without_last_zeros (join λ' (content k w))) ν in
+    let ws = words k (length (cells μ [])) in
+    ap (λ t. length (select came (select (λ w. is_among w (map (column_reading μ []) (cond t (select (is_good k λ' μ []) (tableaux k μ [])) []))) ws))) (lt-leb (rows λ') k h)
+    ∙ ap (λ l. length (select came l)) (none_among ws)
+
+abbrev comes_if : Bool → ℕ
+comes_if t = cond t 1 0
+
+pub comes-begins : (parts key : List ℕ) (t : Bool) → ArePositive parts → t ≡ pointwise nat_eq (take (length parts) key) parts → at_state (length parts) (comes_to parts) key ≡ comes_if t
+comes-begins parts key t p e = sym (ap comes_if (e ∙ begins key parts p))
+
+pub agree_skipped : (now rest all rest' ways x : ℕ) → Agree (now + rest) all → rest ≡ ways * x + rest' → x ≡ 0 → Agree (now + rest') all
+agree_skipped now rest all rest' ways x p e z = agree_then _ _ _ (agree_same _ (now + rest) (let q = ap (λ y. ways * y) z in omega arith)) p
+
+pub agree_counted : (now rest all rest' ways x saturated next : ℕ) → Agree (now + rest) all → rest ≡ ways * x + rest' → x ≡ 1
+    → saturated ≡ min (now + ways) 340282366920938463463374607431768211455 → Agree next saturated → Agree (next + rest') all
+agree_counted now rest all rest' ways x saturated next p e o s a =
+    agree_entry now next rest all rest' ways ways x p e (agree_same ways ways refl)
+    (agree_then _ _ _ a (record { below = λ h. let q = ap (λ y. ways * y) o in omega arith; past = λ h. let q = ap (λ y. ways * y) o in omega arith }))
+
+-- what a table counts at a partition is the count of the product
+pub counted_product : (count letters : ℕ) (es : List (List ℕ × ℕ)) (outer parts left right : List ℕ) → letters ≡ rows outer → parts ≡ outer
+    → IsPartition left → IsPartition right → rows left ≤ letters → Agree count (weighed (length parts) (comes_to parts) es)
+    → ((f : List ℕ → List ℕ → ℕ) → Agree (weighed letters f es) (over_states letters (column_lines right []) f (resize letters left) []))
+    → Agree count (product_count (rows outer) left right outer)
+counted_product count letters es outer parts left right l p i j h a ways =
+    let n : length parts ≡ letters = ap length p ∙ sym l in
+    agree_then _ _ _ a
+    (agree_then _ _ _ (agree_same _ (weighed letters (comes_to outer) es) (ap₂ (λ (k : ℕ) (q : List ℕ). weighed k (comes_to q) es) n p))
+    (agree_then _ _ _ (ways (comes_to outer))
+    (agree_same _ _ (states-count letters left right outer i j h ∙ ap (λ k. product_count k left right outer) l))))
+
+pub not_past : (a b : ℕ) → Agree a b → a < 2 ^ 127 → b < 2 ^ 127
+not_past a b p h = let e = p.below h in omega arith

@@ -1,0 +1,3 @@
+pub mod WeighedSum
+pub mod Capped
+pub mod Extension

@@ -1,0 +1,43 @@
+-- Sums of natural numbers over lists, and tables from states to counts seen as sums (this project's own). A state is the sum
+-- reached, which has n places, and after it the column added last.
+use Rattle.std.specs.Prelude.{ℕ, ◌+◌, ◌*◌, ◌==◌, nat_le, Bool, ◌&&◌, cond, List, [], ◌∷◌, length, take, drop}
+use Rattle.sym_model.specs.Partition.{size, without_last_zeros}
+use Rattle.sym_model.specs.Polynomial.{same, join}
+use Rattle.sym_model.specs.Schur.{content}
+use Rattle.tableau_laws.specs.PaddedRows.{words_over}
+use Rattle.tableau_laws.specs.ColumnFold.{may_be_next}
+
+-- the sum of f over a list
+abbrev pub sum_over : {A : Type 0} → (A → ℕ) → List A → ℕ
+sum_over f [] = 0
+sum_over f (x ∷ xs) = f x + sum_over f xs
+
+-- f of the sum and the column of a state
+abbrev pub at_state : ℕ → (List ℕ → List ℕ → ℕ) → List ℕ → ℕ
+at_state n f state = f (take n state) (drop n state)
+
+-- the sum over the entries of a table of the count times f of the state
+abbrev pub weighed : ℕ → (List ℕ → List ℕ → ℕ) → List (List ℕ × ℕ) → ℕ
+weighed n f entries = sum_over (λ (e : List ℕ × ℕ). e.1 * at_state n f e.0) entries
+
+-- the sum over the columns of a line that may be next of f of the sum that is then reached and the column
+abbrev pub next_states : ℕ → List Bool → (List ℕ → List ℕ → ℕ) → List ℕ → List ℕ → ℕ
+next_states n line f ν right =
+    sum_over (λ c. cond (may_be_next n ν right c) (f (join ν (content n c)) c) 0) (words_over n line)
+
+-- the same over all ways to add columns of these lines, which are listed from the leftmost on and added from the rightmost on
+abbrev pub over_states : ℕ → List (List Bool) → (List ℕ → List ℕ → ℕ) → List ℕ → List ℕ → ℕ
+over_states n [] f ν right = f ν right
+over_states n (line ∷ lines) f ν right = over_states n lines (next_states n line f) ν right
+
+-- 1 where ν isn't a list of n numbers that add up to at most m, 0 where it is
+abbrev pub unreached : ℕ → ℕ → List ℕ → List ℕ → ℕ
+unreached n m ν right = cond ((length ν == n) && nat_le (size ν) m) 0 1
+
+-- how many places the lines have
+abbrev pub places : List (List Bool) → ℕ
+places lines = sum_over (λ (line : List Bool). length line) lines
+
+-- 1 where the sum reached, without the zeros at its end, is this partition; 0 elsewhere
+abbrev pub comes_to : List ℕ → List ℕ → List ℕ → ℕ
+comes_to parts ν right = cond (same (without_last_zeros ν) parts) 1 0

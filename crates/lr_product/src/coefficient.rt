@@ -1,0 +1,71 @@
+//! One coefficient of a product.
+ghost use Rattle.std.specs.Prelude.{◌≡◌, ℕ, ◌+◌, ◌^◌, ◌<◌, ◌≤◌, List, pos, length, take, nat_eq, IfOk, OnOk, IsErrOf};
+ghost use Rattle.std.specs.Cmp.Lexicographic.{pointwise};
+ghost use Rattle.sym_model.specs.Partition.{ArePositive, size, rows};
+ghost use Rattle.sym_model.specs.GoodTableau.{product_count};
+ghost use Rattle.lr_product.specs.WeighedSum.{weighed, comes_to};
+ghost use Rattle.lr_product.specs.Capped.{Agree};
+
+use crate::columns::ways_by_columns;
+use crate::state::State;
+use crate::step::entry_at;
+use crate::table::{CAP, capped};
+use calc_base::{NoMemory, SumFault};
+use coeff_rings::Int;
+use indexmap::IndexMap;
+use partitions::Partition;
+use std::alloc::Global;
+
+/// The coefficient of the Schur polynomial of `outer` in the product of those of `left` and `right`, as the count of the
+/// good tableaux of the shape `right` that start at `left` and come to `outer`.
+///
+/// It is refused as `Large` exactly where it is past 2^127 - 1.
+pub fn coef(
+    alloc: Global,
+    outer: &Partition,
+    left: &Partition,
+    right: &Partition,
+) -> Result<Int, SumFault>
+    requires { size left.now + size right.now ≤ 4096 }
+    ensures value { IfOk result (λ c. c ≡ pos (product_count (rows outer.now) left.now right.now outer.now)) }
+    ensures large { IsErrOf result SumFault.Large → 2 ^ 127 ≤ product_count (rows outer.now) left.now right.now outer.now }
+    ensures fits { OnOk result (product_count (rows outer.now) left.now right.now outer.now < 2 ^ 127) }
+{
+    let letters = outer.rows();
+    if left.rows() > letters {
+        return Ok(Int::new(0));
+    }
+    let table = match ways_by_columns(alloc, left, right, letters) {
+        Ok(table) => table,
+        Err(NoMemory) => return Err(SumFault::NoMemory),
+    };
+    let count = count_of(&table, outer.parts());
+    if count >= CAP {
+        return Err(SumFault::Large);
+    }
+    Ok(Int::new(count as i128))
+}
+
+/// The number of ways to come to a sum, or the cap where there are more.
+fn count_of(table: &IndexMap<State, u128>, parts: &[u16]) -> u128
+    requires { ArePositive parts.now }
+    ensures agrees { Agree result (weighed (length parts.now) (comes_to parts.now) table.now.entries) }
+    ensures within { result ≤ 2 ^ 127 }
+{
+    let mut count: u128 = 0;
+    for at in 0..table.len() {
+        let (state, ways) = entry_at(table, at);
+        if !begins_with(state.numbers(), parts) {
+            continue;
+        }
+        count = capped(count.saturating_add(ways));
+    }
+    count
+}
+
+/// Whether the first numbers are these.
+fn begins_with(numbers: &[u16], parts: &[u16]) -> bool
+    ensures { result ≡ pointwise nat_eq (take (length parts.now) numbers.now) parts.now }
+{
+    &numbers[..parts.len().min(numbers.len())] == parts
+}

@@ -1,0 +1,15 @@
+//! Products of Schur polynomials, skew Schur polynomials and their coefficients, as counts of good tableaux.
+//!
+//! The tableaux are counted column by column from the rightmost to the leftmost, in a table from the sum reached and the
+//! column added last to the number of ways.
+#![tactic(auto)]
+
+mod coefficient;
+mod columns;
+mod extension;
+mod letters;
+mod state;
+mod step;
+mod table;
+
+pub use coefficient::coef;
