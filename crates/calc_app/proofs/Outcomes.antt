@@ -1,84 +1,46 @@
--- The outcome of a command: its words spell at most one list of numbers, so that at most one ending fits them.
-use Rattle.std.proofs.Common.{◌≡◌, ◌≢◌, ℕ, ◌<◌, inl, inr, List, [], ◌∷◌, ◌++◌, length, map, Bool, true, Option, Some, refl, sym, ◌∙◌, ap, subst, arith, length-append}
-use Rattle.std.specs.Prelude.{codes, Result, Ok, Err, Vec}
-use Rattle.std.specs.declared.alloc.Global.{Global}
-use Rattle.std.specs.Fmt.{digits}
-use Rattle.std.specs.List.{slice_split}
-use Rattle.calc_base.specs.declared.words.Place.{Place}
-use Rattle.calc_base.specs.declared.words.WordsFault.{WordsFault}
-use Rattle.calc_base.specs.declared.words.WordsFault.TheVariants.{Syntax, Literal, Range, Shape, NoMemory}
+-- What is put for what was computed is what is defined for the words.
+use Rattle.std.proofs.Common.{◌≡◌, ◌≢◌, ℕ, List, ◌++◌, Bool, true, Option, Some, refl, sym, ◌∙◌, ap, subst, inl, inr}
+use Rattle.std.specs.Prelude.{codes, Ok, Err}
 use Rattle.calc_base.specs.declared.status.Status.{Status}
 use Rattle.calc_base.specs.declared.status.Status.TheVariants as status
+use Rattle.calc_base.specs.declared.words.WordsFault.{WordsFault}
+use Rattle.calc_base.specs.declared.words.WordsFault.TheVariants as fault
 use Rattle.calc_base.specs.Sink.{Appends, AppendsPrefix}
-use Rattle.sym_model.specs.Partition.{Falls}
-use Rattle.sym_model.specs.PrintedBlock.{decimal_value}
-use Rattle.sym_model.specs.PowerSumCommand.{IsNumberWord, AreNumberWords, comma_separated, SpellsCommand, IsWithinLimits, IsPastLimits, IsMisshapen, IsOutcome, Ending, done, some_refused, syntax, range, past}
-use Rattle.sym_model.proofs.Blocks.{read-block}
-use Rattle.calc_app.specs.declared.terms.Term.{Term}
-use Rattle.calc_app.specs.Outcome.{ComesOf, text_of, status_for}
-use Rattle.calc_app.specs.Reading.{is_comma, third_word}
-use Rattle.calc_app.specs.Refusal.{refusal_text}
-use Rattle.calc_app.specs.Top.{Leaves, PutsPrefix, PrintsPowerSum, status_of}
-use Rattle.calc_app.proofs.Numbers.{split-comma_separated}
-use Rattle.calc_app.proofs.Words.{one_word, one_inner}
+use Rattle.calc_language.specs.declared.words.Command.{Command as Read}
+use Rattle.calc_language.specs.declared.words.Command.TheVariants.{Expand}
+use Rattle.calc_language.specs.Reading.{command_of, IsRead, IsFaultOf}
+use Rattle.expansion_printer.specs.declared.answer.Answer.{Answer}
+use Rattle.expansion_printer.specs.declared.answer.Answer.TheVariants.{Expansion}
+use Rattle.expansion_printer.specs.Answers.{plain_answer}
+use Rattle.expansion_printer.specs.Refusal.{refusal_text}
+use Rattle.printing_laws.proofs.Blocks.{read-block}
+use Rattle.sym_model.specs.Answer.{answer_text, IsPrintable}
+use Rattle.sym_model.specs.Command.{Command}
+use Rattle.sym_model.specs.CommandOffence.{Offence}
+use Rattle.sym_model.specs.Ending.{Ending, done, some_refused, syntax, range, past}
+use Rattle.sym_model.specs.ExpressionOffence as offences
+use Rattle.sym_model.specs.Headline.{ReadsBack}
+use Rattle.sym_model.specs.Kind.{expansion}
+use Rattle.sym_model.specs.LargeAnswer.{IsHeavy}
+use Rattle.sym_model.specs.Outcome.{Answers, ending_of}
+use Rattle.sym_model.specs.RefusalText.{refusal_line, offence_line, large_line}
+use Rattle.sym_model.specs.Target.{Meets}
+use Rattle.calc_app.specs.declared.outcome.Outcome.{Outcome}
+use Rattle.calc_app.specs.declared.outcome.Outcome.TheVariants.{Answered, Refused, Large}
+use Rattle.calc_app.specs.Computed.{Computes, Accepts, Refuses, GoesWrong, text_of, HasBlock, refusal_status, status_for}
+use Rattle.calc_app.specs.Top.{IsOutcome, status_of, PutsPrefix, Leaves, PrintsAnswerTo, WasCutOff, IsAccepted, IsRefused}
 
-comma_separated-nonempty : (word : List ℕ) (words : List (List ℕ)) → IsNumberWord word
-    → 0 < length (comma_separated (word ∷ words))
-comma_separated-nonempty word [] one = one.nonempty
-comma_separated-nonempty word (next ∷ words) one =
-    omega (arith, one.nonempty, length-append word (44 ∷ comma_separated (next ∷ words)))
+-- ---- what comes of a command
 
--- a text is number words with commas between them in one way only
-one_splitting : (words others : List (List ℕ)) → AreNumberWords words → AreNumberWords others
-    → comma_separated words ≡ comma_separated others → words ≡ others
-one_splitting [] [] all all' e = refl
-one_splitting [] (other ∷ others) all all' e =
-    absurd (omega (arith, ap length e, comma_separated-nonempty other others all'.0))
-one_splitting (word ∷ words) [] all all' e =
-    absurd (omega (arith, ap length e, comma_separated-nonempty word words all.0))
-one_splitting (word ∷ words) (other ∷ others) all all' e =
-    sym (split-comma_separated word words all) ∙ ap (λ t. slice_split is_comma t) e ∙ split-comma_separated other others all'
+answers_block : (command : Read) (answer : Answer) → Meets (command_of command) (plain_answer answer)
+    → IsPrintable (plain_answer answer) → Answers (command_of command) (answer_text (plain_answer answer)) done
+answers_block (Expand target formula) answer meets printable =
+    inl (λ must. absurd must.1, record { answer = plain_answer answer; printable = printable; meets = meets; printed = refl }, refl)
 
--- words that spell the command with a word and numbers spell it with no others
-pub one_spelling : (words : List (List ℕ)) (word numbers other others : List ℕ) → SpellsCommand words word numbers
-    → SpellsCommand words other others → (other ≡ word) × (others ≡ numbers)
-one_spelling words word numbers other others first second =
-    let same = one_word words word other first.three second.three in
-    let inner = one_inner word (comma_separated first.last.words) (comma_separated second.last.words) first.last.spelling
-    (sym same ∙ second.last.spelling) in
-    let pieces = one_splitting first.last.words second.last.words first.last.each_number second.last.each_number inner in
-    (same, second.last.values ∙ ap (map decimal_value) (sym pieces) ∙ sym first.last.values)
+answers_large : (command : Read) → IsHeavy (command_of command) → Answers (command_of command) large_line past
+answers_large (Expand target formula) heavy = inr (inr heavy, refl, refl)
 
--- words past the limits, or misshapen, are so by every spelling
-not_within : (words : List (List ℕ)) (word numbers : List ℕ) → IsPastLimits words → SpellsCommand words word numbers
-    → IsWithinLimits word numbers → ⊥
-not_within words word numbers past_limits spelling within =
-    let same = one_spelling words word numbers past_limits.word past_limits.numbers spelling past_limits.spelling in
-    let P : List ℕ → List ℕ → Type 0 = λ w n. IsWithinLimits w n in
-    past_limits.past_limits (subst (λ w. P w past_limits.numbers) (sym same.0) (subst (λ n. P word n) (sym same.1) within))
-
-not_falling : (words : List (List ℕ)) (word numbers : List ℕ) → IsMisshapen words → SpellsCommand words word numbers
-    → Falls numbers → ⊥
-not_falling words word numbers misshapen spelling falls =
-    let same = one_spelling words word numbers misshapen.word misshapen.numbers spelling misshapen.spelling in
-    let P : List ℕ → Type 0 = λ n. Falls n in
-    misshapen.rises (subst P (sym same.1) falls)
-
--- ---- the refusal lines
-
-syntax_line : (at : Place) → at ≡ record { word = 0; byte = 0 } → refusal_text (Syntax at) ≡ codes "! Syntax 0:0\n"
-unfolding digits
-syntax_line at e = ap (λ p. refusal_text (Syntax p)) e
-
-range_line : (at : Place) → at ≡ third_word → refusal_text (Range at) ≡ codes "! Range 2:0\n"
-unfolding digits
-range_line at e = ap (λ p. refusal_text (Range p)) e
-
-shape_line : (at : Place) → at ≡ third_word → refusal_text (Shape at) ≡ codes "! Shape 2:0\n"
-unfolding digits
-shape_line at e = ap (λ p. refusal_text (Shape p)) e
-
--- ---- what comes of the words is their outcome
+-- ---- what comes of the words
 
 -- an outcome of the words with a text, and the status that goes with it
 pub record HasOutcome (words : List (List ℕ)) (text : List ℕ) (answer : Status) : Type 0 where
@@ -86,150 +48,172 @@ pub record HasOutcome (words : List (List ℕ)) (text : List ℕ) (answer : Stat
   pub outcome : IsOutcome words text ending
   pub same : answer ≡ status_of ending
 
-pub has_outcome : (words : List (List ℕ)) (result : Result (Vec Term Global) WordsFault) → ComesOf words result
-    → status_for result ≢ status.NoMemory → HasOutcome words (text_of result) (status_for result)
-has_outcome words (Ok terms) comes memory = record {
-  ending = done;
-  outcome = record {
-    word = comes.command.word;
-    numbers = comes.numbers;
-    spelling = comes.command.spelling;
-    within = comes.command.within;
-    falls = comes.command.falls;
-    terms = _;
-    canonical = comes.answer.canonical;
-    printed = refl;
-    meets = comes.answer.meets;
-  };
+offending : (words : List (List ℕ)) (reason : WordsFault) → IsRead words (Err reason) → reason ≢ fault.NoMemory
+    → HasOutcome words (refusal_text reason) (refusal_status reason)
+offending words (fault.Syntax at) read memory = record {
+  ending = syntax;
+  outcome = inl (record { word = at.word; byte = at.byte; place = read; line = refl }, refl);
   same = refl;
 }
-has_outcome words (Err (Syntax at)) comes memory =
-    record { ending = syntax; outcome = (comes.0, syntax_line at comes.1); same = refl }
-has_outcome words (Err (Literal at)) comes memory = absurd comes
-has_outcome words (Err (Range at)) comes memory =
-    record { ending = range; outcome = inl (comes.0, range_line at comes.1); same = refl }
-has_outcome words (Err (Shape at)) comes memory =
-    record { ending = range; outcome = inr (comes.0, shape_line at comes.1); same = refl }
-has_outcome words (Err NoMemory) comes memory = absurd (memory refl)
+offending words (fault.Literal at) read memory = record {
+  ending = past;
+  outcome = inr (inl (record { offence = (at.word, at.byte, offences.literal); first = read; line = refl; ends = refl }));
+  same = refl;
+}
+offending words (fault.Range at) read memory = record {
+  ending = range;
+  outcome = inr (inl (record { offence = (at.word, at.byte, offences.range); first = read; line = refl; ends = refl }));
+  same = refl;
+}
+offending words (fault.Shape at) read memory = record {
+  ending = range;
+  outcome = inr (inl (record { offence = (at.word, at.byte, offences.shape); first = read; line = refl; ends = refl }));
+  same = refl;
+}
+offending words fault.NoMemory read memory = absurd (memory refl)
+
+pub has_outcome : (words : List (List ℕ)) (outcome : Outcome) → Computes words (Ok outcome) → HasBlock outcome
+    → HasOutcome words (text_of outcome) (status_for outcome)
+has_outcome words (Answered answer) computes block = record {
+  ending = done;
+  outcome = inr (inr (command_of computes.command, computes.spelled, answers_block computes.command answer computes.reply block));
+  same = refl;
+}
+has_outcome words (Refused reason) computes block = offending words reason computes.0 computes.1
+has_outcome words Large computes block = record {
+  ending = past;
+  outcome = inr (inr (command_of computes.command, computes.spelled, answers_large computes.command computes.reply));
+  same = refl;
+}
+
+-- ---- what a command leaves in the sink
+
+no_some_refused : (words : List (List ℕ)) (outcome : Outcome) → status_for outcome ≡ status.SomeRefused → ⊥
+no_some_refused words (Answered answer) is = cc
+no_some_refused words (Refused (fault.Syntax at)) is = cc
+no_some_refused words (Refused (fault.Literal at)) is = cc
+no_some_refused words (Refused (fault.Range at)) is = cc
+no_some_refused words (Refused (fault.Shape at)) is = cc
+no_some_refused words (Refused fault.NoMemory) is = cc
+no_some_refused words Large is = cc
 
 -- where the text was put whole
 leaves_ending : {S : Type 0} (written : S → Option (List ℕ)) (count : S → Option ℕ) (settled : S → Bool) (old new : S)
     (words : List (List ℕ)) (text : List ℕ) (ending : Ending) → IsOutcome words text ending
-    → Appends written count old new text → settled new ≡ true
+    → (status_of ending ≡ status.SomeRefused → ⊥) → Appends written count old new text → settled new ≡ true
     → Leaves written count settled old new words (status_of ending)
-leaves_ending written count settled old new words text done outcome appended is_settled =
+leaves_ending written count settled old new words text done outcome never appended is_settled =
     record { text = text; outcome = outcome; appended = appended; is_settled = is_settled }
-leaves_ending written count settled old new words text some_refused outcome appended is_settled = absurd outcome
-leaves_ending written count settled old new words text syntax outcome appended is_settled =
+leaves_ending written count settled old new words text some_refused outcome never appended is_settled = absurd (never refl)
+leaves_ending written count settled old new words text syntax outcome never appended is_settled =
     record { text = text; outcome = outcome; appended = appended; is_settled = is_settled }
-leaves_ending written count settled old new words text range outcome appended is_settled =
+leaves_ending written count settled old new words text range outcome never appended is_settled =
     record { text = text; outcome = outcome; appended = appended; is_settled = is_settled }
-leaves_ending written count settled old new words text past outcome appended is_settled = absurd outcome
+leaves_ending written count settled old new words text past outcome never appended is_settled =
+    record { text = text; outcome = outcome; appended = appended; is_settled = is_settled }
 
 pub leaves_whole : {S : Type 0} (written : S → Option (List ℕ)) (count : S → Option ℕ) (settled : S → Bool) (old new : S)
-    (words : List (List ℕ)) (result : Result (Vec Term Global) WordsFault) (answer : Status) → ComesOf words result
-    → answer ≡ status_for result → answer ≢ status.NoMemory
-    → Appends written count old new (text_of result) → settled new ≡ true
+    (words : List (List ℕ)) (outcome : Outcome) (answer : Status) → Computes words (Ok outcome) → HasBlock outcome
+    → answer ≡ status_for outcome → Appends written count old new (text_of outcome) → settled new ≡ true
     → Leaves written count settled old new words answer
-leaves_whole written count settled old new words result answer comes is memory appended is_settled =
-    let has = has_outcome words result comes (λ none. memory (is ∙ none)) in
+leaves_whole written count settled old new words outcome answer computes block is appended is_settled =
+    let has = has_outcome words outcome computes block in
     let P : Status → Type 0 = λ s. Leaves written count settled old new words s in
     subst P (sym (is ∙ has.same))
-    (leaves_ending written count settled old new words (text_of result) has.ending has.outcome appended is_settled)
+    (leaves_ending written count settled old new words (text_of outcome) has.ending has.outcome
+    (λ e. no_some_refused words outcome (has.same ∙ e)) appended is_settled)
 
 pub leaves_prefix : {S : Type 0} (written : S → Option (List ℕ)) (count : S → Option ℕ) (old new : S)
-    (words : List (List ℕ)) (result : Result (Vec Term Global) WordsFault) (answer : Status) → ComesOf words result
-    → answer ≡ status_for result → answer ≢ status.NoMemory
-    → AppendsPrefix written count old new (text_of result) → PutsPrefix written count old new words
-leaves_prefix written count old new words result answer comes is memory appended =
-    let has = has_outcome words result comes (λ none. memory (is ∙ none)) in
-    record { text = text_of result; ending = has.ending; outcome = has.outcome; appended = appended }
-
--- ---- one ending
-
-one_ending : (words : List (List ℕ)) (text other : List ℕ) (ending ended : Ending) → IsOutcome words text ending
-    → IsOutcome words other ended → ending ≡ ended
-one_ending words text other done done first second = refl
-one_ending words text other done some_refused first second = absurd second
-one_ending words text other done syntax first second = absurd (second.0 first.word first.numbers first.spelling)
-one_ending words text other done range first (inl second) =
-    absurd (not_within words first.word first.numbers second.0 first.spelling first.within)
-one_ending words text other done range first (inr second) =
-    absurd (not_falling words first.word first.numbers second.0 first.spelling first.falls)
-one_ending words text other done past first second = absurd second
-one_ending words text other some_refused ended first second = absurd first
-one_ending words text other syntax done first second = absurd (first.0 second.word second.numbers second.spelling)
-one_ending words text other syntax some_refused first second = absurd second
-one_ending words text other syntax syntax first second = refl
-one_ending words text other syntax range first (inl second) =
-    absurd (first.0 second.0.word second.0.numbers second.0.spelling)
-one_ending words text other syntax range first (inr second) =
-    absurd (first.0 second.0.word second.0.numbers second.0.spelling)
-one_ending words text other syntax past first second = absurd second
-one_ending words text other range done (inl first) second =
-    absurd (not_within words second.word second.numbers first.0 second.spelling second.within)
-one_ending words text other range done (inr first) second =
-    absurd (not_falling words second.word second.numbers first.0 second.spelling second.falls)
-one_ending words text other range some_refused first second = absurd second
-one_ending words text other range syntax (inl first) second =
-    absurd (second.0 first.0.word first.0.numbers first.0.spelling)
-one_ending words text other range syntax (inr first) second =
-    absurd (second.0 first.0.word first.0.numbers first.0.spelling)
-one_ending words text other range range first second = refl
-one_ending words text other range past first second = absurd second
-one_ending words text other past ended first second = absurd first
-
--- the status is the one of every outcome
-pub answers_ending : (words : List (List ℕ)) (result : Result (Vec Term Global) WordsFault) (answer : Status)
-    → ComesOf words result → answer ≡ status_for result → answer ≢ status.NoMemory
-    → (text : List ℕ) (ending : Ending) → IsOutcome words text ending → answer ≡ status_of ending
-answers_ending words result answer comes is memory text ending outcome =
-    let has = has_outcome words result comes (λ none. memory (is ∙ none)) in
-    is ∙ has.same ∙ ap status_of (one_ending words (text_of result) text has.ending ending has.outcome outcome)
+    (words : List (List ℕ)) (outcome : Outcome) → Computes words (Ok outcome) → HasBlock outcome
+    → AppendsPrefix written count old new (text_of outcome) → PutsPrefix written count old new words
+leaves_prefix written count old new words outcome computes block appended =
+    let has = has_outcome words outcome computes block in
+    record { text = text_of outcome; ending = has.ending; outcome = has.outcome; appended = appended }
 
 -- ---- the headline
 
-pub prints_power_sum : (words : List (List ℕ)) (result : Result (Vec Term Global) WordsFault) (answer : Status)
-    → ComesOf words result → answer ≡ status_for result → answer ≡ status.Done
-    → (before : List ℕ) (now : Option (List ℕ)) → now ≡ Some (before ++ text_of result)
-    → PrintsPowerSum words before now
-prints_power_sum words (Ok terms) answer comes is ended before now appended = record {
-  text = text_of (Ok terms);
-  appended = appended;
-  word = comes.command.word;
-  numbers = comes.numbers;
-  spelling = comes.command.spelling;
-  terms = _;
-  reads = read-block _ comes.answer.canonical comes.answer.printable;
-  canonical = comes.answer.canonical;
-  meets = comes.answer.meets;
+says_block : (command : Command) (answer : Answer) → Meets command (plain_answer answer) → IsPrintable (plain_answer answer)
+    → ReadsBack command (answer_text (plain_answer answer))
+says_block command (Expansion terms) meets printable = record {
+  kind = expansion;
+  terms = terms;
+  reads = read-block terms printable.0 printable.1;
+  canonical = printable.0;
+  meets = meets;
 }
-prints_power_sum words (Err (Syntax at)) answer comes is ended before now appended =
-    let clash : status.Syntax ≡ status.Done = sym is ∙ ended in cc
-prints_power_sum words (Err (Literal at)) answer comes is ended before now appended = absurd comes
-prints_power_sum words (Err (Range at)) answer comes is ended before now appended =
-    let clash : status.Range ≡ status.Done = sym is ∙ ended in cc
-prints_power_sum words (Err (Shape at)) answer comes is ended before now appended =
-    let clash : status.Range ≡ status.Done = sym is ∙ ended in cc
-prints_power_sum words (Err NoMemory) answer comes is ended before now appended =
-    let clash : status.NoMemory ≡ status.Done = sym is ∙ ended in cc
 
--- ---- the line of a refusal
+no_block : (reason : WordsFault) → refusal_status reason ≡ status.Done → ⊥
+no_block (fault.Syntax at) is = cc
+no_block (fault.Literal at) is = cc
+no_block (fault.Range at) is = cc
+no_block (fault.Shape at) is = cc
+no_block fault.NoMemory is = cc
 
-one_line : (words : List (List ℕ)) (text other : List ℕ) → IsOutcome words text range → IsOutcome words other range
-    → text ≡ other
-one_line words text other (inl first) (inl second) = first.1 ∙ sym second.1
-one_line words text other (inl first) (inr second) =
-    absurd (not_within words second.0.word second.0.numbers first.0 second.0.spelling second.0.within)
-one_line words text other (inr first) (inl second) =
-    absurd (not_within words first.0.word first.0.numbers second.0 first.0.spelling first.0.within)
-one_line words text other (inr first) (inr second) = first.1 ∙ sym second.1
+pub prints_answer : (words : List (List ℕ)) (outcome : Outcome) → Computes words (Ok outcome) → HasBlock outcome
+    → status_for outcome ≡ status.Done → (before : List ℕ) (now : Option (List ℕ)) → now ≡ Some (before ++ text_of outcome)
+    → PrintsAnswerTo words before now
+prints_answer words (Answered answer) computes block ended before now appended = record {
+  text = answer_text (plain_answer answer);
+  appended = appended;
+  command = command_of computes.command;
+  spelled = computes.spelled;
+  says = says_block (command_of computes.command) answer computes.reply block;
+}
+prints_answer words (Refused reason) computes block ended before now appended = absurd (no_block reason ended)
+prints_answer words Large computes block ended before now appended = cc
 
-pub refuses_by_line : {S : Type 0} (written : S → Option (List ℕ)) (count : S → Option ℕ) (settled : S → Bool) (old new : S)
-    (words : List (List ℕ)) (answer : Status) → Leaves written count settled old new words answer → answer ≡ status.Range
-    → (text : List ℕ) → IsOutcome words text range → Appends written count old new text
-refuses_by_line written count settled old new words answer leaves ended text outcome =
-    let P : Status → Type 0 = λ s. Leaves written count settled old new words s in
-    let puts = subst P ended leaves in
-    let Q : List ℕ → Type 0 = λ t. Appends written count old new t in
-    subst Q (one_line words puts.text text puts.outcome outcome) puts.appended
+-- ---- each refusal by its own line
+
+pub accepted : (command : Command) (outcome : Outcome) → Accepts command (Ok outcome) → IsAccepted command (status_for outcome)
+accepted command (Answered answer) accepts = inl refl
+accepted command (Refused reason) accepts = absurd accepts
+accepted command Large accepts = inr (inl (refl, accepts))
+
+-- the line and the status of a refusal that names the offence
+names : (offence : Offence) (reason : WordsFault) → IsFaultOf offence reason
+    → (refusal_status reason ≡ status_of (ending_of offence.2)) × (refusal_text reason ≡ offence_line offence)
+names offence (fault.Syntax at) is = absurd is
+names offence (fault.Literal at) is =
+    (ap (λ (o : Offence). status_of (ending_of o.2)) (sym is), ap (λ (o : Offence). offence_line o) (sym is))
+names offence (fault.Range at) is =
+    (ap (λ (o : Offence). status_of (ending_of o.2)) (sym is), ap (λ (o : Offence). offence_line o) (sym is))
+names offence (fault.Shape at) is =
+    (ap (λ (o : Offence). status_of (ending_of o.2)) (sym is), ap (λ (o : Offence). offence_line o) (sym is))
+names offence fault.NoMemory is = absurd is
+
+pub refuses_offence : {S : Type 0} (written : S → Option (List ℕ)) (count : S → Option ℕ) (old new : S) (offence : Offence)
+    (outcome : Outcome) → Refuses offence (Ok outcome) → Appends written count old new (text_of outcome)
+    → IsRefused written count old new (ending_of offence.2) (offence_line offence) (status_for outcome)
+refuses_offence written count old new offence (Answered answer) refuses appended = absurd refuses
+refuses_offence written count old new offence (Refused reason) refuses appended =
+    let both = names offence reason refuses in
+    let P : List ℕ → Type 0 = λ t. Appends written count old new t in
+    record { ends = inl both.0; puts = λ ended. subst P both.1 appended }
+refuses_offence written count old new offence Large refuses appended = absurd refuses
+
+pub refuses_place : {S : Type 0} (written : S → Option (List ℕ)) (count : S → Option ℕ) (old new : S) (word byte : ℕ)
+    (outcome : Outcome) → GoesWrong word byte (Ok outcome) → Appends written count old new (text_of outcome)
+    → IsRefused written count old new syntax (refusal_line (codes "Syntax") word byte) (status_for outcome)
+refuses_place written count old new word byte (Answered answer) wrong appended = absurd wrong
+refuses_place written count old new word byte (Refused reason) wrong appended =
+    let P : List ℕ → Type 0 = λ t. Appends written count old new t in
+    record { ends = inl (ap refusal_status wrong); puts = λ ended. subst P (ap refusal_text wrong) appended }
+refuses_place written count old new word byte Large wrong appended = absurd wrong
+
+-- where memory was refused, or the sink failed, no line is owed
+no_ending : (ending : Ending) (answer : Status) → WasCutOff answer → answer ≡ status_of ending → ⊥
+no_ending done answer (inl cut) ended = let clash : status.NoMemory ≡ status.Done = sym cut ∙ ended in cc
+no_ending done answer (inr cut) ended = let clash : status.SinkFault ≡ status.Done = sym cut ∙ ended in cc
+no_ending some_refused answer (inl cut) ended = let clash : status.NoMemory ≡ status.SomeRefused = sym cut ∙ ended in cc
+no_ending some_refused answer (inr cut) ended = let clash : status.SinkFault ≡ status.SomeRefused = sym cut ∙ ended in cc
+no_ending syntax answer (inl cut) ended = let clash : status.NoMemory ≡ status.Syntax = sym cut ∙ ended in cc
+no_ending syntax answer (inr cut) ended = let clash : status.SinkFault ≡ status.Syntax = sym cut ∙ ended in cc
+no_ending range answer (inl cut) ended = let clash : status.NoMemory ≡ status.Range = sym cut ∙ ended in cc
+no_ending range answer (inr cut) ended = let clash : status.SinkFault ≡ status.Range = sym cut ∙ ended in cc
+no_ending past answer (inl cut) ended = let clash : status.NoMemory ≡ status.Past = sym cut ∙ ended in cc
+no_ending past answer (inr cut) ended = let clash : status.SinkFault ≡ status.Past = sym cut ∙ ended in cc
+
+pub was_cut_off : {S : Type 0} (written : S → Option (List ℕ)) (count : S → Option ℕ) (old new : S) (ending : Ending)
+    (line : List ℕ) (answer : Status) → WasCutOff answer → IsRefused written count old new ending line answer
+was_cut_off written count old new ending line answer cut =
+    record { ends = inr cut; puts = λ ended. absurd (no_ending ending answer cut ended) }

@@ -1,5 +1,3 @@
-pub mod Reading
-pub mod Terms
-pub mod Refusal
-pub mod Outcome
+-- The definitions that the contracts cite.
+pub mod Computed
 pub mod Top

@@ -1,12 +1,19 @@
 -- What the top call promises, by cases on the status that it answers (this project's own).
-use Rattle.std.specs.Prelude.{◌≡◌, ℕ, List, ◌++◌, Bool, true, Option, Some}
+use Rattle.std.specs.Prelude.{◌≡◌, ◌⊎◌, ℕ, List, ◌++◌, Bool, true, Option, Some}
 use Rattle.calc_base.specs.declared.status.Status.{Status}
 use Rattle.calc_base.specs.declared.status.Status.TheVariants.{Done, SomeRefused, Syntax, Range, Past, SinkFault, SourceFault, NoMemory}
 use Rattle.calc_base.specs.Sink.{Appends, AppendsPrefix}
-use Rattle.sym_model.specs.Expansion.{Terms}
-use Rattle.sym_model.specs.Canonical.{IsCanonical}
-use Rattle.sym_model.specs.PrintedBlock.{read}
-use Rattle.sym_model.specs.PowerSumCommand.{SpellsCommand, IsPowerSumInMonomials, IsOutcome, Ending, done, some_refused, syntax, range, past}
+use Rattle.sym_model.specs.Command.{Command}
+use Rattle.sym_model.specs.Ending.{Ending, done, some_refused, syntax, range, past}
+use Rattle.sym_model.specs.Entry.{SpellsWithoutOffence}
+use Rattle.calc_language.specs.BuiltCommands.{command_entries}
+use Rattle.sym_model.specs.Headline.{ReadsBack}
+use Rattle.sym_model.specs.LargeAnswer.{IsHeavy}
+use Rattle.sym_model.specs.Outcome.{IsLineOutcome}
+
+-- the text is defined for the words, with this ending
+abbrev pub IsOutcome : List (List ℕ) → List ℕ → Ending → Type 0
+IsOutcome words text ending = IsLineOutcome command_entries words text ending
 
 -- the status that says how a command ended
 abbrev pub status_of : Ending → Status
@@ -16,7 +23,7 @@ status_of syntax = Syntax
 status_of range = Range
 status_of past = Past
 
--- the text that is defined for the words, with this ending, was appended whole, and the sink is settled
+-- a text that is defined for the words, with this ending, was appended whole, and the sink is settled
 pub record PutsWhole {S : Type 0} (written : S → Option (List ℕ)) (count : S → Option ℕ) (settled : S → Bool)
     (old new : S) (words : List (List ℕ)) (ending : Ending) : Type 0 where
   pub text : List ℕ
@@ -40,21 +47,32 @@ Leaves written count settled old new words Done = PutsWhole written count settle
 Leaves written count settled old new words SomeRefused = ⊥
 Leaves written count settled old new words Syntax = PutsWhole written count settled old new words syntax
 Leaves written count settled old new words Range = PutsWhole written count settled old new words range
-Leaves written count settled old new words Past = ⊥
+Leaves written count settled old new words Past = PutsWhole written count settled old new words past
 Leaves written count settled old new words SinkFault = PutsPrefix written count old new words
 Leaves written count settled old new words SourceFault = ⊥
 Leaves written count settled old new words NoMemory = new ≡ old
 
--- The headline. A text was appended to the bytes that stood before. The words spell the command `expand m p[..]` with
--- some numbers; the text, read back, is a canonical list of terms; and in every number of variables that list, read in
--- the monomial basis, is the power sum of the numbers.
-pub record PrintsPowerSum (words : List (List ℕ)) (before : List ℕ) (now : Option (List ℕ)) : Type 0 where
+-- The headline. A text was appended to the bytes that stood before. The words spell a command without an offence; the text,
+-- read back, is a canonical list of terms; and that list is what the command names. For `expand m` and an expression: in
+-- every number of variables the list, read in the monomial basis, is the expression.
+pub record PrintsAnswerTo (words : List (List ℕ)) (before : List ℕ) (now : Option (List ℕ)) : Type 0 where
   pub text : List ℕ
   pub appended : now ≡ Some (before ++ text)
-  pub word : List ℕ
-  pub numbers : List ℕ
-  pub spelling : SpellsCommand words word numbers
-  pub terms : Terms (List ℕ)
-  pub reads : read text ≡ Some terms
-  pub canonical : IsCanonical terms
-  pub meets : IsPowerSumInMonomials numbers terms
+  pub command : Command
+  pub spelled : SpellsWithoutOffence command_entries words command
+  pub says : ReadsBack command text
+
+-- memory was refused or the sink failed
+abbrev pub WasCutOff : Status → Type 0
+WasCutOff status = (status ≡ NoMemory) ⊎ (status ≡ SinkFault)
+
+-- a command without an offence is answered, but for want of memory and faults of the sink; it is refused only where its
+-- weight is 2^127 or more
+abbrev pub IsAccepted : Command → Status → Type 0
+IsAccepted command status = (status ≡ Done) ⊎ ((status ≡ Past) × IsHeavy command) ⊎ WasCutOff status
+
+-- words that are refused with this ending and line are refused so, but for want of memory and faults of the sink
+pub record IsRefused {S : Type 0} (written : S → Option (List ℕ)) (count : S → Option ℕ) (old new : S)
+    (ending : Ending) (line : List ℕ) (status : Status) : Type 0 where
+  pub ends : (status ≡ status_of ending) ⊎ WasCutOff status
+  pub puts : status ≡ status_of ending → Appends written count old new line

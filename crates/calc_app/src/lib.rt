@@ -2,10 +2,7 @@
 //! puts its text, or the one line that says why there is none.
 #![tactic(auto)]
 
-mod power_sum;
-mod printer;
-mod reading;
-mod terms;
+mod outcome;
 mod top;
 
 pub use top::run;

@@ -1,31 +1,34 @@
 //! The top call.
 
-ghost use Rattle.std.specs.Prelude.{◌≡◌, ◌≤◌, ◌⊎◌, ℕ, List, Some, IsTrue, true};
+ghost use Rattle.std.specs.Prelude.{◌≡◌, ◌≢◌, ◌≤◌, ℕ, List, Some, IsTrue, true, codes, map, string_bytes};
 ghost use Rattle.calc_base.specs.Fault.{Rose};
-ghost use Rattle.calc_base.specs.Goes.{Goes};
-ghost use Rattle.calc_base.specs.Sink.{Appends};
-ghost use Rattle.sym_model.specs.PowerSumCommand.{Ending, IsOutcome, range};
-ghost use Rattle.calc_app.specs.Outcome.{ComesOf, text_of, status_for};
-ghost use Rattle.calc_app.specs.Reading.{bytes_of};
-ghost use Rattle.calc_app.specs.Top.{Leaves, PrintsPowerSum, status_of};
+ghost use Rattle.calc_base.specs.Puts.{Puts};
+ghost use Rattle.sym_model.specs.Command.{Command};
+ghost use Rattle.sym_model.specs.CommandOffence.{Offence};
+ghost use Rattle.sym_model.specs.Ending.{syntax};
+ghost use Rattle.sym_model.specs.Entry.{SpellsWithoutOffence, HasFirstOffence};
+ghost use Rattle.calc_language.specs.BuiltCommands.{command_entries};
+ghost use Rattle.sym_model.specs.Outcome.{ending_of};
+ghost use Rattle.sym_model.specs.RefusalText.{refusal_line, offence_line};
+ghost use Rattle.sym_model.specs.SyntaxPlace.{IsSyntaxPlace};
+ghost use Rattle.calc_app.specs.Computed.{text_of, HasText, HasBlock, refusal_status, status_for};
+ghost use Rattle.calc_app.specs.Top.{Leaves, PrintsAnswerTo, IsAccepted, IsRefused};
 
-use crate::power_sum::power_sum;
-use crate::printer::{put_refusal, put_terms};
-use crate::reading::read_words;
-use crate::terms::Term;
+use crate::outcome::{Outcome, outcome_of};
 use calc_base::{Sink, Source, Status, WordsFault, finish_if};
+use expansion_printer::{print, print_large, print_refusal};
 use std::alloc::Global;
 
 /// Runs the command that the words name, without the program's name, and puts its text to the sink.
 ///
-/// The one command is `expand m p[..]`, a power sum in the monomial basis: at most 64 numbers that add up to at most
-/// 15, none greater than the one before it, in a word of at most 4096 bytes. Its text is a line for each term.
+/// The one command is `expand m` with an expression of atoms in m, e, h and p. Its text is a line for each term of the
+/// expansion in the monomial basis.
 ///
-/// In this order: the words are read, and the first offence is refused by one line: `Syntax` where they are no
-/// command, `Range` where they are past a limit or a number is greater than the one before it. The whole answer is
-/// computed, then its text is put, then `finish` is called, after a refusal too. `SinkFault` comes only where the
-/// sink's count of faults rose, and the sink is not called after it. Where memory is refused the answer is
-/// `NoMemory`, and nothing was put. The source is not touched.
+/// In this order: the words are read, and refused by one line where they are no command (`Syntax`) or offend (`Range`, or
+/// `Past` for a number that is too large). The whole answer is computed, and refused by the line `! Large` (`Past`) only
+/// where the weight of the expression is 2^127 or more. Its text is put, then `finish` is called, after a refusal too.
+/// `SinkFault` comes exactly where a call of the sink failed, and the sink is not called after it. Where memory is refused
+/// the answer is `NoMemory`, and nothing was put. The source is not touched.
 pub fn run<S: Source, K: Sink>(
     alloc: Global,
     words: &[String],
@@ -33,74 +36,77 @@ pub fn run<S: Source, K: Sink>(
     sink: &mut K,
 ) -> Status
     // Where the answer is `Done`, the text read back is a canonical list of terms, and that list is
-    // the power sum that the words name, in every number of variables.
+    // the expression that the words spell, in every number of variables.
     ensures headline { result ≡ Status.Done → (before : List ℕ) → K.written sink.old ≡ Some before
-        → PrintsPowerSum (bytes_of words.now) before (K.written sink.new) }
+        → PrintsAnswerTo (map string_bytes words.now) before (K.written sink.new) }
 
     // By cases on the status: the whole text that is defined for the words, and the sink settled;
     // after a fault of the sink a prefix of it; without memory nothing.
     ensures leaves { Leaves K.written K.length K.settled sink.old sink.new
-        (bytes_of words.now) result }
+        (map string_bytes words.now) result }
 
-    // Where a text is defined for the words, with an ending, the answer is the status of that ending,
-    // or want of memory, or the sink's count of faults rose.
-    ensures complete { (text : List ℕ) → (ending : Ending) → IsOutcome (bytes_of words.now) text ending
-        → (result ≡ status_of ending) ⊎ (result ≡ Status.NoMemory)
-        ⊎ Rose (K.faults sink.old) (K.faults sink.new) }
+    // Words that spell a command without an offence are answered, and refused only where their weight is 2^127 or more.
+    ensures accepted { (command : Command) → SpellsWithoutOffence command_entries (map string_bytes words.now) command
+        → IsAccepted command result }
 
-    // At `Range` the line that was put is the one that is defined: `! Range` and `! Shape` have each
-    // their own cause.
-    ensures refusal { (text : List ℕ) → IsOutcome (bytes_of words.now) text range
-        → result ≡ Status.Range → Appends K.written K.length sink.old sink.new text }
+    // Words with a first offence, and words that are no command, are refused by their own line.
+    ensures offended { (offence : Offence) → HasFirstOffence command_entries (map string_bytes words.now) (Some offence)
+        → IsRefused K.written K.length sink.old sink.new (ending_of offence.2) (offence_line offence) result }
+    ensures no_command { (word byte : ℕ) → IsSyntaxPlace command_entries (map string_bytes words.now) word byte
+        → IsRefused K.written K.length sink.old sink.new syntax (refusal_line (codes "Syntax") word byte) result }
 
-    // The sink's count of faults rises at each `SinkFault`, and never falls.
+    // No fault is hidden: with `SinkFault` the sink's count of faults rose by exactly one, or stands
+    // at 2^64 - 1, and with every other status it is as it was. It never falls.
     ensures sink_fault { result ≡ Status.SinkFault → Rose (K.faults sink.old) (K.faults sink.new) }
+    ensures no_fault { result ≢ Status.SinkFault → K.faults sink.new ≡ K.faults sink.old }
     ensures later { K.faults sink.old ≤ K.faults sink.new }
     ensures untouched { source.new ≡ source.old }
 {
     let _ = source;
-    let outcome = outcome_of(alloc, words);
-    let status = status_if_put(&outcome);
-    if status == Status::NoMemory {
+    let Ok(outcome) = outcome_of(alloc, words) else {
         return Status::NoMemory;
-    }
+    };
     if deliver(&outcome, sink) {
-        status
+        status_if_put(&outcome)
     } else {
         Status::SinkFault
     }
 }
 
-/// What comes of the words: the whole answer, or why there is none.
-fn outcome_of(alloc: Global, words: &[String]) -> Result<Vec<Term>, WordsFault>
-    ensures { ComesOf (bytes_of words.now) result }
+// Puts the text and finishes the sink, and answers whether all went well.
+fn deliver<K: Sink>(outcome: &Outcome, sink: &mut K) -> bool
+    requires { HasText outcome.now }
+    ensures goes { Puts K.written K.length K.faults true sink.old result sink.new (text_of outcome.now) }
+    ensures settled { IsTrue result → K.settled sink.new ≡ true }
+    ensures printable { HasBlock outcome.now }
 {
-    let numbers = read_words(alloc, words)?;
-    Ok(power_sum(alloc, &numbers)?)
+    let well = match outcome {
+        Outcome::Answered { answer } => print(answer, sink).is_ok(),
+        Outcome::Refused { fault } => print_refusal(fault, sink).is_ok(),
+        Outcome::Large => print_large(sink).is_ok(),
+    };
+    finish_if(well, sink)
 }
 
-/// The status at the end, where the sink does not fail.
-fn status_if_put(outcome: &Result<Vec<Term>, WordsFault>) -> Status
+// The status at the end, where the sink does not fail.
+fn status_if_put(outcome: &Outcome) -> Status
     ensures { result ≡ status_for outcome.now }
 {
     match outcome {
-        Ok(_) => Status::Done,
-        Err(WordsFault::Syntax { .. }) => Status::Syntax,
-        Err(WordsFault::Literal { .. }) => Status::Past,
-        Err(WordsFault::Range { .. } | WordsFault::Shape { .. }) => Status::Range,
-        Err(WordsFault::NoMemory) => Status::NoMemory,
+        Outcome::Answered { .. } => Status::Done,
+        Outcome::Refused { fault } => refused(*fault),
+        Outcome::Large => Status::Past,
     }
 }
 
-/// Puts the text and finishes the sink, and answers whether all went well.
-fn deliver<K: Sink>(outcome: &Result<Vec<Term>, WordsFault>, sink: &mut K) -> bool
-    ensures goes { Goes K.written K.length K.faults true sink.old result sink.new
-        (text_of outcome.now) }
-    ensures settled { IsTrue result → K.settled sink.new ≡ true }
+// The status of words that are refused.
+fn refused(fault: WordsFault) -> Status
+    ensures { result ≡ refusal_status fault }
 {
-    let well = match outcome {
-        Ok(terms) => put_terms(true, terms, sink),
-        Err(fault) => put_refusal(true, *fault, sink),
-    };
-    finish_if(well, sink)
+    match fault {
+        WordsFault::Syntax { .. } => Status::Syntax,
+        WordsFault::Literal { .. } => Status::Past,
+        WordsFault::Range { .. } | WordsFault::Shape { .. } => Status::Range,
+        WordsFault::NoMemory => Status::NoMemory,
+    }
 }

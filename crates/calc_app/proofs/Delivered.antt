@@ -1,0 +1,27 @@
+-- A printer's answer as the truth value that a text goes on with.
+use Rattle.std.proofs.Common.{◌≡◌, ℕ, List, Bool, true, false, Option, sym, ◌∙◌}
+use Rattle.std.specs.Prelude.{Result, Ok, Err, is_ok}
+use Rattle.calc_base.specs.Puts.{Puts, Prints}
+
+pub Puts-from_prints : {S E : Type 0} {written : S → Option (List ℕ)} {count : S → Option ℕ} {faults : S → ℕ}
+    {now : Bool} {old new : S} {text : List ℕ} (result : Result (Unit {0}) E)
+    → Prints written count faults old new text result → now ≡ is_ok result
+    → Puts written count faults true old now new text
+Puts-from_prints (Ok x) prints is = record {
+  whole = λ well. prints.whole;
+  still = λ well. prints.counted.still;
+  cut = λ began ended. let clash : true ≡ false = sym is ∙ ended in cc;
+  rose = λ began ended. let clash : true ≡ false = sym is ∙ ended in cc;
+  later = prints.counted.later;
+  untouched = λ ill. let clash : true ≡ false = ill in cc;
+  ill = λ ill. let clash : true ≡ false = ill in cc;
+}
+Puts-from_prints (Err e) prints is = record {
+  whole = λ well. let clash : false ≡ true = sym is ∙ well in cc;
+  still = λ well. let clash : false ≡ true = sym is ∙ well in cc;
+  cut = λ began ended. prints.cut;
+  rose = λ began ended. prints.counted.rose;
+  later = prints.counted.later;
+  untouched = λ ill. let clash : true ≡ false = ill in cc;
+  ill = λ ill. let clash : true ≡ false = ill in cc;
+}

@@ -1,0 +1,33 @@
+use Rattle.std.proofs.Common.{◌≢◌, map, rules, tests}
+use Rattle.calc_base.specs.declared.words.WordsFault.TheVariants as fault
+use Rattle.std.specs.Prelude.{string_bytes}
+use Rattle.calc_app.proofs.Built.{built}
+use Rattle.calc_app.proofs.Replies.{computes_reply, accepts_reply, refused_by, refused_at}
+use Rattle.calc_app.proofs.outcome.outcome_of.Goals as goal
+
+pub reply_to-requires : goal.reply_to-requires
+reply_to-requires c = built (map string_bytes c.args.words.now) c.in-Ok.command c.in-Ok.ensures.read
+
+pub returns-in-Ok-clause-computes : goal.returns-in-Ok-clause-computes
+returns-in-Ok-clause-computes c =
+    computes_reply (map string_bytes c.args.words.now) c.in-Ok.command c.reply_to.result c.in-Ok.ensures.read c.reply_to.ensures
+
+pub returns-in-Ok-clause-accepts : goal.returns-in-Ok-clause-accepts
+returns-in-Ok-clause-accepts c = λ command spelled.
+    accepts_reply c.in-Ok.command c.reply_to.result command c.reply_to.ensures (c.in-Ok.ensures.accepts command spelled)
+
+pub returns-in-Ok-clause-refuses : goal.returns-in-Ok-clause-refuses
+returns-in-Ok-clause-refuses c = λ offence first. absurd (c.in-Ok.ensures.refuses offence first)
+
+pub returns-in-Ok-clause-goes_wrong : goal.returns-in-Ok-clause-goes_wrong
+returns-in-Ok-clause-goes_wrong c = λ word byte place. absurd (c.in-Ok.ensures.goes_wrong word byte place)
+
+pub returns-in-Err : goal.returns-in-Err
+returns-in-Err c =
+    let memory : c.in-Err.fault ≢ fault.NoMemory = search (rules, tests) in
+    record {
+      computes = (c.in-Err.ensures.read, memory);
+      accepts = λ command spelled. memory (c.in-Err.ensures.accepts command spelled);
+      refuses = λ offence first. refused_by offence c.in-Err.fault memory (c.in-Err.ensures.refuses offence first);
+      goes_wrong = λ word byte place. refused_at word byte c.in-Err.fault memory (c.in-Err.ensures.goes_wrong word byte place);
+    }
