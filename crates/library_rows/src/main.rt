@@ -1,0 +1,23 @@
+//! Calls of the library with their answers, a line a row. Each module shows one crate; what it prints is compared with
+//! `stdout`, whose lines were written from the definitions and from outside values.
+#![tactic(auto)]
+
+mod command_rows;
+mod expansion_rows;
+mod expression_rows;
+mod partition_rows;
+mod permutation_rows;
+mod plain_rows;
+mod scalar_rows;
+mod table_rows;
+
+fn main(rt: HostRuntime) -> anyhow::Result<()> {
+    scalar_rows::print(&rt)?;
+    partition_rows::print(&rt)?;
+    permutation_rows::print(&rt)?;
+    table_rows::print(&rt)?;
+    expression_rows::print(&rt)?;
+    command_rows::print(&rt)?;
+    plain_rows::print(&rt)?;
+    expansion_rows::print(&rt)
+}
