@@ -183,7 +183,7 @@ marks-below level d b (ratio n k) h =
     (simp length-append (omega (arith, h.0.nonempty)), (simp length-append (omega (arith, h.1.nonempty)), tt))
 marks-below level d b (label basis ws) h =
     below-more (b + 2 + length (comma_separated ws)) (b + length (spelling (label basis ws))) (entry_marks (b + 2) 0 None ws) (label-below b basis ws)
-    (entries-below (b + 2) 0 None ws h.1)
+    (entries-below (b + 2) 0 None ws h)
 marks-below level d b (brackets e) h = (
   omega (arith, brackets-below b e),
   below-more (b + 1 + length (spelling e)) (b + length (spelling (brackets e))) (marks (d + 1) (b + 1) e) (brackets-below b e)

@@ -1,4 +1,4 @@
-// The tree of a word that is known to be an expression, built from left to right with no recursion.
+//! The tree of a word that is known to be an expression, built from left to right with no recursion.
 ghost use Rattle.std.specs.Prelude.{◌≡◌, ℕ, ◌+◌, ◌*◌, ◌^◌, ◌<◌, ◌≤◌, IfOk, option_map, true};
 ghost use Rattle.expression_laws.specs.LeftToRight.{join_factor, join_term, join, at, awaited, in_number, in_entry, other, start, found, after_factor, before_factor, in_list_step, step};
 ghost use Rattle.calc_expressions.specs.ScanSteps.{IsSoundDigit};
@@ -14,7 +14,7 @@ use calc_base::{Basis, NoMemory};
 use partitions::Partition;
 use std::alloc::Global;
 
-// What stands before a term: nothing, a minus at the front, or an expression and its operator.
+/// What stands before a term: nothing, a minus at the front, or an expression and its operator.
 #[derive(Drop)]
 pub(crate) enum LeadingTerms {
     NoTerm,
@@ -23,14 +23,14 @@ pub(crate) enum LeadingTerms {
     Subtracting(Box<Expr>),
 }
 
-// What stands before a factor: nothing, or a term and a star.
+/// What stands before a factor: nothing, or a term and a star.
 #[derive(Drop)]
 pub(crate) enum LeadingFactors {
     NoFactor,
     Multiplying(Box<Expr>),
 }
 
-// The term that a factor ends.
+/// The term that a factor ends.
 fn term_of(alloc: Global, before: LeadingFactors, factor: Expr) -> Result<Expr, NoMemory>
     ensures { IfOk result (λ e. built_of e ≡ join_factor builds (factors_in before) (built_of factor)) }
 {
@@ -43,7 +43,7 @@ fn term_of(alloc: Global, before: LeadingFactors, factor: Expr) -> Result<Expr, 
     }
 }
 
-// The expression that a term ends.
+/// The expression that a term ends.
 fn expression_of(alloc: Global, before: LeadingTerms, term: Expr) -> Result<Expr, NoMemory>
     ensures { IfOk result (λ e. built_of e ≡ join_term builds (terms_in before) (built_of term)) }
 {
@@ -63,7 +63,7 @@ fn expression_of(alloc: Global, before: LeadingTerms, term: Expr) -> Result<Expr
     }
 }
 
-// The expression that a factor ends.
+/// The expression that a factor ends.
 fn joined(
     alloc: Global,
     terms: LeadingTerms,
@@ -75,7 +75,7 @@ fn joined(
     expression_of(alloc, terms, term_of(alloc, factors, factor)?)
 }
 
-// What is there of a factor, and of an atom's list the numbers before a comma.
+/// What is there of a factor, and of an atom's list the numbers before a comma.
 #[derive(Drop)]
 pub(crate) enum Part {
     Awaited,
@@ -88,14 +88,14 @@ pub(crate) enum Part {
     Closed(Expr),
 }
 
-// What stands before a factor, back to the last open parenthesis.
+/// What stands before a factor, back to the last open parenthesis.
 #[derive(Drop)]
 pub(crate) struct Frame {
     pub(crate) terms: LeadingTerms,
     pub(crate) factors: LeadingFactors,
 }
 
-// What has been built: the part of a factor, what stands before it, and the same for each parenthesis that is open.
+/// What has been built: the part of a factor, what stands before it, and the same for each parenthesis that is open.
 #[derive(Drop)]
 pub(crate) struct Builder {
     pub(crate) part: Part,
@@ -103,7 +103,7 @@ pub(crate) struct Builder {
     pub(crate) opened: Vec<Frame>,
 }
 
-// A number as an expression.
+/// A number as an expression.
 fn number(value: u128) -> Expr
     requires { value < 2 ^ 127 }
     ensures { built_of result ≡ builds.numeral_of value }
@@ -111,7 +111,7 @@ fn number(value: u128) -> Expr
     Expr::Number { num: value as i128 }
 }
 
-// A fraction as an expression.
+/// A fraction as an expression.
 fn fraction(num: u128, den: u128) -> Expr
     requires num { num < 2 ^ 127 }
     requires den { den < 2 ^ 127 }
@@ -123,7 +123,7 @@ fn fraction(num: u128, den: u128) -> Expr
     }
 }
 
-// An atom as an expression.
+/// An atom as an expression.
 fn atom(alloc: Global, basis: Basis, numbers: &[u16]) -> Result<Expr, NoMemory>
     requires { AreEntries numbers.now }
     ensures { IfOk result (λ e. built_of e ≡ builds.label_of (basis_of basis) numbers.now) }
@@ -133,7 +133,7 @@ fn atom(alloc: Global, basis: Basis, numbers: &[u16]) -> Result<Expr, NoMemory>
 }
 
 impl Builder {
-    // Where a factor is awaited.
+    /// Where a factor is awaited.
     fn awaiting(frame: Frame, opened: Vec<Frame>) -> Builder
         ensures { state_of result
             ≡ at awaited (terms_in frame.terms) (factors_in frame.factors) (opened_in opened.items) }
@@ -146,7 +146,7 @@ impl Builder {
     }
 }
 
-// After a byte that follows a whole factor; none where it is at fault.
+/// After a byte that follows a whole factor; none where it is at fault.
 fn after_factor(
     alloc: Global,
     factor: Expr,
@@ -201,7 +201,7 @@ fn after_factor(
     }
 }
 
-// After a byte where a factor is awaited; none where it is at fault.
+/// After a byte where a factor is awaited; none where it is at fault.
 fn before_factor(
     frame: Frame,
     opened: Vec<Frame>,
@@ -248,7 +248,7 @@ fn before_factor(
     }
 }
 
-// After a byte in an atom's list where a number may begin; none where it is at fault.
+/// After a byte in an atom's list where a number may begin; none where it is at fault.
 fn in_list(
     alloc: Global,
     basis: Basis,
@@ -282,7 +282,7 @@ fn in_list(
     }
 }
 
-// After a byte that follows a number of an atom's list; none where it is at fault.
+/// After a byte that follows a number of an atom's list; none where it is at fault.
 fn in_entry(
     alloc: Global,
     basis: Basis,
@@ -325,7 +325,7 @@ fn in_entry(
 }
 
 impl Builder {
-    // Before the first byte.
+    /// Before the first byte.
     fn start(alloc: Global) -> Builder
         ensures { state_of result ≡ start }
     {
@@ -336,7 +336,7 @@ impl Builder {
         Builder::awaiting(frame, Vec::new(alloc))
     }
 
-    // After a symbol, where a number that ends before it is no offence; none where the symbol is at fault.
+    /// After a symbol, where a number that ends before it is no offence; none where the symbol is at fault.
     fn after(self, alloc: Global, symbol: Symbol) -> Result<Option<Builder>, NoMemory>
         requires digit { IsSoundDigit (symbol_in symbol) }
         requires fine { IsFine (part_in self.part) (symbol_in symbol) }
@@ -382,7 +382,7 @@ impl Builder {
         }
     }
 
-    // The expression that has been built, if one is there whole, where a number at its end is no offence.
+    /// The expression that has been built, if one is there whole, where a number at its end is no offence.
     fn finish(self, alloc: Global) -> Result<Option<Expr>, NoMemory>
         requires { IsFine (part_in self.part) other }
         ensures { IfOk result (λ e. option_map built_of e ≡ found builds (state_of self)) }
@@ -410,7 +410,7 @@ impl Builder {
     }
 }
 
-// After a byte that follows a number; none where it is at fault.
+/// After a byte that follows a number; none where it is at fault.
 fn after_number(
     alloc: Global,
     value: u128,
@@ -437,7 +437,7 @@ fn after_number(
     }
 }
 
-// The tree of a word that is an expression whose numbers are no offence and within the greatest degree.
+/// The tree of a word that is an expression whose numbers are no offence and within the greatest degree.
 pub(crate) fn build(alloc: Global, word: &[u8]) -> Result<Expr, NoMemory>
     requires { IsBuildable word.now }
     ensures { IfOk result (λ e. (phrase : Phrase) → SpellsPhrase word.now phrase → built_of e ≡ (tree phrase, true)) }

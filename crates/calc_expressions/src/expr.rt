@@ -1,4 +1,4 @@
-// The tree of an expression.
+//! The tree of an expression.
 ghost use Rattle.std.specs.Prelude.{◌≡◌, ◌≤◌, ◌↔◌, IsTrue, min};
 ghost use Rattle.sym_model.specs.Expression.{degree, nesting};
 ghost use Rattle.calc_expressions.specs.Trees.{tree_of, has_no_signs};
@@ -18,11 +18,11 @@ pub enum Expr {
     Product { left: Box<Expr>, right: Box<Expr> },
 }
 
-// A degree above each that a formula may have: degrees are told apart below it.
+/// A degree above each that a formula may have: degrees are told apart below it.
 const HIGH: u16 = 21;
 
 impl Expr {
-    // Whether the nesting is at most `limit` and no number has a sign.
+    /// Whether the nesting is at most `limit` and no number has a sign.
     pub(crate) fn is_plain_within(&self, limit: u16) -> bool
         ensures { IsTrue result ↔ ((nesting (tree_of self.now) ≤ limit) × IsTrue (has_no_signs self.now)) }
     {
@@ -42,7 +42,7 @@ impl Expr {
         }
     }
 
-    // The degree, or `HIGH` where it is greater.
+    /// The degree, or `HIGH` where it is greater.
     pub(crate) fn capped_degree(&self) -> u16
         ensures { result ≡ min 21 (degree (tree_of self.now)) }
     {

@@ -1,4 +1,4 @@
-// Expressions within the bounds that every conversion of them keeps.
+//! Expressions within the bounds that every conversion of them keeps.
 ghost use Rattle.std.specs.Prelude.{◌≡◌, ◌^◌, ◌<◌, ◌≤◌, ◌↔◌, IsTrue, MatchResult};
 ghost use Rattle.sym_model.specs.Expression.{degree, denominator};
 ghost use Rattle.sym_model.specs.ExpressionOffence.{degree_limit};
@@ -10,7 +10,7 @@ use crate::Expr;
 use crate::weigh::checked_weight;
 use calc_base::{Basis, Weight};
 
-// The greatest nesting, and the greatest degree, of a formula.
+/// The greatest nesting, and the greatest degree, of a formula.
 const MAX_NESTING: u16 = 4096;
 
 pub(crate) const MAX_DEGREE: u16 = 20;

@@ -1,4 +1,4 @@
-// What a word can offend by, and which offence comes first.
+//! What a word can offend by, and which offence comes first.
 ghost use Rattle.std.specs.Prelude.{◌≡◌, option_map};
 ghost use Rattle.calc_expressions.specs.Offences.{kind_in, offence_in, mark_in, first_kind};
 ghost use Rattle.sym_model.specs.ExpressionOffence.{earlier, comes_first};
@@ -17,14 +17,14 @@ pub(crate) struct Offence {
     pub(crate) kind: Kind,
 }
 
-// The numbers of an atom's list that stand before a place in it: how many, and the last of them.
+/// The numbers of an atom's list that stand before a place in it: how many, and the last of them.
 #[derive(Clone, Copy)]
 pub(crate) struct Before {
     pub(crate) count: u64,
     pub(crate) last: Option<u128>,
 }
 
-// What a byte begins, where it can offend.
+/// What a byte begins, where it can offend.
 #[derive(Clone, Copy)]
 pub(crate) enum Mark {
     Value { value: u128 },
@@ -33,10 +33,10 @@ pub(crate) enum Mark {
     Opening { depth: u64 },
 }
 
-// Numbers are below this.
+/// Numbers are below this.
 pub(crate) const WIDE: u128 = 1 << 127;
 
-// The first kind of offence at a mark, if there is one.
+/// The first kind of offence at a mark, if there is one.
 pub(crate) fn kind_at(mark: Mark) -> Option<Kind>
     ensures { option_map kind_in result ≡ first_kind (mark_in mark) }
 {
@@ -66,7 +66,7 @@ pub(crate) fn kind_at(mark: Mark) -> Option<Kind>
 }
 
 impl Offence {
-    // Whether this one comes first, or both are one.
+    /// Whether this one comes first, or both are one.
     fn comes_first(self, other: Offence) -> bool
         ensures { result ≡ comes_first (offence_in self) (offence_in other) }
     {
@@ -74,7 +74,7 @@ impl Offence {
     }
 }
 
-// The first of two offences, if there is one.
+/// The first of two offences, if there is one.
 pub(crate) fn earlier(first: Option<Offence>, second: Option<Offence>) -> Option<Offence>
     ensures { option_map offence_in result
         ≡ earlier (option_map offence_in first) (option_map offence_in second) }

@@ -1,4 +1,4 @@
-// How a word is read as an expression.
+//! How a word is read as an expression.
 ghost use Rattle.std.specs.Prelude.{◌≡◌, ◌≤◌, IfOk, MatchOption};
 ghost use Rattle.sym_model.specs.Phrase.{Phrase, SpellsPhrase};
 ghost use Rattle.sym_model.specs.Expression.{degree};
@@ -42,10 +42,10 @@ impl From<NoMemory> for ExpressionFault {
     }
 }
 
-// The most bytes of an expression.
+/// The most bytes of an expression.
 const MAX_BYTES: u64 = 4096;
 
-// The refusal of an offence.
+/// The refusal of an offence.
 fn fault_of(offence: Offence) -> ExpressionFault
     ensures { IsFaultOf (offence_in offence) result }
 {
@@ -57,7 +57,7 @@ fn fault_of(offence: Offence) -> ExpressionFault
     }
 }
 
-// The expression of a word that has been scanned, or its first offence.
+/// The expression of a word that has been scanned, or its first offence.
 fn judged(alloc: Global, target: Basis, word: &[u8], scan: Scan) -> Result<Formula, ExpressionFault>
     requires { IsScanned word.now (Ok scan) }
     ensures { IsRead (basis_of target) word.now result }
@@ -98,7 +98,7 @@ pub fn wrong_byte(word: &[u8]) -> Option<u64>
     }
 }
 
-/// Reads a word as an expression of atoms in m, e, h and p that is to be expanded into the target.
+/// Reads a word as an expression of atoms in m, e, h, p and s that is to be expanded into the target.
 ///
 /// A word that is no expression is refused as `Syntax`, at the length of its longest prefix that begins one. Otherwise the
 /// first offence is refused: a number past 2^127 - 1 as `Literal`; as `Range` a parenthesis that opens depth 65, the 65th

@@ -1,5 +1,5 @@
-// One reading of a word from left to right, with no memory and no recursion: whether it is an expression, how far it
-// begins one, and what it offends by first.
+//! One reading of a word from left to right, with no memory and no recursion: whether it is an expression, how far it
+//! begins one, and what it offends by first.
 ghost use Rattle.std.specs.Prelude.{◌≡◌, ℕ, ◌+◌, ◌-◌, ◌*◌, ◌^◌, ◌<◌, ◌≤◌, option_map};
 ghost use Rattle.calc_expressions.specs.Symbols.{symbol_in};
 ghost use Rattle.calc_expressions.specs.ScanSteps.{capped, IsSoundDigit, HasRoom, mode_after_factor, mode_before_factor, mode_after, depth_after, number_mark, mark_before, is_high, scan_start, Sees, StepsTo, is_whole, IsScanned};
@@ -9,7 +9,7 @@ use crate::formula::MAX_DEGREE;
 use crate::offence::{Before, Mark, Offence, WIDE, earlier, kind_at};
 use crate::symbol::{Symbol, symbol_of};
 
-// What the last byte leaves to come. A number is kept with the byte at which it begins, and with `WIDE` where it is wide.
+/// What the last byte leaves to come. A number is kept with the byte at which it begins, and with `WIDE` where it is wide.
 #[derive(Clone, Copy)]
 pub(crate) enum Mode {
     Start,
@@ -35,8 +35,8 @@ pub(crate) enum Mode {
     Whole,
 }
 
-// What is kept of the bytes so far: the mode, how many parentheses are open, the first offence, and whether some number of
-// an atom is past every degree.
+/// What is kept of the bytes so far: the mode, how many parentheses are open, the first offence, and whether some number of
+/// an atom is past every degree.
 #[derive(Clone, Copy)]
 pub(crate) struct Scan {
     pub(crate) mode: Mode,
@@ -45,7 +45,7 @@ pub(crate) struct Scan {
     pub(crate) is_high: bool,
 }
 
-// A number with a digit more, or `WIDE`.
+/// A number with a digit more, or `WIDE`.
 pub(crate) fn extended(value: u128, digit: u8) -> u128
     requires { 48 ≤ digit }
     ensures { result ≡ capped (10 * value + (digit - 48)) }
@@ -56,7 +56,7 @@ pub(crate) fn extended(value: u128, digit: u8) -> u128
         .min(WIDE)
 }
 
-// The mode after a factor.
+/// The mode after a factor.
 fn after_factor(symbol: Symbol) -> Option<Mode>
     ensures { result ≡ mode_after_factor (symbol_in symbol) }
 {
@@ -67,7 +67,7 @@ fn after_factor(symbol: Symbol) -> Option<Mode>
     }
 }
 
-// The mode after a byte where a factor is awaited.
+/// The mode after a byte where a factor is awaited.
 fn before_factor(at: u64, symbol: Symbol) -> Option<Mode>
     requires { IsSoundDigit (symbol_in symbol) }
     ensures { result ≡ mode_before_factor at (symbol_in symbol) }
@@ -83,7 +83,7 @@ fn before_factor(at: u64, symbol: Symbol) -> Option<Mode>
     }
 }
 
-// The mode after a byte in an atom's list where a number may begin.
+/// The mode after a byte in an atom's list where a number may begin.
 fn in_list(before: Before, at: u64, symbol: Symbol) -> Option<Mode>
     requires { IsSoundDigit (symbol_in symbol) }
     ensures { result ≡ mode_after (Mode.List before) at (symbol_in symbol) }
@@ -99,7 +99,7 @@ fn in_list(before: Before, at: u64, symbol: Symbol) -> Option<Mode>
     }
 }
 
-// The mode after a byte that follows a number of an atom's list.
+/// The mode after a byte that follows a number of an atom's list.
 fn in_entry(before: Before, start: u64, value: u128, symbol: Symbol) -> Option<Mode>
     requires digit { IsSoundDigit (symbol_in symbol) }
     requires room { before.count + 1 < 2 ^ 64 }
@@ -123,7 +123,7 @@ fn in_entry(before: Before, start: u64, value: u128, symbol: Symbol) -> Option<M
 }
 
 impl Mode {
-    // The mode after a symbol at the byte `at`, or none where the symbol is at fault.
+    /// The mode after a symbol at the byte `at`, or none where the symbol is at fault.
     fn after(self, at: u64, symbol: Symbol) -> Option<Mode>
         requires digit { IsSoundDigit (symbol_in symbol) }
         requires room { HasRoom self }
@@ -177,7 +177,7 @@ impl Mode {
     }
 }
 
-// How many parentheses are open after a symbol, or none where one is closed that is not open.
+/// How many parentheses are open after a symbol, or none where one is closed that is not open.
 fn depth_after(depth: u64, symbol: Symbol) -> Option<u64>
     requires { depth + 1 < 2 ^ 64 }
     ensures { result ≡ depth_after depth (symbol_in symbol) }
@@ -189,7 +189,7 @@ fn depth_after(depth: u64, symbol: Symbol) -> Option<u64>
     }
 }
 
-// Where a number that the mode holds begins, and what it is.
+/// Where a number that the mode holds begins, and what it is.
 fn number_mark(mode: Mode) -> Option<(u64, Mark)>
     ensures { result ≡ number_mark mode }
 {
@@ -205,7 +205,7 @@ fn number_mark(mode: Mode) -> Option<(u64, Mark)>
     }
 }
 
-// The mark that a symbol at the byte `at` completes: a number that ends before it, or a parenthesis.
+/// The mark that a symbol at the byte `at` completes: a number that ends before it, or a parenthesis.
 fn mark_before(mode: Mode, depth: u64, at: u64, symbol: Symbol) -> Option<(u64, Mark)>
     requires { depth + 1 < 2 ^ 64 }
     ensures { result ≡ mark_before mode depth at (symbol_in symbol) }
@@ -217,14 +217,14 @@ fn mark_before(mode: Mode, depth: u64, at: u64, symbol: Symbol) -> Option<(u64, 
     }
 }
 
-// The first offence at a mark, if there is one.
+/// The first offence at a mark, if there is one.
 fn offence_at(mark: (u64, Mark)) -> Option<Offence>
     ensures { option_map offence_in result ≡ option_map (λ kind. (mark.0, kind)) (first_kind (mark_in mark.1)) }
 {
     kind_at(mark.1).map(|kind| Offence { byte: mark.0, kind })
 }
 
-// Whether a mark is a number of an atom that is past every degree.
+/// Whether a mark is a number of an atom that is past every degree.
 fn is_high(mark: Mark) -> bool
     ensures { result ≡ is_high (mark_in mark) }
 {
@@ -235,7 +235,7 @@ fn is_high(mark: Mark) -> bool
 }
 
 impl Scan {
-    // Before the first byte.
+    /// Before the first byte.
     fn start() -> Scan
         ensures { result ≡ scan_start }
     {
@@ -247,7 +247,7 @@ impl Scan {
         }
     }
 
-    // The same place, with what a mark adds to what was found.
+    /// The same place, with what a mark adds to what was found.
     fn with_mark(self, mark: Option<(u64, Mark)>) -> Scan
         ensures sees { Sees self mark result }
         ensures mode { result.mode ≡ self.mode }
@@ -264,7 +264,7 @@ impl Scan {
         }
     }
 
-    // After a symbol at the byte `at`; none where the symbol is at fault.
+    /// After a symbol at the byte `at`; none where the symbol is at fault.
     fn after(self, at: u64, symbol: Symbol) -> Option<Scan>
         requires digit { IsSoundDigit (symbol_in symbol) }
         requires room { HasRoom self.mode }
@@ -284,7 +284,7 @@ impl Scan {
 }
 
 impl Scan {
-    // Whether the bytes so far are an expression.
+    /// Whether the bytes so far are an expression.
     fn is_whole(self) -> bool
         ensures { result ≡ is_whole self }
     {

@@ -1,4 +1,4 @@
-// What a byte is to the grammar of expressions.
+//! What a byte is to the grammar of expressions.
 ghost use Rattle.std.specs.Prelude.{◌≡◌};
 ghost use Rattle.expression_laws.specs.LeftToRight.{symbol};
 ghost use Rattle.calc_expressions.specs.Symbols.{symbol_in};
@@ -40,6 +40,7 @@ pub(crate) fn symbol_of(byte: u8) -> Symbol
         b'e' => Symbol::Letter(Basis::E),
         b'h' => Symbol::Letter(Basis::H),
         b'p' => Symbol::Letter(Basis::P),
+        b's' => Symbol::Letter(Basis::S),
         _ => Symbol::Other,
     }
 }

@@ -1,4 +1,4 @@
-// The weights of expressions, in numbers of 128 bits.
+//! The weights of expressions, in numbers of 128 bits.
 ghost use Rattle.std.specs.Prelude.{◌≡◌, ◌+◌, ◌*◌, ◌/◌, ◌^◌, ◌<◌, ◌≤◌, IsTrue, SomeIff, MatchOption};
 ghost use Rattle.sym_model.specs.Canonical.{gcd};
 ghost use Rattle.sym_model.specs.Expression.{denominator, degree as degree_of};
@@ -9,10 +9,10 @@ ghost use Rattle.calc_expressions.specs.Weights.{IsWeighed};
 use crate::Expr;
 use calc_base::{Basis, Weight};
 
-// The numbers of a weight are below this.
+/// The numbers of a weight are below this.
 const LIMIT: u128 = 1 << 127;
 
-// The greatest common divisor, by Euclid's rule.
+/// The greatest common divisor, by Euclid's rule.
 fn gcd(mut a: u128, mut b: u128) -> u128
     ensures { result ≡ gcd a b }
 {
@@ -24,7 +24,7 @@ fn gcd(mut a: u128, mut b: u128) -> u128
     a
 }
 
-// The weight with these numbers, if they are below the limit.
+/// The weight with these numbers, if they are below the limit.
 fn weight_of(num: u128, den: u128) -> Option<Weight>
     ensures { IsWeighed result num den }
 {
@@ -35,8 +35,8 @@ fn weight_of(num: u128, den: u128) -> Option<Weight>
     }
 }
 
-// The weight of a sum or a difference, over the least common denominator. A denominator over the greatest common
-// divisor of both is the least common multiple over the other one.
+/// The weight of a sum or a difference, over the least common denominator. A denominator over the greatest common
+/// divisor of both is the least common multiple over the other one.
 fn sum_weight(a: Weight, b: Weight) -> Option<Weight>
     requires { 0 < a.den }
     ensures { let g = gcd a.den b.den in IsWeighed result (a.num * (b.den / g) + b.num * (a.den / g)) (a.den / g * b.den) }
@@ -50,7 +50,7 @@ fn sum_weight(a: Weight, b: Weight) -> Option<Weight>
     weight_of(a_num.checked_add(b_num)?, den)
 }
 
-// The weight of a product.
+/// The weight of a product.
 fn product_weight(a: Weight, b: Weight) -> Option<Weight>
     ensures { IsWeighed result (a.num * b.num) (a.den * b.den) }
 {
@@ -58,7 +58,7 @@ fn product_weight(a: Weight, b: Weight) -> Option<Weight>
 }
 
 impl Expr {
-    // The two numbers of the weight; none exactly where one of them is 2^127 or more.
+    /// The two numbers of the weight; none exactly where one of them is 2^127 or more.
     pub(crate) fn weigh(&self) -> Option<Weight>
         requires { IsTrue (has_no_signs self.now) }
         ensures { IsWeighed result (numerator (tree_of self.now)) (denominator (tree_of self.now)) }
@@ -77,7 +77,7 @@ impl Expr {
     }
 }
 
-// d!, for the degrees of formulas.
+/// d!, for the degrees of formulas.
 fn factorial(d: u16) -> u128
     requires { d ≤ 20 }
     ensures { result ≡ factorial d }
@@ -89,7 +89,7 @@ fn factorial(d: u16) -> u128
     product
 }
 
-// How much a conversion into the target can raise the coefficients at a degree; none where that is 2^128 or more.
+/// How much a conversion into the target can raise the coefficients at a degree; none where that is 2^128 or more.
 fn growth(target: Basis, d: u16) -> Option<u128>
     requires { d ≤ 20 }
     ensures { SomeIff result (growth (basis_of target) d < 2 ^ 128) (growth (basis_of target) d) }
@@ -104,7 +104,7 @@ fn growth(target: Basis, d: u16) -> Option<u128>
     }
 }
 
-// The weight for the target; none only where it is 2^127 or more.
+/// The weight for the target; none only where it is 2^127 or more.
 pub(crate) fn checked_weight(tree: &Expr, degree: u16, target: Basis) -> Option<u128>
     requires plain { IsTrue (has_no_signs tree.now) }
     requires low { degree ≤ 20 }

@@ -3,9 +3,9 @@ use Rattle.std.proofs.Common.{◌≡◌, ℕ, ◌==◌, nat_le, Bool, true, fals
 use Rattle.std.proofs.lemmas.Bool.{leb-true, eqb-true}
 use Rattle.std.proofs.lemmas.List.{append-nil}
 use Rattle.std.specs.Prelude.{codes}
-use Rattle.sym_model.specs.Expansion.{Basis, monomials, elementaries, completes, power_sums}
+use Rattle.sym_model.specs.Expansion.{Basis, monomials, elementaries, completes, power_sums, schurs}
 use Rattle.sym_model.specs.NumberWord.{IsDigit, AreDigits, IsNumberWord, AreNumberWords, comma_separated}
-use Rattle.sym_model.specs.Phrase.{plus, minus, times, Phrase, numeral, ratio, label, brackets, minus_first, operation, expression, term, factor, Is, HasAtoms, letter, spelling, SpellsPhrase, BeginsExpression}
+use Rattle.sym_model.specs.Phrase.{plus, minus, times, Phrase, numeral, ratio, label, brackets, minus_first, operation, expression, term, factor, Is, letter, spelling, SpellsPhrase, BeginsExpression}
 use Rattle.expression_laws.specs.LeftToRight.{Symbol, digit, plus_sign, minus_sign, star, slash, opens, closes, opens_list, closes_list, comma, letter_of, other, symbol, BeforeTerm, no_term, negating, adding, subtracting, BeforeFactor, no_factor, multiplying, Opened, outermost, inside, Piece, awaited, in_number, after_slash, in_denominator, after_letter, in_list, in_entry, closed, at, dead, step, start, phrases, join, join_factor, join_term, after_factor, before_factor, in_list_step, is_live, found}
 use Rattle.expression_laws.proofs.PhraseRuns.{Reading, read_on, read-append, factor_covers, found-spelled}
 
@@ -21,7 +21,7 @@ Codes b closes = b ≡ 41
 Codes b opens_list = b ≡ 91
 Codes b closes_list = b ≡ 93
 Codes b comma = b ≡ 44
-Codes b (letter_of basis) = (letter basis ≡ b ∷ []) × HasAtoms basis
+Codes b (letter_of basis) = letter basis ≡ b ∷ []
 Codes b other = Unit {0}
 
 choose : (b : ℕ) (x : Bool) (s t : Symbol) → (x ≡ true → Codes b s) → Codes b t → Codes b (cond x s t)
@@ -54,10 +54,11 @@ symbol-codes b =
     (choose b (b == 91) opens_list _ (same b 91)
     (choose b (b == 93) closes_list _ (same b 93)
     (choose b (b == 44) comma _ (same b 44)
-    (choose b (b == 109) (letter_of monomials) _ (λ e. (one_letter b 109 (109 ∷ []) refl (same b 109 e), tt))
-    (choose b (b == 101) (letter_of elementaries) _ (λ e. (one_letter b 101 (101 ∷ []) refl (same b 101 e), tt))
-    (choose b (b == 104) (letter_of completes) _ (λ e. (one_letter b 104 (104 ∷ []) refl (same b 104 e), tt))
-    (choose b (b == 112) (letter_of power_sums) other (λ e. (one_letter b 112 (112 ∷ []) refl (same b 112 e), tt)) tt)))))))))))))
+    (choose b (b == 109) (letter_of monomials) _ (λ e. one_letter b 109 (109 ∷ []) refl (same b 109 e))
+    (choose b (b == 101) (letter_of elementaries) _ (λ e. one_letter b 101 (101 ∷ []) refl (same b 101 e))
+    (choose b (b == 104) (letter_of completes) _ (λ e. one_letter b 104 (104 ∷ []) refl (same b 104 e))
+    (choose b (b == 112) (letter_of power_sums) _ (λ e. one_letter b 112 (112 ∷ []) refl (same b 112 e))
+    (choose b (b == 115) (letter_of schurs) other (λ e. one_letter b 115 (115 ∷ []) refl (same b 115 e)) tt))))))))))))))
 
 -- the bytes that have been read
 abbrev pub written_term : BeforeTerm Phrase → List ℕ
@@ -112,9 +113,9 @@ SoundPiece awaited = Unit {0}
 SoundPiece (in_number ds) = IsNumberWord ds
 SoundPiece (after_slash ds) = IsNumberWord ds
 SoundPiece (in_denominator ds es) = IsNumberWord ds × IsNumberWord es
-SoundPiece (after_letter basis) = HasAtoms basis
-SoundPiece (in_list basis ws) = HasAtoms basis × AreNumberWords ws
-SoundPiece (in_entry basis ws ds) = HasAtoms basis × AreNumberWords ws × IsNumberWord ds
+SoundPiece (after_letter basis) = Unit {0}
+SoundPiece (in_list basis ws) = AreNumberWords ws
+SoundPiece (in_entry basis ws ds) = AreNumberWords ws × IsNumberWord ds
 SoundPiece (closed e) = Is factor e
 
 abbrev pub Sound : Reading → Type 0
@@ -214,7 +215,7 @@ before-factor : (b : ℕ) (s : Symbol) (t : BeforeTerm Phrase) (f : BeforeFactor
 before-factor b (digit c) t f o e ht hf ho =
     (simp (e.0, append_assoc, append-nil), (one_digit c b e.0 e.1, ht, hf, ho))
 before-factor b (letter_of basis) t f o e ht hf ho =
-    (simp (e.0, append_assoc, append-nil), (e.1, ht, hf, ho))
+    (simp (e, append_assoc, append-nil), (tt, ht, hf, ho))
 before-factor b opens t f o e ht hf ho =
     (simp (e, append_assoc, append-nil), (tt, tt, tt, (ho, ht, hf)))
 before-factor b minus_sign no_term no_factor o e ht hf ho =
@@ -238,13 +239,13 @@ AreNumberWords-snoc [] w h k = (k, tt)
 AreNumberWords-snoc (v ∷ ws) w h k = (h.0, AreNumberWords-snoc ws w h.1 k)
 
 -- a byte in an atom's list
-in-list : (b : ℕ) (s : Symbol) (basis : Basis) (ws : List (List ℕ)) (t : BeforeTerm Phrase) (f : BeforeFactor Phrase) (o : Opened Phrase) → Codes b s → HasAtoms basis → AreNumberWords ws → SoundTerm t → SoundFactor f → SoundOpened o
+in-list : (b : ℕ) (s : Symbol) (basis : Basis) (ws : List (List ℕ)) (t : BeforeTerm Phrase) (f : BeforeFactor Phrase) (o : Opened Phrase) → Codes b s → AreNumberWords ws → SoundTerm t → SoundFactor f → SoundOpened o
     → Continues ((written_opened o ++ (written_term t ++ (written_factor f ++ (letter basis ++ (codes "[" ++ commas ws))))) ++ b ∷ []) (in_list_step phrases basis ws t f o s)
-in-list b (digit c) basis ws t f o e hb hw ht hf ho =
-    (simp (e.0, append_assoc), ((hb, hw, one_digit c b e.0 e.1), ht, hf, ho))
-in-list b closes_list basis [] t f o e hb hw ht hf ho =
-    (simp (e, append_assoc, append-nil), ((hb, tt), ht, hf, ho))
-in-list b _ basis ws t f o e hb hw ht hf ho = tt
+in-list b (digit c) basis ws t f o e hw ht hf ho =
+    (simp (e.0, append_assoc), ((hw, one_digit c b e.0 e.1), ht, hf, ho))
+in-list b closes_list basis [] t f o e hw ht hf ho =
+    (simp (e, append_assoc, append-nil), (tt, ht, hf, ho))
+in-list b _ basis ws t f o e hw ht hf ho = tt
 
 -- a byte more
 pub continues : (b : ℕ) (s : Symbol) (x : Reading) → Codes b s → Sound x → Continues (written x ++ b ∷ []) (step phrases x s)
@@ -260,15 +261,15 @@ continues b s (at (after_slash ds) t f o) e h = tt
 continues b (digit c) (at (in_denominator ds es) t f o) e h =
     (simp (e.0, append_assoc), ((h.0.0, IsNumberWord-snoc es c b e.0 e.1 h.0.1), h.1, h.2, h.3))
 continues b s (at (in_denominator ds es) t f o) e h = after-factor b s (ratio ds es) t f o e h.0 h.1 h.2 h.3
-continues b opens_list (at (after_letter basis) t f o) e h = (simp (e, append_assoc), ((h.0, tt), h.1, h.2, h.3))
+continues b opens_list (at (after_letter basis) t f o) e h = (simp (e, append_assoc), (tt, h.1, h.2, h.3))
 continues b s (at (after_letter basis) t f o) e h = tt
-continues b s (at (in_list basis ws) t f o) e h = in-list b s basis ws t f o e h.0.0 h.0.1 h.1 h.2 h.3
+continues b s (at (in_list basis ws) t f o) e h = in-list b s basis ws t f o e h.0 h.1 h.2 h.3
 continues b (digit c) (at (in_entry basis ws ds) t f o) e h =
-    (simp (e.0, append_assoc), ((h.0.0, h.0.1, IsNumberWord-snoc ds c b e.0 e.1 h.0.2), h.1, h.2, h.3))
+    (simp (e.0, append_assoc), ((h.0.0, IsNumberWord-snoc ds c b e.0 e.1 h.0.1), h.1, h.2, h.3))
 continues b comma (at (in_entry basis ws ds) t f o) e h =
-    (simp (e, commas-snoc, append_assoc), ((h.0.0, AreNumberWords-snoc ws ds h.0.1 h.0.2), h.1, h.2, h.3))
+    (simp (e, commas-snoc, append_assoc), (AreNumberWords-snoc ws ds h.0.0 h.0.1, h.1, h.2, h.3))
 continues b closes_list (at (in_entry basis ws ds) t f o) e h =
-    (simp (e, comma_separated-snoc, append_assoc), ((h.0.0, AreNumberWords-snoc ws ds h.0.1 h.0.2), h.1, h.2, h.3))
+    (simp (e, comma_separated-snoc, append_assoc), (AreNumberWords-snoc ws ds h.0.0 h.0.1, h.1, h.2, h.3))
 continues b s (at (in_entry basis ws ds) t f o) e h = tt
 continues b s (at (closed x) t f o) e h = after-factor b s x t f o e h.0 h.1 h.2 h.3
 
@@ -339,9 +340,9 @@ Is-factor_from awaited h = one_is_number
 Is-factor_from (in_number ds) h = h
 Is-factor_from (after_slash ds) h = (h, one_is_number)
 Is-factor_from (in_denominator ds es) h = h
-Is-factor_from (after_letter basis) h = (h, tt)
-Is-factor_from (in_list basis ws) h = (h.0, AreNumberWords-snoc ws (codes "1") h.1 one_is_number)
-Is-factor_from (in_entry basis ws ds) h = (h.0, AreNumberWords-snoc ws ds h.1 h.2)
+Is-factor_from (after_letter basis) h = tt
+Is-factor_from (in_list basis ws) h = AreNumberWords-snoc ws (codes "1") h one_is_number
+Is-factor_from (in_entry basis ws ds) h = AreNumberWords-snoc ws ds h.0 h.1
 Is-factor_from (closed e) h = h
 
 regroup : (a b c d e f : List ℕ) → a ++ ((b ++ (c ++ (d ++ e))) ++ f) ≡ (a ++ (b ++ (c ++ d))) ++ (e ++ f)

@@ -5,7 +5,7 @@ use Rattle.std.proofs.lemmas.List.{append-nil}
 use Rattle.std.specs.Prelude.{codes}
 use Rattle.sym_model.specs.Expansion.{Basis, monomials, elementaries, completes, power_sums, schurs}
 use Rattle.sym_model.specs.NumberWord.{IsDigit, AreDigits, IsNumberWord, AreNumberWords, comma_separated}
-use Rattle.sym_model.specs.Phrase.{Operator, plus, minus, times, Phrase, numeral, ratio, label, brackets, minus_first, operation, Level, expression, term, factor, Covers, level_of, Is, HasAtoms, letter, spelling, SpellsPhrase}
+use Rattle.sym_model.specs.Phrase.{Operator, plus, minus, times, Phrase, numeral, ratio, label, brackets, minus_first, operation, Level, expression, term, factor, Covers, level_of, Is, letter, spelling, SpellsPhrase}
 use Rattle.expression_laws.specs.LeftToRight.{Symbol, digit, plus_sign, minus_sign, star, slash, opens, closes, opens_list, closes_list, comma, letter_of, other, symbol, sign_symbol, BeforeTerm, no_term, negating, adding, subtracting, BeforeFactor, no_factor, multiplying, Opened, outermost, inside, Piece, awaited, in_number, after_slash, in_denominator, in_list, in_entry, closed, State, at, step, run, start, phrases, join, join_term, after_factor, factor_found, found}
 
 -- a byte that is a digit is read as one
@@ -86,18 +86,18 @@ read-entries basis ws w (v ∷ more) t f o h =
     ∙ ap (λ x. at (closed (label basis x)) t f o) (append_assoc ws (w ∷ []) (v ∷ more))
 
 -- a letter
-symbol-letter : (basis : Basis) (w : List ℕ) (s : Reading) → HasAtoms basis → read_on (letter basis ++ w) s ≡ read_on w (step phrases s (letter_of basis))
-symbol-letter monomials w s h = refl
-symbol-letter elementaries w s h = refl
-symbol-letter completes w s h = refl
-symbol-letter power_sums w s h = refl
-symbol-letter schurs w s h = absurd h
+symbol-letter : (basis : Basis) (w : List ℕ) (s : Reading) → read_on (letter basis ++ w) s ≡ read_on w (step phrases s (letter_of basis))
+symbol-letter monomials w s = refl
+symbol-letter elementaries w s = refl
+symbol-letter completes w s = refl
+symbol-letter power_sums w s = refl
+symbol-letter schurs w s = refl
 
-read-label : (basis : Basis) (ws : List (List ℕ)) (t : BeforeTerm Phrase) (f : BeforeFactor Phrase) (o : Opened Phrase) → HasAtoms basis → AreNumberWords ws
+read-label : (basis : Basis) (ws : List (List ℕ)) (t : BeforeTerm Phrase) (f : BeforeFactor Phrase) (o : Opened Phrase) → AreNumberWords ws
     → read_on (spelling (label basis ws)) (at awaited t f o) ≡ at (closed (label basis ws)) t f o
-read-label basis [] t f o a h = symbol-letter basis (codes "[]") (at awaited t f o) a
-read-label basis (w ∷ ws) t f o a h =
-    symbol-letter basis (codes "[" ++ (comma_separated (w ∷ ws) ++ codes "]")) (at awaited t f o) a
+read-label basis [] t f o h = symbol-letter basis (codes "[]") (at awaited t f o)
+read-label basis (w ∷ ws) t f o h =
+    symbol-letter basis (codes "[" ++ (comma_separated (w ∷ ws) ++ codes "]")) (at awaited t f o)
     ∙ read-entries basis [] w ws t f o h
 
 -- what is there of a factor that has been read
@@ -289,7 +289,7 @@ reads level (ratio ds es) a = reads-ratio level ds es (λ t f o.
     read-append ds (codes "/" ++ es) (at awaited t f o)
     ∙ ap (read_on (codes "/" ++ es)) (whole-number ds t f o a.0)
     ∙ whole-denominator ds es t f o a.1)
-reads level (label basis ws) a = reads-label level basis ws (λ t f o. read-label basis ws t f o a.0 a.1)
+reads level (label basis ws) a = reads-label level basis ws (λ t f o. read-label basis ws t f o a)
 reads level (brackets e) a = reads-brackets level e (read-brackets e a (reads expression e a))
 reads expression (minus_first e) a = λ o. reads term e a.1 negating o
 reads term (minus_first e) a = absurd a.0

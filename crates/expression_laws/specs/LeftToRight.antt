@@ -1,7 +1,7 @@
 -- An expression read byte by byte from the left: what is kept of the bytes so far, and how the next one changes it.
 -- A reader is proved by this; what an expression is, the grammar of Phrase says (this project's own).
 use Rattle.std.specs.Prelude.{ℕ, ◌+◌, ◌-◌, ◌*◌, ◌==◌, nat_le, Bool, true, false, ◌&&◌, cond, List, [], ◌∷◌, ◌++◌, Option, Some, None, option_map}
-use Rattle.sym_model.specs.Expansion.{Basis, monomials, elementaries, completes, power_sums}
+use Rattle.sym_model.specs.Expansion.{Basis, monomials, elementaries, completes, power_sums, schurs}
 use Rattle.sym_model.specs.Partition.{without_last_zeros}
 use Rattle.sym_model.specs.Expression.{Tree, number, fraction, atom, negation}
 use Rattle.sym_model.specs.Phrase.{Operator, plus, minus, times, Phrase, numeral, ratio, label, brackets, minus_first, operation, join_trees}
@@ -36,7 +36,8 @@ sign_symbol byte =
     (cond (byte == 109) (letter_of monomials)
     (cond (byte == 101) (letter_of elementaries)
     (cond (byte == 104) (letter_of completes)
-    (cond (byte == 112) (letter_of power_sums) other))))))))))))
+    (cond (byte == 112) (letter_of power_sums)
+    (cond (byte == 115) (letter_of schurs) other)))))))))))))
 
 -- the symbol of a byte
 abbrev pub symbol : ℕ → Symbol

@@ -48,11 +48,6 @@ level_after plus = term
 level_after minus = term
 level_after times = factor
 
--- the bases whose letter may stand before an atom's list
-abbrev pub HasAtoms : Basis → Type 0
-HasAtoms schurs = ⊥
-HasAtoms _ = Unit {0}
-
 -- the grammar: a phrase is of a level by these rules, by which sums, differences and products group to the left
 --   EXPR   := '-'? TERM (('+' | '-') TERM)*
 --   TERM   := FACTOR ('*' FACTOR)*
@@ -60,7 +55,7 @@ HasAtoms _ = Unit {0}
 abbrev pub Is : Level → Phrase → Type 0
 Is level (numeral digits) = IsNumberWord digits
 Is level (ratio num den) = IsNumberWord num × IsNumberWord den
-Is level (label basis words) = HasAtoms basis × AreNumberWords words
+Is level (label basis words) = AreNumberWords words
 Is level (brackets inner) = Is expression inner
 Is level (minus_first inner) = Covers level expression × Is term inner
 Is level (operation operator left right) =
