@@ -5,12 +5,16 @@
 //! the examples.
 #![tactic(auto)]
 
+mod expansions;
 mod permutations;
 mod polynomials;
 mod reductions;
 mod tableaux;
 mod texts;
 
+pub use expansions::{
+    change_of_basis_examples_law, expansion_examples_law, reduced_product_examples_law,
+};
 pub use permutations::{
     divided_difference_examples_law, permutation_examples_law, schubert_examples_law,
     schubert_more_examples_law, straightening_examples_law,
