@@ -1,4 +1,4 @@
-// What a source or sink in memory knows of its calls.
+//! What a source or sink in memory knows of its calls.
 ghost use Rattle.std.specs.Prelude.{◌≡◌, [], length, IfOk};
 ghost use Rattle.calc_base.specs.Fault.{counted_up};
 ghost use Rattle.calc_base.specs.Supply.{is_listed};

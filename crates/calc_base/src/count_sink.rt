@@ -1,4 +1,4 @@
-// A sink that counts the bytes and keeps none.
+//! A sink that counts the bytes and keeps none.
 ghost use Rattle.std.specs.Prelude.{◌≡◌, [], None, Some, false, true, OnOk, OnErr, IsOk, is_ok};
 ghost use Rattle.calc_base.specs.Fault.{CountsFaults};
 ghost use Rattle.calc_base.specs.Sink.{Appends, AppendsPrefix};

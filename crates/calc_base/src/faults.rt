@@ -1,4 +1,4 @@
-// What a call answers where memory, a source or a sink failed it.
+//! What a call answers where memory, a source or a sink failed it.
 ghost use Rattle.std.specs.Prelude.{◌≡◌};
 ghost use Rattle.calc_base.specs.declared.faults.SumFault.TheVariants.{NoMemory as no_memory};
 

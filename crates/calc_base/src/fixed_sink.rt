@@ -1,4 +1,4 @@
-// A sink into a lent buffer.
+//! A sink into a lent buffer.
 ghost use Rattle.std.specs.Prelude.{◌≡◌, ◌≤◌, ◌+◌, ◌-◌, ◌++◌, min, [], Some, false, true, OnOk, OnErr, IsOk, is_ok, is_err, take, length as list_length, refl};
 ghost use Rattle.calc_base.specs.Fault.{CountsFaults};
 ghost use Rattle.calc_base.specs.Sink.{Appends, AppendsPrefix};

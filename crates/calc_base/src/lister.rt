@@ -1,4 +1,4 @@
-// What gives the items of a list one at a time.
+//! What gives the items of a list one at a time.
 ghost use Rattle.std.specs.Prelude.{◌≡◌, ◌++◌, ◌↔◌, ℕ, List, [], Some, IsTrue, IsSome, Option};
 ghost use Rattle.std.specs.Option.{option_to_list};
 ghost use Rattle.std.specs.Bool.{OnFalse};

@@ -1,4 +1,4 @@
-// A sink into memory, which fails at chosen calls and where its room ends.
+//! A sink into memory, which fails at chosen calls and where its room ends.
 ghost use Rattle.std.specs.Prelude.{◌≡◌, ◌≤◌, [], Some, false, IfOk, OnOk, OnErr, is_ok, is_err, refl, length as list_length, vec_capacity};
 ghost use Rattle.calc_base.specs.Fault.{CountsFaults};
 ghost use Rattle.calc_base.specs.Sink.{Appends, AppendsPrefix};

@@ -1,4 +1,4 @@
-// A source over bytes in memory, which fails at chosen calls.
+//! A source over bytes in memory, which fails at chosen calls.
 ghost use Rattle.std.specs.Prelude.{◌≡◌, ◌<◌, ◌≤◌, Some, length, take, drop, IfOk, OnErr, is_err};
 ghost use Rattle.calc_base.specs.Fault.{CountsFaults};
 ghost use Rattle.calc_base.specs.Source.{Takes, Spends};

@@ -1,4 +1,4 @@
-// How a command ended.
+//! How a command ended.
 ghost use Rattle.std.specs.Prelude.{◌≡◌};
 
 /// How a command ended, with the code that the program ends with.

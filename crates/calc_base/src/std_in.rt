@@ -1,4 +1,4 @@
-// The source over the program's input.
+//! The source over the program's input.
 ghost use Rattle.std.specs.Prelude.{◌≡◌, ◌+◌, ◌^◌, ◌<◌, None, length, IfOk, OnErr, IsErr};
 ghost use Rattle.std.specs.Io.KnownBytes.{ReadConsumes};
 ghost use Rattle.calc_base.specs.Fault.{CountsFaults};
@@ -80,7 +80,7 @@ mod tests {
     use std::io::ErrorKind;
     use std::test::Fail;
 
-    // Gives a byte, fails, gives a byte, and is at its end.
+    /// Gives a byte, fails, gives a byte, and is at its end.
     #[derive(Drop)]
     struct Faulty {
         reads: u64,

@@ -1,4 +1,4 @@
-// The sink over the program's output.
+//! The sink over the program's output.
 ghost use Rattle.std.specs.Prelude.{◌≡◌, [], None, false, OnOk, is_ok, OnErr};
 ghost use Rattle.std.specs.Bool.{OnTrue};
 ghost use Rattle.std.specs.Io.KnownBytes.{Keeps};
@@ -111,7 +111,7 @@ mod tests {
     use std::io::ErrorKind;
     use std::test::Fail;
 
-    // Takes a byte at a time, fails at one write, and takes nothing at another.
+    /// Takes a byte at a time, fails at one write, and takes nothing at another.
     #[derive(Drop)]
     struct Narrow {
         taken: Vec<u8>,

@@ -1,4 +1,4 @@
-// What no clause says: that calls succeed. And a fault in mid-stream, at each sink and source in memory.
+//! What no clause says: that calls succeed. And a fault in mid-stream, at each sink and source in memory.
 ghost use Rattle.std.specs.Prelude.{◌≡◌, ◌-◌, ◌≤◌, ℕ, List, [], ◌∷◌, length, map, min, drop, cond, true, IsTrue, slice_range, Option, Some, None};
 ghost use Rattle.std.specs.List.{flat_map};
 ghost use Rattle.calc_base.specs.Puts.{Puts, Prints};
@@ -7,7 +7,7 @@ use super::*;
 use std::marker::Model;
 use std::test::Fail;
 
-// A printer as the crates above write theirs: each letter, and a line feed behind it.
+/// A printer as the crates above write theirs: each letter, and a line feed behind it.
 fn put_lines<K: Sink>(well: bool, sink: &mut K, letters: &[u8]) -> bool
     ensures { Puts K.written K.length K.faults well sink.old result sink.new
         (flat_map (λ letter. letter ∷ 10 ∷ []) letters.now) }
@@ -27,7 +27,7 @@ fn print_lines<K: Sink>(sink: &mut K, letters: &[u8]) -> Result<(), SinkFault>
     put_result(put_lines(true, sink, letters))
 }
 
-// A text, and the sink finished.
+/// A text, and the sink finished.
 fn deliver_lines<K: Sink>(sink: &mut K, letters: &[u8]) -> bool
     ensures goes { Puts K.written K.length K.faults true sink.old result sink.new
         (flat_map (λ letter. letter ∷ 10 ∷ []) letters.now) }
@@ -37,7 +37,7 @@ fn deliver_lines<K: Sink>(sink: &mut K, letters: &[u8]) -> bool
     finish_if(well, sink)
 }
 
-// The same over a lister: a line for each item, as long as all goes well.
+/// The same over a lister: a line for each item, as long as all goes well.
 fn put_items<L: Lister, K: Sink>(well: bool, lister: &mut L, sink: &mut K) -> bool
     ensures { Puts K.written K.length K.faults well sink.old result sink.new
         (flat_map (λ item. min (length item) 2 ∷ 10 ∷ []) (L.rest lister.old)) }
@@ -50,7 +50,7 @@ fn put_items<L: Lister, K: Sink>(well: bool, lister: &mut L, sink: &mut K) -> bo
     well
 }
 
-// Lists the numbers one at a time.
+/// Lists the numbers one at a time.
 #[derive(Drop)]
 struct Singles {
     numbers: Vec<u16>,

@@ -1,4 +1,4 @@
-// Lists of numbers that own their memory.
+//! Lists of numbers that own their memory.
 ghost use Rattle.std.specs.Prelude.{◌≡◌, IfOk};
 
 use crate::NoMemory;

@@ -1,4 +1,4 @@
-// What the words of a command name, and where they offend.
+//! What the words of a command name, and where they offend.
 ghost use Rattle.std.specs.Prelude.{◌≡◌};
 ghost use Rattle.calc_base.specs.declared.words.WordsFault.TheVariants.{NoMemory as no_memory};
 

@@ -1,4 +1,4 @@
-// The tools of a printer: it goes on only while all went well, and keeps that in one truth value.
+//! The tools of a printer: it goes on only while all went well, and keeps that in one truth value.
 ghost use Rattle.std.specs.Prelude.{◌≡◌, [], true, IsTrue, is_ok};
 ghost use Rattle.calc_base.specs.Puts.{Puts};
 

@@ -1,4 +1,4 @@
-// Single parts of a partition.
+//! Single parts of a partition.
 ghost use Rattle.std.specs.Prelude.{◌≡◌, ◌<◌, ◌^◌, IfOk};
 ghost use Rattle.sym_model.specs.Bases.{has};
 ghost use Rattle.sym_model.specs.Partition.{size};
@@ -6,7 +6,7 @@ ghost use Rattle.sym_model.specs.RaisedPart.{without_one};
 
 use std::alloc::{AllocError, Global};
 
-// Whether the number is a part.
+/// Whether the number is a part.
 pub(crate) fn has_part(parts: &[u16], part: u16) -> bool
     ensures { result ≡ has part parts.now }
 {
@@ -18,7 +18,7 @@ pub(crate) fn has_part(parts: &[u16], part: u16) -> bool
     false
 }
 
-// The parts without the first one that is the number.
+/// The parts without the first one that is the number.
 pub(crate) fn without_part(alloc: Global, parts: &[u16], part: u16) -> Result<Vec<u16>, AllocError>
     ensures { IfOk result (λ rest. rest.items ≡ without_one part parts.now) }
 {
@@ -34,7 +34,7 @@ pub(crate) fn without_part(alloc: Global, parts: &[u16], part: u16) -> Result<Ve
     Ok(rest)
 }
 
-// The sum of the parts.
+/// The sum of the parts.
 pub(crate) fn size_of(parts: &[u16]) -> u16
     requires { size parts.now < 2 ^ 16 }
     ensures { result ≡ size parts.now }

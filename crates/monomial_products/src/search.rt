@@ -1,4 +1,4 @@
-// The partitions of the product of two labels, by their parts from the greatest down.
+//! The partitions of the product of two labels, by their parts from the greatest down.
 ghost use Rattle.std.specs.Prelude.{◌≡◌, ℕ, ◌+◌, ◌^◌, ◌<◌, [], List, All, IfOk, OnOk, vec_len};
 ghost use Rattle.sym_model.specs.Partition.{IsPartition, size};
 ghost use Rattle.monomial_laws.specs.MonomialProduct.{arrangements};
@@ -19,7 +19,7 @@ pub struct Counted {
     pub count: u128,
 }
 
-// A copy of the parts.
+/// A copy of the parts.
 fn copy_of(alloc: Global, parts: &[u16]) -> Result<Vec<u16>, AllocError>
     ensures { IfOk result (λ copy. copy.items ≡ parts.now) }
 {
@@ -28,7 +28,7 @@ fn copy_of(alloc: Global, parts: &[u16]) -> Result<Vec<u16>, AllocError>
     Ok(copy)
 }
 
-// The number of ways in which nothing is left.
+/// The number of ways in which nothing is left.
 fn ways_to_end(states: &[State]) -> u128
     requires { AreStates 0 states.now }
     ensures { result ≡ capped (ways states.now []) }
@@ -40,8 +40,8 @@ fn ways_to_end(states: &[State]) -> u128
     total
 }
 
-// Puts behind `out` each partition that has the chosen parts first and goes on from the states with parts up to
-// `largest`, `left` being the size that is still to come.
+/// Puts behind `out` each partition that has the chosen parts first and goes on from the states with parts up to
+/// `largest`, `left` being the size that is still to come.
 fn extend(
     alloc: Global,
     states: &[State],

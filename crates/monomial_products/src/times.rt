@@ -25,7 +25,7 @@ use partitions::Partition;
 use sparse_polys::Lin;
 use std::alloc::Global;
 
-// The product of two scalars and a count, or `None` where it is too large.
+/// The product of two scalars and a count, or `None` where it is too large.
 fn times_count<R: Ring>(left: R, right: R, count: u128) -> Option<R>
     requires { count < 2 ^ 127 }
     ensures value { IfSome result (λ c. (d e : ℕ) → AreDenominators d e (R.value left) (R.value right)
@@ -38,7 +38,7 @@ fn times_count<R: Ring>(left: R, right: R, count: u128) -> Option<R>
     product.mul(R::from_whole(count as i128))
 }
 
-// Adds the product of two scalars and the count of an entry at its partition.
+/// Adds the product of two scalars and the count of an entry at its partition.
 fn add_count<R: Ring>(
     alloc: Global,
     term: &Counted,
@@ -64,7 +64,7 @@ fn add_count<R: Ring>(
     sum.add_term(label, product)
 }
 
-// Adds the product of two terms.
+/// Adds the product of two terms.
 fn add_pair<R: Ring>(
     alloc: Global,
     label: &Partition,
@@ -90,7 +90,7 @@ fn add_pair<R: Ring>(
     Ok(())
 }
 
-// Adds the product of a term with a list.
+/// Adds the product of a term with a list.
 fn add_row<R: Ring>(
     alloc: Global,
     label: &Partition,
@@ -111,7 +111,7 @@ fn add_row<R: Ring>(
     Ok(())
 }
 
-// The product of two lists, its coefficients times any common denominators of the two.
+/// The product of two lists, its coefficients times any common denominators of the two.
 fn cleared_product<R: Ring>(
     alloc: Global,
     left: &Lin<Partition, R>,
@@ -132,14 +132,14 @@ fn cleared_product<R: Ring>(
     Ok(sum)
 }
 
-// Does nothing when it runs: it tells a proof what a list is.
+/// Does nothing when it runs: it tells a proof what a list is.
 fn is_table<R: Ring>(list: &Lin<Partition, R>)
     ensures { IsCombination (pointwise nat_eq) is_label list.now }
 {
     let _ = list.len();
 }
 
-// Does nothing when it runs: it tells a proof that coefficients of `Int` are whole.
+/// Does nothing when it runs: it tells a proof that coefficients of `Int` are whole.
 fn is_whole(list: &Lin<Partition, Int>)
     ensures { AreWhole list.now }
 {

@@ -44,7 +44,7 @@ pub fn plain_conjugate(alloc: Global, parts: &[u64]) -> Result<Vec<u64>, AllocEr
     Ok(columns)
 }
 
-// How many of the numbers are at least j.
+/// How many of the numbers are at least j.
 fn count_at_least(j: u64, numbers: &[u64]) -> u64
     ensures count { result ≡ count_from j numbers.now }
     ensures bound { result ≤ length numbers.now }

@@ -65,7 +65,7 @@ fn push_row_lengths(lengths: &mut Vec<u64>, outer: &[u64], inner: &[u64]) -> Res
     }
 }
 
-// Each of the rows on top of each of the fillings.
+/// Each of the rows on top of each of the fillings.
 fn stacked(
     alloc: Global,
     rows: &[Vec<u64>],
@@ -109,7 +109,7 @@ fn with_first_row(
     Ok(longer)
 }
 
-// A copy of each row, put at the end.
+/// A copy of each row, put at the end.
 pub(crate) fn push_rows(
     alloc: Global,
     list: &mut Vec<Vec<u64>>,

@@ -70,7 +70,7 @@ fn good_among(
     Ok(list)
 }
 
-// A copy of the tableau put at the end, if it is to be kept.
+/// A copy of the tableau put at the end, if it is to be kept.
 fn push_if(
     alloc: Global,
     list: &mut Vec<Vec<Vec<u64>>>,
@@ -115,7 +115,7 @@ pub fn plain_is_good(
     Ok(true)
 }
 
-// Whether start plus the content of the word falls weakly.
+/// Whether start plus the content of the word falls weakly.
 fn falls_with(alloc: Global, k: u64, start: &[u64], word: &[u64]) -> Result<bool, AllocError>
     ensures { IfOk result (λ falls. falls ≡ is_falling (join start.now (content k word.now))) }
 {
@@ -125,7 +125,7 @@ fn falls_with(alloc: Global, k: u64, start: &[u64], word: &[u64]) -> Result<bool
     Ok(falls(&sums))
 }
 
-// How often each letter from 1 to k stands in the word.
+/// How often each letter from 1 to k stands in the word.
 pub(crate) fn counts_of(alloc: Global, k: u64, word: &[u64]) -> Result<Vec<u64>, AllocError>
     ensures { IfOk result (λ counts. counts.items ≡ content k word.now) }
 {
@@ -136,7 +136,7 @@ pub(crate) fn counts_of(alloc: Global, k: u64, word: &[u64]) -> Result<Vec<u64>,
     Ok(counts)
 }
 
-// How often the letter stands in the word.
+/// How often the letter stands in the word.
 fn count_of(letter: u64, word: &[u64]) -> u64
     ensures count { result ≡ times_in letter word.now }
     ensures bound { result ≤ length word.now }
@@ -148,7 +148,7 @@ fn count_of(letter: u64, word: &[u64]) -> u64
     if *first == letter { rest + 1 } else { rest }
 }
 
-// The sums of two lists place by place, a missing number being 0.
+/// The sums of two lists place by place, a missing number being 0.
 fn push_sums(sums: &mut Vec<u128>, first: &[u64], second: &[u64]) -> Result<(), AllocError>
     ensures { OnOk result (sums.new.items ≡ sums.old.items ++ join first.now second.now) }
 {

@@ -26,7 +26,7 @@ pub fn plain_insertion_pair(alloc: Global, word: &[u64]) -> Result<TableauPair, 
     inserted_from(alloc, 1, word, empty)
 }
 
-// The pair after the letters of a word are inserted one by one, from a step on.
+/// The pair after the letters of a word are inserted one by one, from a step on.
 fn inserted_from(
     alloc: Global,
     step: u64,
@@ -85,7 +85,7 @@ fn push_inserted(
     }
 }
 
-// The row with the letter put in, at the end of a list.
+/// The row with the letter put in, at the end of a list.
 fn push_row_with(list: &mut Vec<u64>, row: &[u64], letter: u64) -> Result<(), AllocError>
     ensures { OnOk result (list.new.items ≡ list.old.items ++ row_with letter row.now) }
 {
@@ -102,7 +102,7 @@ fn push_row_with(list: &mut Vec<u64>, row: &[u64], letter: u64) -> Result<(), Al
     }
 }
 
-// The first letter of the row that is greater.
+/// The first letter of the row that is greater.
 fn bumped_letter(row: &[u64], letter: u64) -> Option<u64>
     ensures { result ≡ bumped letter row.now }
 {
@@ -116,7 +116,7 @@ fn bumped_letter(row: &[u64], letter: u64) -> Option<u64>
     }
 }
 
-// The recording tableau with the number of a step in the cell that the insertion tableau has more.
+/// The recording tableau with the number of a step in the cell that the insertion tableau has more.
 fn with_step(
     alloc: Global,
     step: u64,

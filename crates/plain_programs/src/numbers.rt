@@ -2,14 +2,14 @@
 
 ghost use Rattle.std.specs.Prelude.{◌≡◌, ◌+◌, ◌^◌, ◌<◌, slice_index, drop};
 
-// The number at a place, 0 past the end.
+/// The number at a place, 0 past the end.
 pub(crate) fn number_at(numbers: &[u64], i: usize) -> u64
     ensures { result ≡ slice_index numbers.now i }
 {
     numbers.get(i).copied().unwrap_or(0)
 }
 
-// The list without its first numbers.
+/// The list without its first numbers.
 pub(crate) fn without_first(numbers: &[u64], count: u64) -> &[u64]
     ensures { result.now ≡ drop count numbers.now }
 {

@@ -39,7 +39,7 @@ pub fn plain_reading_right_of(
     Ok(reading)
 }
 
-// The columns j + count, .., j + 1.
+/// The columns j + count, .., j + 1.
 fn push_columns(
     reading: &mut Vec<u64>,
     inner: &[u64],

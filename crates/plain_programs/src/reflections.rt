@@ -76,7 +76,7 @@ pub fn plain_reflect(alloc: Global, n: u64, list: &[u64]) -> Result<Option<Signe
     }))
 }
 
-// How far the first entry is above the last.
+/// How far the first entry is above the last.
 fn spread_of(list: &[u64]) -> u64
     ensures { result ≡ spread list.now }
 {

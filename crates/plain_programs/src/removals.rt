@@ -68,7 +68,7 @@ pub fn plain_removal(alloc: Global, n: u64, shape: &[u64]) -> Result<Option<Remo
     Ok(None)
 }
 
-// A removal whose first row is this one, counted from 0.
+/// A removal whose first row is this one, counted from 0.
 fn removal_from(
     alloc: Global,
     n: u64,
@@ -87,7 +87,7 @@ fn removal_from(
     Ok(None)
 }
 
-// The removal with this first and this last row, counted from 0.
+/// The removal with this first and this last row, counted from 0.
 fn removal_between(
     alloc: Global,
     n: u64,

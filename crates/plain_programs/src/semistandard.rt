@@ -48,7 +48,7 @@ fn rises(row: &[u64]) -> bool
     *first <= *second && rises(later)
 }
 
-// Whether each letter of the lower row is greater than the letter above it.
+/// Whether each letter of the lower row is greater than the letter above it.
 fn stands_on(upper: &[u64], lower: &[u64]) -> bool
     ensures { result ≡ columns_rise upper.now lower.now }
 {

@@ -21,7 +21,7 @@ pub fn plain_words(alloc: Global, n: u64, length: u64) -> Result<Vec<Vec<u64>>, 
     Ok(list)
 }
 
-// Each letter from 1 to n in front of each of the words.
+/// Each letter from 1 to n in front of each of the words.
 fn prefixed(alloc: Global, n: u64, words: &[Vec<u64>]) -> Result<Vec<Vec<u64>>, AllocError>
     ensures { IfOk result (λ list. words_of list.items ≡ each (λ a. map (λ w. a ∷ w) (words_of words.now)) (after 0 n)) }
 {
@@ -46,7 +46,7 @@ fn push_prefixed(
     Ok(())
 }
 
-// A letter in front of a word.
+/// A letter in front of a word.
 fn with_first(alloc: Global, first: u64, word: &[u64]) -> Result<Vec<u64>, AllocError>
     ensures { IfOk result (λ longer. longer.items ≡ first ∷ word.now) }
 {
