@@ -1,5 +1,9 @@
 pub mod Labels
+pub mod Parts
+pub mod Conjugates
+pub mod BetaSteps
+pub mod LoweredParts
 pub mod Listings
 pub mod Order
-pub mod Parts
 pub mod Steps
+pub mod Arrangings

@@ -1,3 +1,4 @@
 pub mod Limits
 pub mod Listing
 pub mod Stage
+pub mod Arranging

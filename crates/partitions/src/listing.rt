@@ -9,7 +9,7 @@ use std::marker::Model;
 
 /// Whether the parts in the buffer are still to come, are the current item, or were the last one.
 #[derive(Clone, Copy)]
-enum Stage {
+pub(crate) enum Stage {
     New,
     Listing,
     Ended,

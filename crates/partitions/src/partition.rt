@@ -1,15 +1,21 @@
 //! The type of a partition.
-ghost use Rattle.std.specs.Prelude.{◌≡◌, ℕ, ◌<◌, ◌≤◌, ◌↔◌, length, nat_eq, IsTrue, IsOk, IfOk, OnOk, IsErrOf, MatchOption};
+ghost use Rattle.std.specs.Prelude.{◌≡◌, ℕ, ◌+◌, ◌<◌, ◌≤◌, ◌↔◌, length, nat_eq, IsTrue, IsOk, IfOk, OnOk, IsErrOf, MatchOption};
 ghost use Rattle.std.specs.Cmp.{partial_equiv_from_equiv};
 ghost use Rattle.std.specs.Cmp.Lexicographic.{pointwise, nat_list_eq_equiv};
 ghost use Rattle.std.specs.Cmp.Rules.{hashing};
 ghost use Rattle.std.specs.Hash as fed;
 ghost use Rattle.std.proofs.Common.{rules};
-ghost use Rattle.sym_model.specs.Partition.{Falls, Holds, part, rows, size, without_last_zeros};
+ghost use Rattle.sym_model.specs.BetaList.{beta, from_beta};
+ghost use Rattle.sym_model.specs.Conjugate.{conjugate};
+ghost use Rattle.sym_model.specs.Partition.{Falls, Holds, columns, part, rows, size, without_last_zeros};
 ghost use Rattle.sym_model.specs.PrintedOrder.{printed_order};
+ghost use Rattle.sym_model.specs.Slide.{lowered_at};
 ghost use Rattle.partitions.specs.Limits.{HasCells, IsWithinLimits, RisesFirstAt};
 
-use crate::PartFault;
+use crate::beta::{lengthened, less_the_later};
+use crate::conjugate::column_lengths;
+use crate::corners::lower_last;
+use crate::{Beta, PartFault};
 use calc_base::NoMemory;
 use smallvec::SmallVec;
 use std::alloc::Global;
@@ -102,6 +108,11 @@ impl Partition {
         self.parts.as_slice()
     }
 
+    /// The allocator that this partition's parts would be kept with.
+    pub(crate) fn allocator(&self) -> Global {
+        *self.parts.allocator()
+    }
+
     /// The size: the sum of the parts, which is the number of cells.
     pub fn size(&self) -> u16
         ensures value { result ≡ size self.now }
@@ -162,6 +173,49 @@ impl Partition {
         ensures inline { rows self.now ≤ 16 → IsOk result }
     {
         with_cells(*self.parts.allocator(), self.parts(), self.cells)
+    }
+
+    /// The conjugate: its part i is the number of parts that are at least i. The first part is at most 512. At most 16
+    /// columns take no memory.
+    pub fn conjugate(&self) -> Result<Partition, NoMemory>
+        requires { columns self.now ≤ 512 }
+        ensures ok { IfOk result (λ p. p ≡ conjugate self.now) }
+        ensures inline { columns self.now ≤ 16 → IsOk result }
+    {
+        Ok(Partition {
+            parts: column_lengths(*self.parts.allocator(), self.parts())?,
+            cells: self.cells,
+        })
+    }
+
+    /// Takes the last cell of the row `row`, counted from 1, away. That row is longer than the next one.
+    pub fn remove_corner(&mut self, row: u16)
+        requires counted { 1 ≤ row }
+        requires corner { part self.old (row + 1) < part self.old row }
+        ensures { self.new ≡ without_last_zeros (lowered_at row self.old) }
+    {
+        lower_last(&mut self.parts, usize::from(row) - 1);
+        self.cells -= 1;
+    }
+
+    /// The beta list of length `k`: part i, plus k - i, for each i from 1 to k. `k` is at least the number of rows and
+    /// at most 512.
+    pub fn beta(&self, k: u16) -> Result<Beta, NoMemory>
+        requires rows { rows self.now ≤ k }
+        requires few { k ≤ 512 }
+        ensures { IfOk result (λ b. b ≡ beta k self.now) }
+    {
+        Ok(Beta::new(lengthened(*self.parts.allocator(), self.parts(), k)?))
+    }
+
+    /// The partition whose beta list of this length is `b`, a strictly falling list of at most 512 numbers.
+    pub fn from_beta(alloc: Global, b: &[u16]) -> Result<Partition, NoMemory>
+        requires few { length b.now ≤ 512 }
+        requires limits { IsWithinLimits (from_beta b.now) }
+        ensures { IfOk result (λ p. p ≡ from_beta b.now) }
+    {
+        let numbers = less_the_later(alloc, b)?;
+        Partition::from_valid_numbers(alloc, numbers.as_slice())
     }
 }
 

@@ -1,4 +1,4 @@
-use Rattle.std.proofs.Common.{◌≡◌, ℕ, ◌≤◌, List, length, sym, ◌∙◌, subst, arith}
+use Rattle.std.proofs.Common.{◌≡◌, ℕ, ◌≤◌, List, length, sym, subst, arith}
 use Rattle.std.specs.Result.{IsErrAnd}
 use Rattle.sym_model.specs.Partition.{Falls, size, without_last_zeros}
 use Rattle.partitions.specs.declared.fault.PartFault.TheVariants.{Rising, NoMemory}

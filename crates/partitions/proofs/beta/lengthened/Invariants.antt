@@ -1,0 +1,7 @@
+-- The entries so far.
+use Rattle.std.proofs.Common.{◌≡◌, ◌+◌, ◌-◌, map}
+use Rattle.sym_model.specs.Partition.{part, after}
+use Rattle.partitions.proofs.beta.lengthened.Given as goal
+
+abbrev pub invariant-loop-i : goal.invariant-loop-i
+invariant-loop-i l = l.entries.items ≡ map (λ i. part l.parts i + (l.k - i)) (after 0 l.i)

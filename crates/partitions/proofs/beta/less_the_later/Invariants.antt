@@ -1,0 +1,10 @@
+-- The numbers so far, and how many entries are left.
+use Rattle.std.proofs.Common.{◌≡◌, ◌-◌, ◌++◌, length, drop}
+use Rattle.sym_model.specs.BetaList.{less_the_rest}
+use Rattle.partitions.proofs.beta.less_the_later.Given as goal
+
+abbrev pub invariant-loop-entry : goal.invariant-loop-entry
+invariant-loop-entry l = record {
+  numbers : l.numbers.items ++ less_the_rest (drop l.entry-index l.entries) ≡ less_the_rest l.entries;
+  left : l.later ≡ length l.entries - l.entry-index;
+}

@@ -1,0 +1,37 @@
+-- How the arrangements of numbers in places are listed one after the other: what comes after one of them.
+use Rattle.std.specs.Prelude.{ℕ, zero, suc, ◌+◌, ◌-◌, ◌≤◌, List, [], ◌∷◌, ◌++◌, map, length}
+use Rattle.sym_model.specs.Sum.{each, select}
+use Rattle.sym_model.specs.Polynomial.{same}
+use Rattle.sym_model.specs.Partition.{size, insert_part, sorted_parts}
+use Rattle.sym_model.specs.Bases.{down_from, exponent_lists}
+use Rattle.partitions.specs.declared.listing.Stage.{Stage}
+use Rattle.partitions.specs.declared.listing.Stage.TheVariants.{New, Listing, Ended}
+
+-- the lists that begin with b, have n numbers more, the sum d, and sort to these parts
+abbrev pub beginning_with : ℕ → List ℕ → ℕ → ℕ → List (List ℕ)
+beginning_with b parts n d =
+    map (λ α. b ∷ α) (select (λ α. same (insert_part b (sorted_parts α)) parts) (exponent_lists n (d - b)))
+
+-- those that begin with a number below a
+abbrev pub beginning_below : ℕ → List ℕ → ℕ → ℕ → List (List ℕ)
+beginning_below zero parts n d = []
+beginning_below (suc a) parts n d = each (λ b. beginning_with b parts n d) (down_from a)
+
+-- the arrangements of the same numbers after this one in falling lexicographic order: first those with the same first
+-- number, then those with a smaller one
+unfoldable pub arrangements_after : List ℕ → List (List ℕ)
+arrangements_after [] = []
+arrangements_after (a ∷ α) =
+    map (λ rest. a ∷ rest) (arrangements_after α) ++ beginning_below a (sorted_parts (a ∷ α)) (length α) (a + size α)
+
+-- no number is smaller than the one before it
+abbrev pub Rises : List ℕ → Type 0
+Rises [] = Unit {0}
+Rises (a ∷ []) = Unit {0}
+Rises (a ∷ b ∷ numbers) = (a ≤ b) × Rises (b ∷ numbers)
+
+-- the arrangements still to come, where these numbers are in the buffer
+abbrev pub arrangements_at : Stage → List ℕ → List (List ℕ)
+arrangements_at New numbers = numbers ∷ arrangements_after numbers
+arrangements_at Listing numbers = arrangements_after numbers
+arrangements_at Ended numbers = []
