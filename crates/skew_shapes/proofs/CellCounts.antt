@@ -1,0 +1,79 @@
+-- How many cells a skew shape has.
+use Rattle.std.proofs.Common.{◌≡◌, ℕ, zero, suc, ◌+◌, ◌-◌, ◌≤◌, List, [], ◌∷◌, ◌++◌, map, length, take, get_or, ◌∙◌, ap, sym, refl, subst, append_assoc, arith}
+use Rattle.std.proofs.lemmas.List.{length-map, length-append, take_all}
+use Rattle.sym_model.specs.Sum.{each}
+use Rattle.sym_model.specs.Partition.{ArePositive, Holds, part, size, after, cells}
+use Rattle.sym_model.proofs.AfterLists.{length_after}
+use Rattle.strip_laws.proofs.Containment.{contains-tells}
+use Rattle.partitions.proofs.Conjugates.{after-more}
+use Rattle.skew_shapes.specs.Shapes.{IsSkew}
+
+pub each-append : {A B : Type 0} (f : A → List B) (xs ys : List A) → each f (xs ++ ys) ≡ each f xs ++ each f ys
+each-append f [] ys = refl
+each-append f (x ∷ xs) ys = ap (λ z. f x ++ z) (each-append f xs ys) ∙ sym (append_assoc (f x) (each f xs) (each f ys))
+
+-- the cells of a row
+abbrev pub row_cells : List ℕ → List ℕ → ℕ → List (ℕ × ℕ)
+row_cells outer inner row = map (λ column. (row, column)) (after (part inner row) (part outer row - part inner row))
+
+length-row_cells : (outer inner : List ℕ) (row : ℕ) → length (row_cells outer inner row) ≡ part outer row - part inner row
+length-row_cells outer inner row =
+    length-map (after (part inner row) (part outer row - part inner row)) (λ (column : ℕ). (row, column))
+    ∙ length_after (part inner row) (part outer row - part inner row)
+
+cells_to-more :
+    (outer inner : List ℕ) (k : ℕ)
+    → length (each (row_cells outer inner) (after 0 (k + 1)))
+    ≡ length (each (row_cells outer inner) (after 0 k)) + (get_or outer k 0 - get_or inner k 0)
+cells_to-more outer inner k =
+    let e : 0 + k + 1 ≡ k + 1 = omega arith in
+    let f : k + 1 - 1 ≡ k = omega arith in
+    let last = row_cells outer inner (k + 1) in
+    let front = each (row_cells outer inner) (after 0 k) in
+    ap (λ l. length (each (row_cells outer inner) l)) (after-more 0 k ∙ ap (λ n. after 0 k ++ n ∷ []) e)
+    ∙ ap length (each-append (row_cells outer inner) (after 0 k) ((k + 1) ∷ []))
+    ∙ length-append front (last ++ [])
+    ∙ ap (λ n. length front + n)
+    (length-append last [] ∙ omega (arith, length-row_cells outer inner (k + 1), ap (λ i. get_or outer i 0 - get_or inner i 0) f))
+
+size-take_one : (xs : List ℕ) (k : ℕ) → size (take (suc k) xs) ≡ size (take k xs) + get_or xs k 0
+size-take_one [] zero = omega arith
+size-take_one [] (suc k) = omega arith
+size-take_one (a ∷ xs) zero = omega arith
+size-take_one (a ∷ xs) (suc k) = omega (arith, size-take_one xs k)
+
+-- the cells of the first rows
+cells_in_front :
+    (outer inner : List ℕ) (k : ℕ) → ((i : ℕ) → get_or inner i 0 ≤ get_or outer i 0) → k ≤ length outer → length inner ≤ length outer
+    → length (each (row_cells outer inner) (after 0 k)) + size (take k inner) ≡ size (take k outer)
+cells_in_front outer inner zero h l m = refl
+cells_in_front outer inner (suc k) h l m =
+    let e : suc k ≡ k + 1 = omega arith in
+    omega (
+      arith,
+      ap (λ n. length (each (row_cells outer inner) (after 0 n))) e,
+      cells_to-more outer inner k,
+      size-take_one inner k,
+      size-take_one outer k,
+      cells_in_front outer inner k h (omega arith) m,
+      h k,
+    )
+
+pub rows_within :
+    (outer inner : List ℕ) → ((i : ℕ) → get_or inner i 0 ≤ get_or outer i 0) → ArePositive inner → length inner ≤ length outer
+rows_within outer [] h p = omega arith
+rows_within [] (b ∷ inner) h p = absurd (omega (arith, h 0, p.0))
+rows_within (a ∷ outer) (b ∷ inner) h p = omega (arith, rows_within outer inner (λ i. h (suc i)) p.1)
+
+pub under_places : (outer inner : List ℕ) → Holds outer inner → (i : ℕ) → get_or inner i 0 ≤ get_or outer i 0
+under_places outer inner h i =
+    let e : i + 1 - 1 ≡ i = omega arith in
+    subst (λ k. get_or inner k 0 ≤ get_or outer k 0) e (h (i + 1))
+
+pub length-cells : (outer inner : List ℕ) → IsSkew outer inner → length (cells outer inner) + size inner ≡ size outer
+length-cells outer inner s =
+    let under = under_places outer inner (contains-tells outer inner s.holds) in
+    let few = rows_within outer inner under s.inside.partition.positive in
+    let whole : take (length outer) outer ≡ outer = take_all (length outer) outer (omega arith) in
+    let all : take (length outer) inner ≡ inner = take_all (length outer) inner few in
+    omega (arith, ap size whole, ap size all, cells_in_front outer inner (length outer) under (omega arith) few)

@@ -1,0 +1,316 @@
+-- Column readings of fillings as functions of cells, and the filling of a word.
+use Rattle.std.proofs.Common.{◌≡◌, ◌⊎◌, ℕ, zero, suc, ◌+◌, ◌-◌, ◌<◌, ◌≤◌, Bool, true, false, ◌&&◌, ◌==◌, cond, List, [], ◌∷◌, ◌++◌, map, length, take, drop, get_or, reverse, ◌∙◌, ap, ap₂, sym, refl, subst, inl, inr, arith, nat_le, nat_lt, append-nil, append_assoc}
+use Rattle.std.proofs.lemmas.Bool.{cases_eq, cases_lt, le-leb, lt-leb, lt-ltb, le-ltb, eq-eqb, ne_eqb}
+use Rattle.std.proofs.lemmas.List.{map-append, reverse-append, drop-drop, get_or-drop, get_or_past}
+use Rattle.sym_model.specs.Sum.{each, select, Among}
+use Rattle.sym_model.specs.Partition.{IsCell, part, columns, after}
+use Rattle.sym_model.specs.GoodTableau.{letter_in, column, column_reading}
+use Rattle.sym_model.specs.TableauList.{column_cells, reading_cells, letter_of_cell}
+use Rattle.skew_shapes.specs.Rows.{row_by, rows_by, reaches, cells_right_of, cells_above, number_in, place_of, HoldsLetters, HasPlaces}
+use Rattle.sym_model.proofs.Sums.{Among_from_append, Among_from_map, Among_from_each, Among_from_select}
+use Rattle.sym_model.proofs.AfterLists.{after_among}
+use Rattle.partitions.proofs.Conjugates.{after-more}
+use Rattle.skew_shapes.proofs.CellCounts.{each-append}
+use Rattle.skew_shapes.proofs.KeptRows.{is_cell-tells, number_in-set, number_in-set_here}
+use Rattle.std.proofs.Math.ListN.{set}
+
+-- ---- the letters of a column
+
+take_one :
+    (g : ℕ → ℕ) (c k n : ℕ) → take 1 (drop n (map g (after c k))) ≡ cond (nat_lt n k) (g (c + n + 1) ∷ []) []
+take_one g c zero zero = refl
+take_one g c zero (suc n) = ap (λ b. cond b (g (c + suc n + 1) ∷ []) []) (sym (le-ltb (suc n) 0 (omega arith)))
+take_one g c (suc k) zero =
+    let e : c + 1 ≡ c + 0 + 1 = omega arith in
+    ap (λ x. x ∷ []) (ap g e) ∙ ap (λ b. cond b (g (c + 0 + 1) ∷ []) []) (sym (lt-ltb 0 (suc k) (omega arith)))
+take_one g c (suc k) (suc n) =
+    let e : c + 1 + n + 1 ≡ c + suc n + 1 = omega arith in
+    take_one g (c + 1) k n ∙ ap₂ (λ b x. cond b (g x ∷ []) []) (shift n k) e
+  where
+    shift : (n k : ℕ) → nat_lt n k ≡ nat_lt (suc n) (suc k)
+    shift n k = elim (cases_lt n k) [
+      | inl h ↦ lt-ltb n k h ∙ sym (lt-ltb (suc n) (suc k) (omega arith))
+      | inr h ↦ le-ltb n k h ∙ sym (le-ltb (suc n) (suc k) (omega arith))
+    ]
+
+letter_in-by :
+    (g : ℕ → ℕ) (c o j : ℕ) → letter_in c (map g (after c (o - c))) j ≡ cond (nat_lt c j && nat_le j o) (g j ∷ []) []
+letter_in-by g c o j = elim (cases_lt c j) [
+  | inr h ↦ ap (λ b. cond b (take 1 (drop (j - (c + 1)) (map g (after c (o - c))))) []) (le-ltb c j h)
+      ∙ sym (ap (λ b. cond (b && nat_le j o) (g j ∷ []) []) (le-ltb c j h))
+  | inl h ↦
+      let e : c + (j - (c + 1)) + 1 ≡ j = omega arith in
+      ap (λ b. cond b (take 1 (drop (j - (c + 1)) (map g (after c (o - c))))) []) (lt-ltb c j h)
+      ∙ take_one g c (o - c) (j - (c + 1))
+      ∙ ap₂ (λ b x. cond b (g x ∷ []) []) (same_test c o j h) e
+      ∙ sym (ap (λ b. cond (b && nat_le j o) (g j ∷ []) []) (lt-ltb c j h))
+]
+  where
+    same_test : (c o j : ℕ) → c < j → nat_lt (j - (c + 1)) (o - c) ≡ nat_le j o
+    same_test c o j h = elim (cases_lt o j) [
+      | inl l ↦ le-ltb (j - (c + 1)) (o - c) (omega arith) ∙ sym (lt-leb j o l)
+      | inr l ↦ lt-ltb (j - (c + 1)) (o - c) (omega arith) ∙ sym (le-leb j o l)
+    ]
+
+column-by :
+    (f : ℕ → ℕ → ℕ) (outer inner : List ℕ) (j a k : ℕ)
+    → column (drop a inner) (map (row_by f outer inner) (after a k)) j ≡ map (λ i. f i j) (select (reaches outer inner j) (after a k))
+column-by f outer inner j a zero = refl
+column-by f outer inner j a (suc k) =
+    let p : part (drop a inner) 1 ≡ part inner (a + 1) =
+    get_or-drop a inner 0 0 ∙ ap (λ n. get_or inner n 0) (omega arith) in
+    let rest : drop 1 (drop a inner) ≡ drop (a + 1) inner = drop-drop 1 a inner ∙ ap (λ n. drop n inner) (omega arith) in
+    let o = part outer (a + 1) in
+    ap₂ (λ x y. x ++ y)
+    (ap (λ c. letter_in c (row_by f outer inner (a + 1)) j) p ∙ letter_in-by (f (a + 1)) (part inner (a + 1)) o j)
+    (ap (λ l. column l (map (row_by f outer inner) (after (a + 1) k)) j) rest ∙ column-by f outer inner j (a + 1) k)
+    ∙ by (reaches outer inner j (a + 1)) (select (reaches outer inner j) (after (a + 1) k))
+  where
+    by : (b : Bool) (xs : List ℕ)
+        → cond b (f (a + 1) j ∷ []) [] ++ map (λ i. f i j) xs ≡ map (λ i. f i j) (cond b ((a + 1) ∷ xs) xs)
+    by true xs = refl
+    by false xs = refl
+
+map_cells : (f : ℕ → ℕ → ℕ) (j : ℕ) (xs : List ℕ) → map (λ i. f i j) xs ≡ map (λ (c : ℕ × ℕ). f c.0 c.1) (map {B = ℕ × ℕ} (λ i. (i, j)) xs)
+map_cells f j [] = refl
+map_cells f j (x ∷ xs) = ap (λ l. f x j ∷ l) (map_cells f j xs)
+
+-- the letters of a column, from top to bottom
+pub column-rows_by :
+    (f : ℕ → ℕ → ℕ) (outer inner : List ℕ) (j : ℕ)
+    → column inner (rows_by f outer inner) j ≡ map (λ (c : ℕ × ℕ). f c.0 c.1) (column_cells outer inner j)
+column-rows_by f outer inner j =
+    column-by f outer inner j 0 (length outer) ∙ map_cells f j (select (reaches outer inner j) (after 0 (length outer)))
+
+pub each-cells :
+    (f : ℕ → ℕ → ℕ) (outer inner : List ℕ) (js : List ℕ)
+    → each (column inner (rows_by f outer inner)) js ≡ map (λ (c : ℕ × ℕ). f c.0 c.1) (each (column_cells outer inner) js)
+each-cells f outer inner [] = refl
+each-cells f outer inner (j ∷ js) =
+    ap₂ (λ x y. x ++ y) (column-rows_by f outer inner j) (each-cells f outer inner js)
+    ∙ sym (map-append (λ (c : ℕ × ℕ). f c.0 c.1) (column_cells outer inner j) (each (column_cells outer inner) js))
+
+-- the column reading has the numbers of the cells in the order of the reading
+pub reading-rows_by :
+    (f : ℕ → ℕ → ℕ) (outer inner : List ℕ)
+    → column_reading outer inner (rows_by f outer inner) ≡ map (λ (c : ℕ × ℕ). f c.0 c.1) (reading_cells outer inner)
+reading-rows_by f outer inner =
+    let e : columns outer - 0 ≡ columns outer = omega arith in
+    ap (λ n. each (column inner (rows_by f outer inner)) (reverse (after 0 n))) e
+    ∙ each-cells f outer inner (reverse (after 0 (columns outer)))
+
+-- ---- the letters of a word in the cells, one by one
+
+other_cell : (i j row column : ℕ) → ((i ≡ row) × (j ≡ column) → ⊥) → ((i == row) && (j == column)) ≡ false
+other_cell i j row column h = elim (cases_eq i row) [
+  | inr n ↦ ap (λ b. b && (j == column)) (ne_eqb i row n)
+  | inl e ↦ ap (λ b. b && (j == column)) (eq-eqb i row e) ∙ ne_eqb j column (λ f. h (e, f))
+]
+
+same_cell : (i j : ℕ) → ((i == i) && (j == j)) ≡ true
+same_cell i j = ap₂ (λ a b. a && b) (eq-eqb i i refl) (eq-eqb j j refl)
+
+pub letter-push_other :
+    (row column i j : ℕ) (done : List (ℕ × ℕ)) (w : List ℕ) → ((i ≡ row) × (j ≡ column) → ⊥)
+    → letter_of_cell row column (done ++ (i, j) ∷ []) w ≡ letter_of_cell row column done w
+letter-push_other row column i j [] [] h = refl
+letter-push_other row column i j [] (a ∷ w) h = ap (λ b. cond b a 0) (other_cell i j row column h)
+letter-push_other row column i j (c ∷ done) [] h = refl
+letter-push_other row column i j (c ∷ done) (a ∷ w) h =
+    ap (λ x. cond ((c.0 == row) && (c.1 == column)) a x) (letter-push_other row column i j done w h)
+
+pub letter-push_here :
+    (i j : ℕ) (done : List (ℕ × ℕ)) (w : List ℕ) → (Among (i, j) done → ⊥)
+    → letter_of_cell i j (done ++ (i, j) ∷ []) w ≡ get_or w (length done) 0
+letter-push_here i j [] [] h = refl
+letter-push_here i j [] (a ∷ w) h = ap (λ b. cond b a 0) (same_cell i j)
+letter-push_here i j (c ∷ done) [] h = refl
+letter-push_here i j (c ∷ done) (a ∷ w) h =
+    ap (λ b. cond b a (letter_of_cell i j (done ++ (i, j) ∷ []) w))
+    (other_cell c.0 c.1 i j (λ e. h (inl (ap₂ {C = ℕ × ℕ} (λ x y. (x, y)) (sym e.0) (sym e.1)))))
+    ∙ letter-push_here i j done w (λ m. h (inr m))
+
+letter-absent : (i j : ℕ) (done : List (ℕ × ℕ)) (w : List ℕ) → (Among (i, j) done → ⊥) → letter_of_cell i j done w ≡ 0
+letter-absent i j [] w h = refl
+letter-absent i j (c ∷ done) [] h = refl
+letter-absent i j (c ∷ done) (a ∷ w) h =
+    ap (λ b. cond b a (letter_of_cell i j done w))
+    (other_cell c.0 c.1 i j (λ e. h (inl (ap₂ {C = ℕ × ℕ} (λ x y. (x, y)) (sym e.0) (sym e.1)))))
+    ∙ letter-absent i j done w (λ m. h (inr m))
+
+-- ---- the cells in the order of the reading, one by one
+
+select-push : (test : ℕ → Bool) (xs : List ℕ) (x : ℕ) → select test (xs ++ x ∷ []) ≡ select test xs ++ cond (test x) (x ∷ []) []
+select-push test [] x = refl
+select-push test (y ∷ xs) x = by (test y) (select-push test xs x)
+  where
+    by : (b : Bool) → select test (xs ++ x ∷ []) ≡ select test xs ++ cond (test x) (x ∷ []) []
+        → cond b (y ∷ select test (xs ++ x ∷ [])) (select test (xs ++ x ∷ [])) ≡ cond b (y ∷ select test xs) (select test xs) ++ cond (test x) (x ∷ []) []
+    by true e = ap (λ l. y ∷ l) e
+    by false e = e
+
+above-more :
+    (outer inner : List ℕ) (j k : ℕ)
+    → cells_above outer inner j (k + 1) ≡ cells_above outer inner j k ++ map {B = ℕ × ℕ} (λ row. (row, j)) (cond (reaches outer inner j (k + 1)) ((k + 1) ∷ []) [])
+above-more outer inner j k =
+    let e : 0 + k + 1 ≡ k + 1 = omega arith in
+    let test = reaches outer inner j in
+    ap (λ l. map {B = ℕ × ℕ} (λ row. (row, j)) (select test l)) (after-more 0 k ∙ ap (λ n. after 0 k ++ n ∷ []) e)
+    ∙ ap (map {B = ℕ × ℕ} (λ row. (row, j))) (select-push test (after 0 k) (k + 1))
+    ∙ map-append (λ row. (row, j)) (select test (after 0 k)) (cond (test (k + 1)) ((k + 1) ∷ []) [])
+
+pub above-reached :
+    (outer inner : List ℕ) (j k : ℕ) → reaches outer inner j (k + 1) ≡ true
+    → cells_above outer inner j (k + 1) ≡ cells_above outer inner j k ++ (k + 1, j) ∷ []
+above-reached outer inner j k h =
+    above-more outer inner j k
+    ∙ ap (λ b. cells_above outer inner j k ++ map {B = ℕ × ℕ} (λ row. (row, j)) (cond b ((k + 1) ∷ []) [])) h
+
+pub above-passed :
+    (outer inner : List ℕ) (j k : ℕ) → reaches outer inner j (k + 1) ≡ false
+    → cells_above outer inner j (k + 1) ≡ cells_above outer inner j k
+above-passed outer inner j k h =
+    above-more outer inner j k
+    ∙ ap (λ b. cells_above outer inner j k ++ map {B = ℕ × ℕ} (λ row. (row, j)) (cond b ((k + 1) ∷ []) [])) h
+    ∙ append-nil (cells_above outer inner j k)
+
+pub right-more :
+    (outer inner : List ℕ) (j : ℕ) → 1 ≤ j → j ≤ columns outer
+    → cells_right_of outer inner (j - 1) ≡ cells_right_of outer inner j ++ cells_above outer inner j (length outer)
+right-more outer inner zero h l = absurd (omega arith)
+right-more outer inner (suc i) h l =
+    let e : suc i - 1 ≡ i = omega arith in
+    let n : columns outer - i ≡ suc (columns outer - suc i) = omega arith in
+    let f : i + 1 ≡ suc i = omega arith in
+    let k = columns outer - suc i in
+    ap (cells_right_of outer inner) e
+    ∙ ap (λ m. each (column_cells outer inner) (reverse (after i m))) n
+    ∙ ap (each (column_cells outer inner)) (reverse-append ((i + 1) ∷ []) (after (i + 1) k))
+    ∙ ap (λ x. each (column_cells outer inner) (reverse (after x k) ++ x ∷ [])) f
+    ∙ each-append (column_cells outer inner) (reverse (after (suc i) k)) (suc i ∷ [])
+    ∙ ap (λ l. each (column_cells outer inner) (reverse (after (suc i) k)) ++ l) (append-nil (column_cells outer inner (suc i)))
+
+pub right-none : (outer inner : List ℕ) → cells_right_of outer inner (columns outer) ≡ []
+right-none outer inner =
+    let e : columns outer - columns outer ≡ 0 = omega arith in
+    ap (λ n. each (column_cells outer inner) (reverse (after (columns outer) n))) e
+
+pub right-all : (outer inner : List ℕ) → cells_right_of outer inner 0 ≡ reading_cells outer inner
+right-all outer inner =
+    let e : columns outer - 0 ≡ columns outer = omega arith in
+    ap (λ n. each (column_cells outer inner) (reverse (after 0 n))) e
+
+pub Among-reverse : (x : ℕ) (xs : List ℕ) → Among x (reverse xs) → Among x xs
+Among-reverse x [] m = m
+Among-reverse x (y ∷ xs) m = by (Among_from_append x (reverse xs) (y ∷ []) (subst (Among x) (reverse-append (y ∷ []) xs) m)) (λ m. Among-reverse x xs m)
+  where
+    by : Among x (reverse xs) ⊎ Among x (y ∷ []) → (Among x (reverse xs) → Among x xs) → Among x (y ∷ xs)
+    by (inl n) r = inr (r n)
+    by (inr (inl e)) r = inl e
+    by (inr (inr n)) r = absurd n
+
+-- a cell is not among those before it
+pub not_before :
+    (outer inner : List ℕ) (j k : ℕ) → Among (k + 1, j) (cells_right_of outer inner j ++ cells_above outer inner j k) → ⊥
+not_before outer inner j k m = by (Among_from_append (k + 1, j) (cells_right_of outer inner j) (cells_above outer inner j k) m)
+  where
+    by : Among (k + 1, j) (cells_right_of outer inner j) ⊎ Among (k + 1, j) (cells_above outer inner j k) → ⊥
+    by (inl n) =
+        let found = Among_from_each (column_cells outer inner) (k + 1, j) (reverse (after j (columns outer - j))) n in
+        let past = after_among j (columns outer - j) found.0 (Among-reverse found.0 (after j (columns outer - j)) found.1) in
+        let here = Among_from_map {B = ℕ × ℕ} (λ row. (row, found.0)) (k + 1, j) (select (reaches outer inner found.0) (after 0 (length outer))) found.2 in
+        let same : j ≡ found.0 = ap (λ (c : ℕ × ℕ). c.1) here.2 in
+        omega (arith, past.0)
+    by (inr n) =
+        let here = Among_from_map {B = ℕ × ℕ} (λ row. (row, j)) (k + 1, j) (select (reaches outer inner j) (after 0 k)) n in
+        let row = (Among_from_select (reaches outer inner j) here.0 (after 0 k) here.1).0 in
+        let same : k + 1 ≡ here.0 = ap (λ (c : ℕ × ℕ). c.0) here.2 in
+        omega (arith, (after_among 0 k here.0 row).1)
+
+reached_cell : (outer inner : List ℕ) (j k : ℕ) → reaches outer inner j (k + 1) ≡ true → IsCell outer inner (k + 1) j
+reached_cell outer inner j k h =
+    is_cell-tells outer inner (k + 1) j (ap (λ b. b && reaches outer inner j (k + 1)) (le-leb 1 (k + 1) (omega arith)) ∙ h)
+
+-- ---- a letter put into its cell
+
+pub letters-put :
+    (starts numbers outer inner w : List ℕ) (j k a : ℕ) → HasPlaces starts outer (length numbers)
+    → reaches outer inner j (k + 1) ≡ true
+    → HoldsLetters starts numbers outer inner (cells_right_of outer inner j ++ cells_above outer inner j k) w
+    → a ≡ get_or w (length (cells_right_of outer inner j ++ cells_above outer inner j k)) 0
+    → HoldsLetters starts (set numbers (place_of starts (k + 1) j) a) outer inner (cells_right_of outer inner j ++ cells_above outer inner j (k + 1)) w
+letters-put starts numbers outer inner w j k a h r held e row column c =
+    let done = cells_right_of outer inner j ++ cells_above outer inner j k in
+    let here = reached_cell outer inner j k r in
+    let more : done ++ (k + 1, j) ∷ [] ≡ cells_right_of outer inner j ++ cells_above outer inner j (k + 1) =
+    append_assoc (cells_right_of outer inner j) (cells_above outer inner j k) ((k + 1, j) ∷ [])
+    ∙ ap (λ l. cells_right_of outer inner j ++ l) (sym (above-reached outer inner j k r)) in
+    by (same_or_other row (k + 1) column j) done here more
+  where
+    same_or_other : (a b c d : ℕ) → ((a ≡ b) × (c ≡ d)) ⊎ ((a ≡ b) × (c ≡ d) → ⊥)
+    same_or_other a b c d = elim (cases_eq a b) [
+      | inr n ↦ inr (λ e. n e.0)
+      | inl e ↦ elim (cases_eq c d) [ inr n ↦ inr (λ f. n f.1) | inl f ↦ inl (e, f) ]
+    ]
+
+    by : ((row ≡ k + 1) × (column ≡ j)) ⊎ ((row ≡ k + 1) × (column ≡ j) → ⊥) → (done : List (ℕ × ℕ)) → IsCell outer inner (k + 1) j
+        → done ++ (k + 1, j) ∷ [] ≡ cells_right_of outer inner j ++ cells_above outer inner j (k + 1)
+        → number_in starts (set numbers (place_of starts (k + 1) j) a) row column
+        ≡ letter_of_cell row column (cells_right_of outer inner j ++ cells_above outer inner j (k + 1)) w
+    by (inl s) done here more =
+        ap₂ (λ x y. number_in starts (set numbers (place_of starts (k + 1) j) a) x y) s.0 s.1
+        ∙ number_in-set_here starts numbers outer inner (k + 1) j a h here ∙ e
+        ∙ sym (letter-push_here (k + 1) j (cells_right_of outer inner j ++ cells_above outer inner j k) w (not_before outer inner j k))
+        ∙ ap (λ l. letter_of_cell (k + 1) j l w)
+        (append_assoc (cells_right_of outer inner j) (cells_above outer inner j k) ((k + 1, j) ∷ [])
+        ∙ ap (λ l. cells_right_of outer inner j ++ l) (sym (above-reached outer inner j k r)))
+        ∙ sym (ap₂ (λ x y. letter_of_cell x y (cells_right_of outer inner j ++ cells_above outer inner j (k + 1)) w) s.0 s.1)
+    by (inr n) done here more =
+        number_in-set starts numbers outer inner (k + 1) j a row column h here c n ∙ held row column c
+        ∙ sym (letter-push_other row column (k + 1) j (cells_right_of outer inner j ++ cells_above outer inner j k) w (λ s. n (sym s.0, sym s.1)))
+        ∙ ap (λ l. letter_of_cell row column l w)
+        (append_assoc (cells_right_of outer inner j) (cells_above outer inner j k) ((k + 1, j) ∷ [])
+        ∙ ap (λ l. cells_right_of outer inner j ++ l) (sym (above-reached outer inner j k r)))
+
+-- no letter is left
+pub letters-spent :
+    (starts numbers outer inner w : List ℕ) (j k : ℕ) → reaches outer inner j (k + 1) ≡ true
+    → HoldsLetters starts numbers outer inner (cells_right_of outer inner j ++ cells_above outer inner j k) w
+    → length w ≤ length (cells_right_of outer inner j ++ cells_above outer inner j k)
+    → HoldsLetters starts numbers outer inner (cells_right_of outer inner j ++ cells_above outer inner j (k + 1)) w
+letters-spent starts numbers outer inner w j k r held short row column c =
+    by (cases_eq row (k + 1)) (cases_eq column j)
+  where
+    more : (cells_right_of outer inner j ++ cells_above outer inner j k) ++ (k + 1, j) ∷ [] ≡ cells_right_of outer inner j ++ cells_above outer inner j (k + 1)
+    more =
+        append_assoc (cells_right_of outer inner j) (cells_above outer inner j k) ((k + 1, j) ∷ [])
+        ∙ ap (λ l. cells_right_of outer inner j ++ l) (sym (above-reached outer inner j k r))
+
+    other : ((k + 1 ≡ row) × (j ≡ column) → ⊥)
+        → number_in starts numbers row column ≡ letter_of_cell row column (cells_right_of outer inner j ++ cells_above outer inner j (k + 1)) w
+    other n =
+        held row column c
+        ∙ sym (letter-push_other row column (k + 1) j (cells_right_of outer inner j ++ cells_above outer inner j k) w n)
+        ∙ ap (λ l. letter_of_cell row column l w) more
+
+    by : (row ≡ k + 1) ⊎ (row ≡ k + 1 → ⊥) → (column ≡ j) ⊎ (column ≡ j → ⊥)
+        → number_in starts numbers row column ≡ letter_of_cell row column (cells_right_of outer inner j ++ cells_above outer inner j (k + 1)) w
+    by (inr n) q = other (λ s. n (sym s.0))
+    by (inl p) (inr n) = other (λ s. n (sym s.1))
+    by (inl p) (inl q) =
+        held row column c
+        ∙ ap₂ (λ x y. letter_of_cell x y (cells_right_of outer inner j ++ cells_above outer inner j k) w) p q
+        ∙ letter-absent (k + 1) j (cells_right_of outer inner j ++ cells_above outer inner j k) w (not_before outer inner j k)
+        ∙ sym (get_or_past w (length (cells_right_of outer inner j ++ cells_above outer inner j k)) 0 short)
+        ∙ sym (letter-push_here (k + 1) j (cells_right_of outer inner j ++ cells_above outer inner j k) w (not_before outer inner j k))
+        ∙ ap (λ l. letter_of_cell (k + 1) j l w) more
+        ∙ sym (ap₂ (λ x y. letter_of_cell x y (cells_right_of outer inner j ++ cells_above outer inner j (k + 1)) w) p q)
+
+-- the next row has no cell in the column
+pub letters-passed :
+    (starts numbers outer inner w : List ℕ) (j k : ℕ) → reaches outer inner j (k + 1) ≡ false
+    → HoldsLetters starts numbers outer inner (cells_right_of outer inner j ++ cells_above outer inner j k) w
+    → HoldsLetters starts numbers outer inner (cells_right_of outer inner j ++ cells_above outer inner j (k + 1)) w
+letters-passed starts numbers outer inner w j k r held row column c =
+    held row column c
+    ∙ ap (λ l. letter_of_cell row column (cells_right_of outer inner j ++ l) w) (sym (above-passed outer inner j k r))

@@ -1,0 +1,101 @@
+-- How often numbers stand in a tableau, and standard tableaux.
+use Rattle.std.proofs.Common.{◌≡◌, ℕ, zero, suc, ◌+◌, ◌-◌, ◌<◌, ◌≤◌, true, ◌&&◌, ◌==◌, List, [], ◌∷◌, ◌++◌, map, length, take, get_or, slice_index_or, replicate, ◌∙◌, ap, ap₂, sym, refl, subst, arith, append-nil, length-append, eqb-true}
+use Rattle.std.proofs.lemmas.Bool.{eq-eqb, and_parts}
+use Rattle.std.proofs.lemmas.List.{take_more, length-map}
+use Rattle.sym_model.specs.Partition.{size, after}
+use Rattle.sym_model.specs.Schur.{row_lengths, letters_of, times_in}
+use Rattle.sym_model.specs.GoodTableau.{every}
+use Rattle.sym_model.specs.StandardTableau.{IsStandard}
+use Rattle.sym_model.specs.Tableau.{SkewFilling, IsTableau, shape_of}
+use Rattle.skew_shapes.specs.CellFillings.{IsTableauWithin, row_of}
+use Rattle.skew_shapes.proofs.CellCounts.{each-append}
+
+-- ---- rows one by one
+
+pub letters-more :
+    (rows : List (List ℕ)) (i : ℕ) → i < length rows → letters_of (take (i + 1) rows) ≡ letters_of (take i rows) ++ row_of rows (i + 1)
+letters-more rows i h =
+    let e : i ≡ i + 1 - 1 = omega arith in
+    let row = get_or rows i [] in
+    ap letters_of (take_more rows i [] h) ∙ each-append (λ (r : List ℕ). r) (take i rows) (row ∷ [])
+    ∙ ap (λ l. letters_of (take i rows) ++ l) (append-nil row ∙ ap (λ n. slice_index_or rows n []) e)
+
+pub times_in-append : (k : ℕ) (v w : List ℕ) → times_in k (v ++ w) ≡ times_in k v + times_in k w
+times_in-append k [] w = omega arith
+times_in-append k (a ∷ v) w = omega (arith, times_in-append k v w)
+
+pub length-letters-take : (rows : List (List ℕ)) (i : ℕ) → length (letters_of (take i rows)) ≤ length (letters_of rows)
+length-letters-take [] zero = omega arith
+length-letters-take [] (suc i) = omega arith
+length-letters-take (row ∷ rows) zero = omega arith
+length-letters-take (row ∷ rows) (suc i) =
+    omega (
+      arith,
+      length-append row (letters_of (take i rows)),
+      length-append row (letters_of rows),
+      length-letters-take rows i,
+    )
+
+length-letters : (rows : List (List ℕ)) → length (letters_of rows) ≡ size (map length rows)
+length-letters [] = refl
+length-letters (row ∷ rows) = length-append row (letters_of rows) ∙ ap (λ n. length row + n) (length-letters rows)
+
+length-row_lengths : (outer inner : List ℕ) → length (row_lengths outer inner) ≡ length outer
+length-row_lengths [] inner = refl
+length-row_lengths (a ∷ outer) [] = ap suc (length-row_lengths outer [])
+length-row_lengths (a ∷ outer) (b ∷ inner) = ap suc (length-row_lengths outer inner)
+
+size-row_lengths : (outer inner : List ℕ) → size (row_lengths outer inner) ≤ size outer
+size-row_lengths [] inner = omega arith
+size-row_lengths (a ∷ outer) [] = omega (arith, size-row_lengths outer [])
+size-row_lengths (a ∷ outer) (b ∷ inner) = omega (arith, size-row_lengths outer inner)
+
+straight_lengths : (outer : List ℕ) → row_lengths outer [] ≡ outer
+straight_lengths [] = refl
+straight_lengths (a ∷ outer) = ap (λ l. a ∷ l) (straight_lengths outer)
+
+pub rows-tableau : (t : SkewFilling) → IsTableauWithin t → length t.rows ≡ length t.outer
+rows-tableau t h = sym (length-map t.rows length) ∙ ap length h.tableau.cells ∙ length-row_lengths t.outer t.inner
+
+pub few-letters : (t : SkewFilling) → IsTableauWithin t → length (letters_of t.rows) ≤ 4096
+few-letters t h =
+    omega (arith, length-letters t.rows, ap size h.tableau.cells, size-row_lengths t.outer t.inner, h.shape.outside.small)
+
+pub straight-letters : (t : SkewFilling) → IsTableauWithin t → t.inner ≡ [] → length (letters_of t.rows) ≡ size t.outer
+straight-letters t h e =
+    length-letters t.rows ∙ ap size (h.tableau.cells ∙ ap (row_lengths t.outer) e ∙ straight_lengths t.outer)
+
+-- ---- each number once
+
+once_tells :
+    (w : List ℕ) (a k : ℕ) → every (λ n. times_in n w == 1) (after a k) ≡ true → map (λ n. times_in n w) (after a k) ≡ replicate k 1
+once_tells w a zero h = refl
+once_tells w a (suc k) h =
+    let p = and_parts (times_in (a + 1) w == 1) (every (λ n. times_in n w == 1) (after (a + 1) k)) h in
+    ap₂ ◌∷◌ (eqb-true (times_in (a + 1) w) 1 p.0) (once_tells w (a + 1) k p.1)
+
+once_from :
+    (w : List ℕ) (a k : ℕ) → map (λ n. times_in n w) (after a k) ≡ replicate k 1 → every (λ n. times_in n w == 1) (after a k) ≡ true
+once_from w a zero h = refl
+once_from w a (suc k) h =
+    ap₂ (λ x y. x && y) (eq-eqb (times_in (a + 1) w) 1 (ap (λ l. get_or l 0 0) h)) (once_from w (a + 1) k (tail h))
+  where
+    tail : times_in (a + 1) w ∷ map (λ n. times_in n w) (after (a + 1) k) ≡ 1 ∷ replicate k 1 → map (λ n. times_in n w) (after (a + 1) k) ≡ replicate k 1
+    tail e = cc
+
+straight : (t : SkewFilling) → IsTableauWithin t → t.inner ≡ [] → IsTableau (shape_of t.rows) [] t.rows
+straight t h e =
+    let shape : t.outer ≡ shape_of t.rows = sym (h.tableau.cells ∙ ap (row_lengths t.outer) e ∙ straight_lengths t.outer) in
+    subst (λ outer. IsTableau outer [] t.rows) shape (subst (λ inner. IsTableau t.outer inner t.rows) e h.tableau)
+
+pub IsStandard-from :
+    (t : SkewFilling) → IsTableauWithin t → t.inner ≡ [] → every (λ n. times_in n (letters_of t.rows) == 1) (after 0 (length (letters_of t.rows))) ≡ true
+    → IsStandard t.rows
+IsStandard-from t h e once = record {
+  tableau = straight t h e;
+  once = once_tells (letters_of t.rows) 0 (length (letters_of t.rows)) once;
+}
+
+pub IsStandard-tells :
+    (rows : List (List ℕ)) → IsStandard rows → every (λ n. times_in n (letters_of rows) == 1) (after 0 (length (letters_of rows))) ≡ true
+IsStandard-tells rows s = once_from (letters_of rows) 0 (length (letters_of rows)) s.once

@@ -1,0 +1,33 @@
+use Rattle.std.proofs.Common.{ℕ, ◌<◌, ◌-◌, List, length, refl, ap, sym, subst, ◌∙◌, arith}
+use Rattle.sym_model.specs.Partition.{part}
+use Rattle.sym_model.specs.Slide.{HasInnerCorner}
+use Rattle.sym_model.specs.Tableau.{SkewFilling}
+use Rattle.skew_shapes.specs.CellFillings.{without_outer_cell}
+use Rattle.skew_shapes.specs.Rows.{IsKept, filling_in}
+use Rattle.skew_shapes.proofs.CellRows.{positive_within}
+use Rattle.skew_shapes.proofs.KeptRows.{HasPlaces-lowered, IsSkew-outer_lowered, filling_in-dropped}
+use Rattle.skew_shapes.proofs.filled.Filled.drop_outer_cell.Goals as goal
+
+pub invariant_of-self : goal.invariant_of-self
+invariant_of-self c =
+    let shape = c.self.inside.shape in
+    let starts = c.self.inside.starts.items in
+    let numbers = c.self.inside.numbers.items in
+    let corner = subst (λ (t : SkewFilling). HasInnerCorner c.args.row t.outer) (sym c.self.view_is) c.requires.corner in
+    let cell = subst (λ (t : SkewFilling). part t.inner c.args.row < part t.outer c.args.row) (sym c.self.view_is) c.requires.cell in
+    let now : IsKept _ c.self.inside.starts.items c.self.inside.numbers.items = record {
+      skew = IsSkew-outer_lowered shape.0 shape.1 _ c.args.row c.self.invariant.skew corner cell refl;
+      places = HasPlaces-lowered starts shape.0 c.args.row (length numbers) corner.0 c.self.invariant.places;
+    } in
+    subst (λ (s : List ℕ × List ℕ). IsKept s starts numbers) (sym c.remove_outer_corner.ensures) now
+
+pub returns : goal.returns
+returns c =
+    let shape = c.self.inside.shape in
+    let starts = c.self.inside.starts.items in
+    let numbers = c.self.inside.numbers.items in
+    let corner = subst (λ (t : SkewFilling). HasInnerCorner c.args.row t.outer) (sym c.self.view_is) c.requires.corner in
+    let within = positive_within shape.0 (c.args.row - 1) (omega (arith, corner.1)) in
+    ap (λ (s : List ℕ × List ℕ). filling_in s starts numbers) c.remove_outer_corner.ensures
+    ∙ filling_in-dropped shape starts numbers c.args.row corner.0 (omega (arith, corner.0))
+    ∙ ap (λ (t : SkewFilling). without_outer_cell t c.args.row) c.self.view_is

@@ -1,0 +1,11 @@
+-- Each row so far begins behind the ones before it.
+use Rattle.std.proofs.Common.{◌≡◌, ℕ, ◌<◌, length, take, get_or}
+use Rattle.sym_model.specs.Partition.{size}
+use Rattle.skew_shapes.proofs.places.row_starts.Given as goal
+
+abbrev pub invariant-loop-length : goal.invariant-loop-length
+invariant-loop-length l = record {
+  starts : (k : ℕ) → k < l.length-index → get_or l.starts.items k 0 ≡ size (take k l.lengths);
+  count : length l.starts.items ≡ l.length-index;
+  sum : l.start ≡ size (take l.length-index l.lengths);
+}

@@ -1,0 +1,74 @@
+-- Fillings of skew shapes, cell by cell: what stands in a cell, and one cell changed, added or dropped (this project's own).
+use Rattle.std.specs.Prelude.{◌≡◌, ℕ, ◌+◌, ◌-◌, nat_le, nat_lt, Bool, ◌&&◌, cond, List, [], ◌∷◌, map, length, take, slice_index, slice_index_or, slice_set, Option, Some, None}
+use Rattle.sym_model.specs.Partition.{part, without_last_zeros}
+use Rattle.sym_model.specs.Schur.{row_lengths, semistandard, letters_of}
+use Rattle.sym_model.specs.Slide.{lowered_at}
+use Rattle.sym_model.specs.Tableau.{SkewFilling, IsTableau, are_letters}
+use Rattle.sym_model.specs.TableauList.{filling_of}
+use Rattle.skew_shapes.specs.Shapes.{IsSkew}
+
+-- a number for each cell of a skew shape within the limits
+pub record IsFilling (t : SkewFilling) : Type 0 where
+  pub shape : IsSkew t.outer t.inner
+  pub cells : map length t.rows ≡ row_lengths t.outer t.inner
+
+-- a semistandard tableau of a skew shape within the limits
+pub record IsTableauWithin (t : SkewFilling) : Type 0 where
+  pub shape : IsSkew t.outer t.inner
+  pub tableau : IsTableau t.outer t.inner t.rows
+
+-- whether a filling is a semistandard tableau with entries at least 1
+abbrev pub is_tableau : SkewFilling → Bool
+is_tableau t = are_letters (letters_of t.rows) && semistandard t.inner t.rows
+
+-- the filling of outer/inner with this column reading
+abbrev pub filled_with : List ℕ → List ℕ → List ℕ → SkewFilling
+filled_with outer inner w = record { outer = outer; inner = inner; rows = filling_of outer inner w }
+
+-- the row of a filling, counted from 1
+abbrev pub row_of : List (List ℕ) → ℕ → List ℕ
+row_of rows row = slice_index_or rows (row - 1) []
+
+-- how many cells of its row stand left of the column
+abbrev pub place_in_row : List ℕ → ℕ → ℕ → ℕ
+place_in_row inner row column = column - (part inner row + 1)
+
+-- whether (row, column) is a cell of outer/inner
+abbrev pub is_cell : List ℕ → List ℕ → ℕ → ℕ → Bool
+is_cell outer inner row column = nat_le 1 row && (nat_lt (part inner row) column && nat_le column (part outer row))
+
+-- the number in the cell (row, column), where that is one
+abbrev pub entry_at : SkewFilling → ℕ → ℕ → Option ℕ
+entry_at t row column =
+    cond (is_cell t.outer t.inner row column)
+    (Some (slice_index (row_of t.rows row) (place_in_row t.inner row column))) None
+
+-- the rows with another number in the cell (row, column)
+abbrev pub rows_with_entry : List ℕ → List (List ℕ) → ℕ → ℕ → ℕ → List (List ℕ)
+rows_with_entry inner rows row column a =
+    slice_set rows (row - 1) (slice_set (row_of rows row) (place_in_row inner row column) a)
+
+-- the filling with another number in the cell (row, column)
+abbrev pub with_entry : SkewFilling → ℕ → ℕ → ℕ → SkewFilling
+with_entry t row column a =
+    record { outer = t.outer; inner = t.inner; rows = rows_with_entry t.inner t.rows row column a }
+
+-- the filling in which the last inner cell of a row is a cell with the number 0
+abbrev pub with_inner_cell : SkewFilling → ℕ → SkewFilling
+with_inner_cell t row =
+    record {
+      outer = t.outer;
+      inner = without_last_zeros (lowered_at row t.inner);
+      rows = slice_set t.rows (row - 1) (0 ∷ row_of t.rows row);
+    }
+
+-- the filling without the last cell of a row; a row without cells at the end of the outer partition is none
+abbrev pub without_outer_cell : SkewFilling → ℕ → SkewFilling
+without_outer_cell t row =
+    let outer = without_last_zeros (lowered_at row t.outer) in
+    let kept = take (length (row_of t.rows row) - 1) (row_of t.rows row) in
+    record {
+      outer = outer;
+      inner = t.inner;
+      rows = take (length outer) (slice_set t.rows (row - 1) kept);
+    }

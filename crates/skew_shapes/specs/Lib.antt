@@ -1,0 +1,4 @@
+pub mod Shapes
+pub mod CellFillings
+pub mod Rows
+pub mod RowTests

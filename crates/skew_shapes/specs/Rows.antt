@@ -1,0 +1,61 @@
+-- Fillings as functions of cells, and those that are kept in one list of numbers, row by row (this project's own).
+use Rattle.std.specs.Prelude.{◌≡◌, ℕ, ◌+◌, ◌-◌, ◌<◌, ◌≤◌, nat_le, nat_lt, Bool, ◌&&◌, List, map, length, reverse, slice_index}
+use Rattle.sym_model.specs.Sum.{each, select}
+use Rattle.sym_model.specs.Partition.{IsCell, part, rows, columns, after}
+use Rattle.sym_model.specs.TableauList.{column_cells, letter_of_cell}
+use Rattle.sym_model.specs.Tableau.{SkewFilling}
+use Rattle.skew_shapes.specs.Shapes.{IsSkew}
+
+-- the row of outer/inner with the number f row column in each cell
+abbrev pub row_by : (ℕ → ℕ → ℕ) → List ℕ → List ℕ → ℕ → List ℕ
+row_by f outer inner row = map (f row) (after (part inner row) (part outer row - part inner row))
+
+-- the rows of the filling of outer/inner with these numbers
+abbrev pub rows_by : (ℕ → ℕ → ℕ) → List ℕ → List ℕ → List (List ℕ)
+rows_by f outer inner = map (row_by f outer inner) (after 0 (rows outer))
+
+-- the place of a cell, where each row begins at its start
+abbrev pub place_of : List ℕ → ℕ → ℕ → ℕ
+place_of starts row column = slice_index starts (row - 1) + (column - 1)
+
+-- the number of a cell
+abbrev pub number_in : List ℕ → List ℕ → ℕ → ℕ → ℕ
+number_in starts numbers row column = slice_index numbers (place_of starts row column)
+
+-- the filling that is kept so
+abbrev pub filling_in : List ℕ × List ℕ → List ℕ → List ℕ → SkewFilling
+filling_in shape starts numbers =
+    record {
+      outer = shape.0;
+      inner = shape.1;
+      rows = rows_by (number_in starts numbers) shape.0 shape.1;
+    }
+
+-- no two cells of a partition have one place
+pub record HasPlaces (starts outer : List ℕ) (places : ℕ) : Type 0 where
+  pub rows : length outer ≤ length starts
+  pub apart : (i k : ℕ) → i < k → k < length outer → slice_index starts i + slice_index outer i ≤ slice_index starts k
+  pub within : (i : ℕ) → i < length outer → slice_index starts i + slice_index outer i ≤ places
+
+-- a skew shape with a place for each cell of its outer partition
+pub record IsKept (shape : List ℕ × List ℕ) (starts numbers : List ℕ) : Type 0 where
+  pub skew : IsSkew shape.0 shape.1
+  pub places : HasPlaces starts shape.0 (length numbers)
+
+-- whether a row has a cell of outer/inner in column j
+abbrev pub reaches : List ℕ → List ℕ → ℕ → ℕ → Bool
+reaches outer inner j row = nat_lt (part inner row) j && nat_le j (part outer row)
+
+-- the cells in the columns right of column j, in the order of the column reading
+abbrev pub cells_right_of : List ℕ → List ℕ → ℕ → List (ℕ × ℕ)
+cells_right_of outer inner j = each (column_cells outer inner) (reverse (after j (columns outer - j)))
+
+-- the cells of column j in the first k rows, from top to bottom
+abbrev pub cells_above : List ℕ → List ℕ → ℕ → ℕ → List (ℕ × ℕ)
+cells_above outer inner j k = map (λ row. (row, j)) (select (reaches outer inner j) (after 0 k))
+
+-- each cell of outer/inner has the letter that it gets where the letters of the word are put into the listed cells, and 0
+-- where it is not listed
+abbrev pub HoldsLetters : List ℕ → List ℕ → List ℕ → List ℕ → List (ℕ × ℕ) → List ℕ → Type 0
+HoldsLetters starts numbers outer inner cells w =
+    (row column : ℕ) → IsCell outer inner row column → number_in starts numbers row column ≡ letter_of_cell row column cells w

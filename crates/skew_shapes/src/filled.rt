@@ -1,0 +1,212 @@
+//! Skew shapes with a number in each cell.
+ghost use Rattle.std.specs.Prelude.{◌≡◌, ◌<◌, ◌≤◌, ◌↔◌, nat_lt, length, true, if◌then◌else◌, IsOk, IfOk, IfErr};
+ghost use Rattle.sym_model.specs.Partition.{IsCell, part, rows};
+ghost use Rattle.sym_model.specs.Slide.{HasInnerCorner};
+ghost use Rattle.sym_model.specs.GoodTableau.{column_reading};
+ghost use Rattle.skew_shapes.specs.CellFillings.{IsFilling, entry_at, filled_with, is_tableau, row_of, with_entry, with_inner_cell, without_outer_cell};
+ghost use Rattle.skew_shapes.specs.RowTests.{row_passes, stands_below};
+
+use crate::order::{all_positive, rises, stands_on};
+use crate::places::{
+    between, place, push_columns, put_columns, replace_columns, row_starts, without_first,
+};
+use crate::{Skew, Tableau, Word};
+use calc_base::NoMemory;
+use std::alloc::Global;
+use std::marker::Model;
+
+/// A skew shape with a number in each of its cells, with no rule among these numbers. None of its calls takes memory:
+/// its places are those of the tableau that it was made from.
+#[derive(Debug, Drop)]
+pub struct Filled {
+    shape: Skew,
+    /// Where each row of the partition begins for whose cells there are places.
+    starts: Vec<u16>,
+    numbers: Vec<u16>,
+}
+
+impl Model for Filled {
+    ghost use Rattle.sym_model.specs.Tableau.{SkewFilling};
+    ghost use Rattle.skew_shapes.specs.Rows.{IsKept, filling_in};
+
+    ghost Value = { SkewFilling };
+
+    ghost view = { λ f. filling_in f.shape f.starts.items f.numbers.items };
+
+    ghost invariant = { λ f. IsKept f.shape f.starts.items f.numbers.items };
+}
+
+impl Filled {
+    /// The filling of a shape with this column reading: letters past the last cell are left out, and cells past the last
+    /// letter have the number 0.
+    pub fn with_reading(alloc: Global, shape: Skew, reading: &[u16]) -> Result<Filled, NoMemory>
+        ensures { IfOk result (λ f. f ≡ filled_with shape.0 shape.1 reading.now) }
+    {
+        let starts = row_starts(alloc, shape.outer().parts())?;
+        let mut numbers = vec![in alloc; 0u16; usize::from(shape.outer().size())]?;
+        put_columns(
+            &mut numbers,
+            &starts,
+            shape.outer().parts(),
+            shape.inner().parts(),
+            reading,
+        );
+        Ok(Filled {
+            shape,
+            starts,
+            numbers,
+        })
+    }
+
+    /// An equal filling.
+    pub(crate) fn copy(&self) -> Result<Filled, NoMemory>
+        ensures { IfOk result (λ f. f ≡ self.now) }
+    {
+        Ok(Filled {
+            shape: self.shape.copy()?,
+            starts: self.starts.clone()?,
+            numbers: self.numbers.clone()?,
+        })
+    }
+
+    /// The column reading.
+    pub(crate) fn column_reading(&self) -> Result<Word, NoMemory>
+        ensures { IfOk result (λ w. w ≡ column_reading self.now.outer self.now.inner self.now.rows) }
+    {
+        let mut letters = Vec::new(*self.numbers.allocator());
+        push_columns(
+            &mut letters,
+            &self.starts,
+            &self.numbers,
+            self.shape.outer().parts(),
+            self.shape.inner().parts(),
+        )?;
+        Word::from_slice(*self.numbers.allocator(), &letters)
+    }
+
+    /// The shape.
+    pub fn shape(&self) -> &Skew
+        ensures value { result.now ≡ (self.now.outer, self.now.inner) }
+        ensures filling { IsFilling self.now }
+    {
+        &self.shape
+    }
+
+    /// The numbers of this row, counted from 1, from left to right.
+    pub fn row(&self, row: u16) -> &[u16]
+        requires { (1 ≤ row) × (row ≤ rows self.now.outer) }
+        ensures { result.now ≡ row_of self.now.rows row }
+    {
+        let from = place(&self.starts, row, self.shape.inner().part(row) + 1);
+        let to = place(&self.starts, row, self.shape.outer().part(row) + 1);
+        between(&self.numbers, from, to)
+    }
+
+    /// The number in the cell of this row and this column, both counted from 1; None where that is no cell of the shape.
+    pub fn entry(&self, row: u16, column: u16) -> Option<u16>
+        ensures { result ≡ entry_at self.now row column }
+    {
+        if !self.shape.has_cell(row, column) {
+            return None;
+        }
+        Some(self.numbers[place(&self.starts, row, column)])
+    }
+
+    /// Puts a number into the cell of this row and this column; all other cells stay.
+    pub fn set(&mut self, row: u16, column: u16, value: u16)
+        requires { IsCell self.old.outer self.old.inner row column }
+        ensures { self.new ≡ with_entry self.old row column value }
+    {
+        let place = place(&self.starts, row, column);
+        self.numbers[place] = value;
+    }
+
+    /// Makes the last inner cell of this row, counted from 1, a cell of the shape with the number 0; all else stays.
+    /// That row of the inner partition is longer than the next one.
+    pub fn add_inner_cell(&mut self, row: u16)
+        requires { HasInnerCorner row self.old.inner }
+        ensures { self.new ≡ with_inner_cell self.old row }
+    {
+        let place = place(&self.starts, row, self.shape.inner().part(row));
+        self.numbers[place] = 0;
+        self.shape.remove_inner_corner(row);
+    }
+
+    /// Puts the letters of a column reading into the cells. Letters past the last cell are left out, and cells past the
+    /// last letter get the number 0.
+    pub fn fill(&mut self, reading: &[u16])
+        ensures { self.new ≡ filled_with self.old.outer self.old.inner reading.now }
+    {
+        replace_columns(
+            &mut self.numbers,
+            &self.starts,
+            self.shape.outer().parts(),
+            self.shape.inner().parts(),
+            reading,
+        );
+    }
+
+    /// Drops the last cell of this row, counted from 1; all else stays. That row of the outer partition is longer than
+    /// the next one, and than the same row of the inner partition.
+    pub fn drop_outer_cell(&mut self, row: u16)
+        requires corner { HasInnerCorner row self.old.outer }
+        requires cell { part self.old.inner row < part self.old.outer row }
+        ensures { self.new ≡ without_outer_cell self.old row }
+    {
+        self.shape.remove_outer_corner(row);
+    }
+
+    /// The tableau with these entries. The filling comes back where it is not semistandard with entries at least 1.
+    pub fn into_tableau(self) -> Result<Tableau, Filled>
+        ensures tableau { IsOk result ↔ (is_tableau self ≡ true) }
+        ensures ok { IfOk result (λ t. t ≡ self) }
+        ensures err { IfErr result (λ f. f ≡ self) }
+    {
+        if self.is_tableau() {
+            Ok(Tableau::of(self))
+        } else {
+            Err(self)
+        }
+    }
+
+    /// Whether the filling is semistandard with entries at least 1.
+    pub fn is_tableau(&self) -> bool
+        ensures value { result ≡ is_tableau self.now }
+        ensures filling { IsFilling self.now }
+    {
+        for row in 0..self.shape.outer().rows() {
+            if !self.row_passes(row + 1) {
+                return false;
+            }
+        }
+        true
+    }
+
+    /// Whether the numbers of this row are positive and rise, and those below them are greater.
+    fn row_passes(&self, row: u16) -> bool
+        requires { (1 ≤ row) × (row ≤ rows self.now.outer) }
+        ensures { result ≡ row_passes self.now.inner self.now.rows row }
+    {
+        let numbers = self.row(row);
+        all_positive(numbers) && (rises(numbers) && self.stands_on_next(row))
+    }
+
+    /// Whether the numbers below those of this row are greater; so it is for the last row.
+    fn stands_on_next(&self, row: u16) -> bool
+        requires { (1 ≤ row) × (row ≤ rows self.now.outer) }
+        ensures { result ≡ (if nat_lt row (length self.now.rows) then stands_below self.now.inner self.now.rows row else true) }
+    {
+        if row == self.shape.outer().rows() {
+            return true;
+        }
+        let shift = self
+            .shape
+            .inner()
+            .part(row)
+            .saturating_sub(self.shape.inner().part(row + 1));
+        stands_on(
+            self.row(row),
+            without_first(self.row(row + 1), usize::from(shift)),
+        )
+    }
+}

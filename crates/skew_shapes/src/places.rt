@@ -1,0 +1,179 @@
+//! Numbers of cells in one list, row by row.
+ghost use Rattle.std.specs.Prelude.{◌≡◌, ℕ, ◌+◌, ◌-◌, ◌<◌, ◌≤◌, [], ◌++◌, map, length, take, drop, slice_index, IfOk, OnOk};
+ghost use Rattle.sym_model.specs.Partition.{columns, size};
+ghost use Rattle.sym_model.specs.TableauList.{column_cells, reading_cells};
+ghost use Rattle.skew_shapes.specs.Rows.{HasPlaces, HoldsLetters, cells_above, cells_right_of, number_in, place_of, reaches};
+
+use std::alloc::{AllocError, Global};
+
+/// Where each row begins, where rows of these lengths follow one another.
+pub(crate) fn row_starts(alloc: Global, lengths: &[u16]) -> Result<Vec<u16>, AllocError>
+    requires { size lengths.now ≤ 4096 }
+    ensures { IfOk result (λ starts. HasPlaces starts.items lengths.now (size lengths.now)) }
+{
+    let mut starts = Vec::with_capacity(alloc, lengths.len())?;
+    let mut start: u16 = 0;
+    for length in lengths {
+        starts.push(start)?;
+        start += *length;
+    }
+    Ok(starts)
+}
+
+/// The place of the cell in this row and this column, both counted from 1.
+pub(crate) fn place(starts: &[u16], row: u16, column: u16) -> usize
+    requires row { (1 ≤ row) × (row - 1 < length starts.now) }
+    requires column { 1 ≤ column }
+    ensures { result ≡ place_of starts.now row column }
+{
+    usize::from(starts[usize::from(row) - 1]) + (usize::from(column) - 1)
+}
+
+/// Whether the row at this place, counted from 0, has a cell in the column.
+fn has_cell(outer: &[u16], inner: &[u16], row: usize, column: u16) -> bool
+    requires { row < length outer.now }
+    ensures { result ≡ reaches outer.now inner.now column (row + 1) }
+{
+    inner.get(row).copied().unwrap_or(0) < column && column <= outer[row]
+}
+
+/// Puts the letters of a word into the cells of outer/inner in the order of the column reading.
+pub(crate) fn put_columns(
+    numbers: &mut [u16],
+    starts: &[u16],
+    outer: &[u16],
+    inner: &[u16],
+    word: &[u16],
+)
+    requires few { length outer.now ≤ 512 }
+    requires places { HasPlaces starts.now outer.now (length numbers.old) }
+    requires empty { HoldsLetters starts.now numbers.old outer.now inner.now [] word.now }
+    ensures { HoldsLetters starts.now numbers.new outer.now inner.now (reading_cells outer.now inner.now) word.now }
+{
+    let mut rest = word;
+    let mut column = outer.first().copied().unwrap_or(0);
+    while column > 0 {
+        rest = put_column(numbers, starts, outer, inner, column, rest, word);
+        column -= 1;
+    }
+}
+
+/// Puts the letters of a word into the cells of outer/inner in place of all numbers that were there.
+pub(crate) fn replace_columns(
+    numbers: &mut [u16],
+    starts: &[u16],
+    outer: &[u16],
+    inner: &[u16],
+    word: &[u16],
+)
+    requires few { length outer.now ≤ 512 }
+    requires places { HasPlaces starts.now outer.now (length numbers.old) }
+    ensures { HoldsLetters starts.now numbers.new outer.now inner.now (reading_cells outer.now inner.now) word.now }
+{
+    clear(numbers);
+    put_columns(numbers, starts, outer, inner, word);
+}
+
+/// Puts the letters into the cells of one column. `rest` has those of the word that are left, and so has the answer.
+fn put_column<'a>(
+    numbers: &mut [u16],
+    starts: &[u16],
+    outer: &[u16],
+    inner: &[u16],
+    column: u16,
+    rest: &'a [u16],
+    word: &[u16],
+) -> &'a [u16]
+    requires few { length outer.now ≤ 512 }
+    requires places { HasPlaces starts.now outer.now (length numbers.old) }
+    requires column { (1 ≤ column) × (column ≤ columns outer.now) }
+    requires rest { rest.now ≡ drop (length (cells_right_of outer.now inner.now column)) word.now }
+    requires letters { HoldsLetters starts.now numbers.old outer.now inner.now (cells_right_of outer.now inner.now column) word.now }
+    ensures rest { result.now ≡ drop (length (cells_right_of outer.now inner.now (column - 1))) word.now }
+    ensures letters { HoldsLetters starts.now numbers.new outer.now inner.now (cells_right_of outer.now inner.now (column - 1)) word.now }
+{
+    let mut rest = rest;
+    for row in 0..outer.len() {
+        if !has_cell(outer, inner, row, column) {
+            continue;
+        }
+        let Some(letter) = rest.first().copied() else {
+            continue;
+        };
+        numbers[place(starts, row as u16 + 1, column)] = letter;
+        rest = without_first(rest, 1);
+    }
+    rest
+}
+
+/// Puts the numbers of the cells of outer/inner at the end of a list, in the order of the column reading.
+pub(crate) fn push_columns(
+    letters: &mut Vec<u16>,
+    starts: &[u16],
+    numbers: &[u16],
+    outer: &[u16],
+    inner: &[u16],
+) -> Result<(), AllocError>
+    requires few { length outer.now ≤ 512 }
+    requires places { HasPlaces starts.now outer.now (length numbers.now) }
+    ensures { OnOk result (letters.new.items
+        ≡ letters.old.items ++ map (λ (c : ℕ × ℕ). number_in starts.now numbers.now c.0 c.1) (reading_cells outer.now inner.now)) }
+{
+    let mut column = outer.first().copied().unwrap_or(0);
+    while column > 0 {
+        push_column(letters, starts, numbers, outer, inner, column)?;
+        column -= 1;
+    }
+    Ok(())
+}
+
+fn push_column(
+    letters: &mut Vec<u16>,
+    starts: &[u16],
+    numbers: &[u16],
+    outer: &[u16],
+    inner: &[u16],
+    column: u16,
+) -> Result<(), AllocError>
+    requires few { length outer.now ≤ 512 }
+    requires places { HasPlaces starts.now outer.now (length numbers.now) }
+    requires column { 1 ≤ column }
+    ensures { OnOk result (letters.new.items
+        ≡ letters.old.items ++ map (λ (c : ℕ × ℕ). number_in starts.now numbers.now c.0 c.1) (column_cells outer.now inner.now column)) }
+{
+    for row in 0..outer.len() {
+        if !has_cell(outer, inner, row, column) {
+            continue;
+        }
+        letters.push(numbers[place(starts, row as u16 + 1, column)])?;
+    }
+    Ok(())
+}
+
+/// The numbers without so many at the front.
+pub(crate) fn without_first(numbers: &[u16], count: usize) -> &[u16]
+    ensures { result.now ≡ drop count numbers.now }
+{
+    if count < numbers.len() {
+        &numbers[count..]
+    } else {
+        &[]
+    }
+}
+
+/// The numbers from one place up to another.
+pub(crate) fn between(numbers: &[u16], from: usize, to: usize) -> &[u16]
+    requires { (from ≤ to) × (to ≤ length numbers.now) }
+    ensures { result.now ≡ take (to - from) (drop from numbers.now) }
+{
+    &numbers[from..to]
+}
+
+/// Puts zeros in place of all numbers.
+fn clear(numbers: &mut [u16])
+    ensures { (k : ℕ) → slice_index numbers.new k ≡ 0 }
+{
+    for number in numbers.iter_mut() {
+        *number = 0;
+    }
+}

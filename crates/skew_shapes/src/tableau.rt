@@ -1,0 +1,113 @@
+//! The type of a semistandard tableau.
+ghost use Rattle.std.specs.Prelude.{◌≡◌, ◌≢◌, ◌≤◌, ◌↔◌, false, length, IfOk, OnOk, IsErrOf};
+ghost use Rattle.sym_model.specs.GoodTableau.{column_reading};
+ghost use Rattle.sym_model.specs.Partition.{cells, rows};
+ghost use Rattle.skew_shapes.specs.CellFillings.{IsTableauWithin, entry_at, filled_with, is_tableau, row_of};
+
+use crate::{Filled, Skew, TableauFault, Word};
+use calc_base::NoMemory;
+use std::alloc::Global;
+use std::marker::Model;
+
+/// A semistandard tableau of a skew shape, with entries at least 1. When it is made it takes one place for each cell of
+/// its outer partition.
+#[derive(Debug, Drop)]
+pub struct Tableau {
+    filled: Filled,
+}
+
+impl Model for Tableau {
+    ghost use Rattle.sym_model.specs.Tableau.{SkewFilling};
+    ghost use Rattle.skew_shapes.specs.CellFillings.{IsTableauWithin};
+
+    ghost Value = { SkewFilling };
+
+    ghost view = { λ t. t.filled };
+
+    ghost invariant = { λ t. IsTableauWithin t.filled };
+}
+
+impl Tableau {
+    /// The tableau of a shape with this column reading: the columns from the rightmost to the leftmost, each from top to
+    /// bottom.
+    ///
+    /// It is refused as `Length` where the number of entries is not that of the cells, else as `Order` where the filling
+    /// is not semistandard with entries at least 1.
+    pub fn from_reading(
+        alloc: Global,
+        shape: Skew,
+        reading: &[u16],
+    ) -> Result<Tableau, TableauFault>
+        ensures ok { IfOk result (λ t. t ≡ filled_with shape.0 shape.1 reading.now) }
+        ensures tableau { OnOk result (IsTableauWithin (filled_with shape.0 shape.1 reading.now)) }
+        ensures length { IsErrOf result TableauFault.Length ↔ (length reading.now ≢ length (cells shape.0 shape.1)) }
+        ensures order_only_there { IsErrOf result TableauFault.Order
+            → (length reading.now ≡ length (cells shape.0 shape.1)) × (is_tableau (filled_with shape.0 shape.1 reading.now) ≡ false) }
+    {
+        if reading.len() != usize::from(shape.cells()) {
+            return Err(TableauFault::Length);
+        }
+        let filled = match Filled::with_reading(alloc, shape, reading) {
+            Ok(filled) => filled,
+            Err(NoMemory) => return Err(TableauFault::NoMemory),
+        };
+        match filled.into_tableau() {
+            Ok(tableau) => Ok(tableau),
+            Err(_) => Err(TableauFault::Order),
+        }
+    }
+
+    /// The tableau that a filling is.
+    pub(crate) fn of(filled: Filled) -> Tableau
+        requires { IsTableauWithin filled }
+        ensures { result ≡ filled }
+    {
+        Tableau { filled }
+    }
+
+    /// The shape.
+    pub fn shape(&self) -> &Skew
+        ensures value { result.now ≡ (self.now.outer, self.now.inner) }
+        ensures tableau { IsTableauWithin self.now }
+    {
+        self.filled.shape()
+    }
+
+    /// The entries of this row, counted from 1, from left to right.
+    pub fn row(&self, row: u16) -> &[u16]
+        requires { (1 ≤ row) × (row ≤ rows self.now.outer) }
+        ensures { result.now ≡ row_of self.now.rows row }
+    {
+        self.filled.row(row)
+    }
+
+    /// The entry in this row and this column, both counted from 1; None where that is no cell of the shape.
+    pub fn entry(&self, row: u16, column: u16) -> Option<u16>
+        ensures { result ≡ entry_at self.now row column }
+    {
+        self.filled.entry(row, column)
+    }
+
+    /// An equal tableau.
+    pub fn copy(&self) -> Result<Tableau, NoMemory>
+        ensures { IfOk result (λ t. t ≡ self.now) }
+    {
+        Ok(Tableau {
+            filled: self.filled.copy()?,
+        })
+    }
+
+    /// The column reading: the columns from the rightmost to the leftmost, each from top to bottom.
+    pub fn column_reading(&self) -> Result<Word, NoMemory>
+        ensures { IfOk result (λ w. w ≡ column_reading self.now.outer self.now.inner self.now.rows) }
+    {
+        self.filled.column_reading()
+    }
+
+    /// The same shape and entries, with no rule among them.
+    pub fn into_filled(self) -> Filled
+        ensures { result ≡ self }
+    {
+        self.filled
+    }
+}

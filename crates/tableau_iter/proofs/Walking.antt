@@ -1,0 +1,111 @@
+-- The words that pass a test, one after the other.
+use Rattle.std.proofs.Common.{◌≡◌, ℕ, suc, ◌+◌, ◌-◌, ◌<◌, ◌≤◌, Bool, true, false, cond, List, [], ◌∷◌, ◌++◌, map, length, ◌∙◌, ap, ap₂, sym, refl, arith, append_assoc, append-nil}
+use Rattle.sym_model.specs.Sum.{each, select}
+use Rattle.sym_model.specs.Partition.{after}
+use Rattle.sym_model.specs.Schur.{words}
+use Rattle.tableau_iter.specs.Walks.{completions, continued, later}
+
+select-append : {A : Type 0} (test : A → Bool) (xs ys : List A) → select test (xs ++ ys) ≡ select test xs ++ select test ys
+select-append test [] ys = refl
+select-append test (x ∷ xs) ys = by (test x) (select-append test xs ys)
+  where
+    by : (b : Bool) → select test (xs ++ ys) ≡ select test xs ++ select test ys
+        → cond b (x ∷ select test (xs ++ ys)) (select test (xs ++ ys)) ≡ cond b (x ∷ select test xs) (select test xs) ++ select test ys
+    by true e = ap (λ l. x ∷ l) e
+    by false e = e
+
+select-each : {A B : Type 0} (test : B → Bool) (f : A → List B) (xs : List A) → select test (each f xs) ≡ each (λ (x : A). select test (f x)) xs
+select-each test f [] = refl
+select-each test f (x ∷ xs) = select-append test (f x) (each f xs) ∙ ap (λ l. select test (f x) ++ l) (select-each test f xs)
+
+select-map : {A B : Type 0} (test : B → Bool) (g : A → B) (xs : List A) → select test (map g xs) ≡ map g (select (λ (x : A). test (g x)) xs)
+select-map test g [] = refl
+select-map test g (x ∷ xs) = by (test (g x)) (select-map test g xs)
+  where
+    by : (b : Bool) → select test (map g xs) ≡ map g (select (λ x. test (g x)) xs)
+        → cond b (g x ∷ select test (map g xs)) (select test (map g xs)) ≡ map g (cond b (x ∷ select (λ x. test (g x)) xs) (select (λ x. test (g x)) xs))
+    by true e = ap (λ l. g x ∷ l) e
+    by false e = e
+
+pub select-ext : (test other : List ℕ → Bool) (xs : List (List ℕ)) → ((x : List ℕ) → test x ≡ other x) → select test xs ≡ select other xs
+select-ext test other [] h = refl
+select-ext test other (x ∷ xs) h = ap₂ (λ b l. cond b (x ∷ l) l) (h x) (select-ext test other xs h)
+
+each-ext : (f g : ℕ → List (List ℕ)) (xs : List ℕ) → ((x : ℕ) → f x ≡ g x) → each f xs ≡ each g xs
+each-ext f g [] h = refl
+each-ext f g (x ∷ xs) h = ap₂ (λ a b. a ++ b) (h x) (each-ext f g xs h)
+
+-- the first letter runs over all
+pub completions-first :
+    (test : List ℕ → Bool) (k n : ℕ) (front : List ℕ) → completions test k (suc n) front ≡ continued test k n front 0
+completions-first test k n front =
+    let all : k ≡ k - 0 = omega arith in
+    let passes = λ (w : List ℕ). test (front ++ w) in
+    select-each passes (λ a. map (λ w. a ∷ w) (words k n)) (after 0 k)
+    ∙ each-ext (λ a. select passes (map (λ w. a ∷ w) (words k n))) (λ b. map (λ w. b ∷ w) (completions test k n (front ++ b ∷ []))) (after 0 k)
+    (λ a.
+    select-map passes (λ w. a ∷ w) (words k n)
+    ∙ ap (map (λ w. a ∷ w))
+    (select-ext (λ w. test (front ++ (a ∷ w))) (λ w. test ((front ++ a ∷ []) ++ w)) (words k n)
+    (λ w. ap test (sym (append_assoc front (a ∷ []) w)))))
+    ∙ ap (λ m. each (λ b. map (λ w. b ∷ w) (completions test k n (front ++ b ∷ []))) (after 0 m)) all
+
+-- one letter after the other
+pub continued-next :
+    (test : List ℕ → Bool) (k n : ℕ) (front : List ℕ) (a : ℕ) → a < k
+    → continued test k n front a
+    ≡ map (λ w. (a + 1) ∷ w) (completions test k n (front ++ (a + 1) ∷ [])) ++ continued test k n front (a + 1)
+continued-next test k n front a h =
+    let count : k - a ≡ suc (k - (a + 1)) = omega arith in
+    ap (λ m. each (λ b. map (λ w. b ∷ w) (completions test k n (front ++ b ∷ []))) (after a m)) count
+
+pub continued-none : (test : List ℕ → Bool) (k n : ℕ) (front : List ℕ) (a : ℕ) → k ≤ a → continued test k n front a ≡ []
+continued-none test k n front a h =
+    let count : k - a ≡ 0 = omega arith in
+    ap (λ m. each (λ b. map (λ w. b ∷ w) (completions test k n (front ++ b ∷ []))) (after a m)) count
+
+-- where the first letter a + 1 can be continued
+pub continued-found :
+    (test : List ℕ → Bool) (k n : ℕ) (front w : List ℕ) (a : ℕ) → a < k → length w ≡ n
+    → completions test k n (front ++ (a + 1) ∷ []) ≡ w ∷ later test k (front ++ (a + 1) ∷ []) w
+    → continued test k n front a ≡ ((a + 1) ∷ w) ∷ later test k front ((a + 1) ∷ w)
+unfolding later
+continued-found test k n front w a h l e =
+    continued-next test k n front a h
+    ∙ ap (λ xs. map (λ w. (a + 1) ∷ w) xs ++ continued test k n front (a + 1)) e
+    ∙ ap (λ m. ((a + 1) ∷ w) ∷ (map (λ w. (a + 1) ∷ w) (later test k (front ++ (a + 1) ∷ []) w) ++ continued test k m front (a + 1))) (sym l)
+
+-- where it can't
+pub continued-passed :
+    (test : List ℕ → Bool) (k n : ℕ) (front : List ℕ) (a : ℕ) → a < k → completions test k n (front ++ (a + 1) ∷ []) ≡ []
+    → continued test k n front a ≡ continued test k n front (a + 1)
+continued-passed test k n front a h e =
+    continued-next test k n front a h ∙ ap (λ xs. map (λ w. (a + 1) ∷ w) xs ++ continued test k n front (a + 1)) e
+
+pub later-same :
+    (test : List ℕ → Bool) (k : ℕ) (front w v : List ℕ) (a : ℕ) → length w ≡ length v
+    → later test k (front ++ a ∷ []) w ≡ v ∷ later test k (front ++ a ∷ []) v
+    → later test k front (a ∷ w) ≡ (a ∷ v) ∷ later test k front (a ∷ v)
+unfolding later
+later-same test k front w v a l e =
+    ap (λ xs. map (λ w. a ∷ w) xs ++ continued test k (length w) front a) e
+    ∙ ap (λ m. (a ∷ v) ∷ (map (λ w. a ∷ w) (later test k (front ++ a ∷ []) v) ++ continued test k m front a)) l
+
+pub later-greater :
+    (test : List ℕ → Bool) (k : ℕ) (front w : List ℕ) (a : ℕ) → later test k (front ++ a ∷ []) w ≡ []
+    → later test k front (a ∷ w) ≡ continued test k (length w) front a
+unfolding later
+later-greater test k front w a e = ap (λ xs. map (λ w. a ∷ w) xs ++ continued test k (length w) front a) e
+
+pub later-none : (test : List ℕ → Bool) (k : ℕ) (front : List ℕ) → later test k front [] ≡ []
+unfolding later
+later-none test k front = refl
+
+-- no letter is left
+pub completions-end :
+    (test : List ℕ → Bool) (k : ℕ) (front : List ℕ) → test front ≡ true → completions test k 0 front ≡ [] ∷ []
+completions-end test k front e = ap (λ b. cond b ([] ∷ []) []) (ap test (append-nil front) ∙ e)
+
+pub completions-fail :
+    (test : List ℕ → Bool) (k : ℕ) (front : List ℕ) → test front ≡ false → completions test k 0 front ≡ []
+completions-fail test k front e = ap (λ b. cond b ([] ∷ []) []) (ap test (append-nil front) ∙ e)

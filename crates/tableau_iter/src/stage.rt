@@ -1,0 +1,9 @@
+//! How far a lister has come.
+
+/// Whether the words are still to come, one is current, or the last one was passed.
+#[derive(Clone, Copy)]
+pub(crate) enum Stage {
+    New,
+    Listing,
+    Ended,
+}
