@@ -30,7 +30,7 @@ has_positive (zero ∷ u) = by (has_positive u)
     by (inl h) = inl h
     by (inr e) = inr (ap (in_front zero) e)
 
-front_tail : (a : ℕ) (u w : List ℕ) → in_front a u ≡ a ∷ w → u ≡ w
+pub front_tail : (a : ℕ) (u w : List ℕ) → in_front a u ≡ a ∷ w → u ≡ w
 front_tail zero [] w e = cc
 front_tail (suc a) [] w e = cc
 front_tail zero (b ∷ u) w e = cc

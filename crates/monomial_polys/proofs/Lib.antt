@@ -1,2 +1,3 @@
 pub mod ExponentOrder
 pub mod Labels
+pub mod Raising

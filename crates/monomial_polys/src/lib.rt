@@ -4,6 +4,8 @@
 mod fault;
 mod label;
 mod monomial;
+mod poly;
 
 pub use fault::MonoFault;
 pub use monomial::Monomial;
+pub use poly::Poly;

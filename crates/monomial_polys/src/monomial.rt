@@ -1,5 +1,5 @@
 //! The type of a monomial.
-ghost use Rattle.std.specs.Prelude.{◌≡◌, ℕ, ◌<◌, ◌≤◌, ◌↔◌, length, nat_eq, IsOk, IfOk, OnOk, IsErrOf};
+ghost use Rattle.std.specs.Prelude.{◌≡◌, ℕ, ◌+◌, ◌<◌, ◌≤◌, ◌↔◌, [], length, slice_index, slice_set, nat_eq, IsOk, IfOk, OnOk, IsErrOf};
 ghost use Rattle.std.specs.Cmp.{partial_equiv_from_equiv};
 ghost use Rattle.std.specs.Cmp.Lexicographic.{pointwise, nat_list_eq_equiv};
 ghost use Rattle.std.specs.Cmp.Rules.{hashing};
@@ -8,11 +8,12 @@ ghost use Rattle.std.proofs.Common.{rules};
 ghost use Rattle.sym_model.specs.Partition.{size, without_last_zeros};
 ghost use Rattle.sym_model.specs.PrintedOrder.{printed_order};
 ghost use Rattle.monomial_polys.specs.Limits.{HasDegree, IsWithinLimits};
+ghost use Rattle.monomial_polys.specs.Raised.{raised};
 
 use crate::MonoFault;
 use calc_base::NoMemory;
 use smallvec::SmallVec;
-use std::alloc::Global;
+use std::alloc::{AllocError, Global};
 use std::cmp::Ordering;
 use std::hash::{Hash, Hasher};
 use std::marker::Model;
@@ -22,11 +23,14 @@ const MAX_EXPONENTS: usize = 255;
 
 const MAX_DEGREE: u32 = 32385;
 
+/// The exponents of a monomial. Up to 16 are kept with no memory taken.
+type Exponents = SmallVec<u16, 16>;
+
 /// A monomial: its exponents without the zeros at their end. It has at most 255 exponents and a degree of at most
 /// 32,385. Up to 16 exponents are kept with no memory taken.
 #[derive(Debug, Drop)]
 pub struct Monomial {
-    exponents: SmallVec<u16, 16>,
+    exponents: Exponents,
     // The sum of the exponents.
     degree: u16,
 }
@@ -66,6 +70,43 @@ impl Monomial {
             return Err(MonoFault::TooBig);
         }
         Ok(with_degree(alloc, exponents, degree as u16)?)
+    }
+
+    /// The monomial with these exponents, of which the caller knows that they lie within the limits but for zeros at
+    /// their end, which are dropped. At most 16 exponents take no memory.
+    pub fn from_valid_exponents(alloc: Global, exponents: &[u16]) -> Result<Monomial, NoMemory>
+        requires { IsWithinLimits (without_last_zeros exponents.now) }
+        ensures ok { IfOk result (λ m. m ≡ without_last_zeros exponents.now) }
+        ensures inline { length (without_last_zeros exponents.now) ≤ 16 → IsOk result }
+    {
+        let exponents = numbers_before_zeros(exponents);
+        with_degree(alloc, exponents, sum_of(exponents) as u16)
+    }
+
+    /// The monomial 1. It takes no memory.
+    pub fn one(alloc: Global) -> Monomial
+        ensures { result ≡ [] }
+    {
+        Monomial {
+            exponents: SmallVec::new(alloc),
+            degree: 0,
+        }
+    }
+
+    /// The product with the variable x_r, for r from 1 to 255 and a degree below 32,385. At most 16 exponents take no
+    /// memory.
+    pub fn times_var(&self, r: u16) -> Result<Monomial, NoMemory>
+        requires first { 1 ≤ r }
+        requires last { r ≤ 255 }
+        requires room { size self.now < 32385 }
+        ensures { IfOk result (λ m. m ≡ raised r self.now) }
+    {
+        let mut exponents = SmallVec::from_slice(*self.exponents.allocator(), self.exponents())?;
+        raise(&mut exponents, usize::from(r) - 1)?;
+        Ok(Monomial {
+            exponents,
+            degree: self.degree + 1,
+        })
     }
 
     /// The exponents.
@@ -140,6 +181,28 @@ fn with_degree(alloc: Global, exponents: &[u16], degree: u16) -> Result<Monomial
         exponents: SmallVec::from_slice(alloc, exponents)?,
         degree,
     })
+}
+
+/// Adds 1 to the exponent at a place, counted from 0.
+fn raise(exponents: &mut Exponents, at: usize) -> Result<(), AllocError>
+    requires place { at < 255 }
+    requires small { size exponents.old.items < 32385 }
+    ensures { OnOk result (exponents.new.items ≡ raised (at + 1) exponents.old.items) }
+{
+    while exponents.len() <= at {
+        exponents.push(0)?;
+    }
+    add_one(exponents.as_mut_slice(), at);
+    Ok(())
+}
+
+/// Adds 1 to the number at an index.
+fn add_one(numbers: &mut [u16], at: usize)
+    requires inside { at < length numbers.old }
+    requires small { slice_index numbers.old at < 65535 }
+    ensures { numbers.new ≡ slice_set numbers.old at (slice_index numbers.old at + 1) }
+{
+    numbers[at] += 1;
 }
 
 /// The numbers without the zeros at their end.

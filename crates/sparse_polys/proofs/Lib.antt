@@ -6,3 +6,5 @@ pub mod Totals
 pub mod Multiples
 pub mod Places
 pub mod Values
+pub mod LabelTests
+pub mod FollowingTerms

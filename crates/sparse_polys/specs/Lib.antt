@@ -1,3 +1,4 @@
 pub mod Combination
 pub mod Refusal
 pub mod Labels
+pub mod Following

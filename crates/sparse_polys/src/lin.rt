@@ -9,7 +9,7 @@ ghost use Rattle.std.specs.Map.Iter.{ShowsInOrder, deref_pair};
 ghost use Rattle.sparse_polys.specs.Combination.{coefficient, terms_of, HasMoreAt, HasSameCoefficients, IsCanonicalList, IsCombination, IsMultipleOf, IsSumOf};
 ghost use Rattle.sparse_polys.specs.Refusal.{IsRefused, RefusesSomeProduct, RefusesSomeSum};
 
-use crate::label::Label;
+use crate::label::{Label, lies_in_limits};
 use crate::terms::Terms;
 use calc_base::{NoMemory, SumFault};
 use coeff_rings::{Ring, Scalar};
@@ -233,13 +233,6 @@ fn is_scalar<R: Scalar>(c: R)
     ensures { R.is_held c }
 {
     let _ = c.is_zero();
-}
-
-/// Does nothing when it runs: it tells a proof that a label lies in the limits of its type.
-fn lies_in_limits<L: Label>(label: &L)
-    ensures { IsTrue (L.is_label label.now) }
-{
-    let _ = label.cmp_printed(label);
 }
 
 /// The label and the scalar at an index of a table.

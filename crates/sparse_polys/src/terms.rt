@@ -1,12 +1,14 @@
 //! Lists of terms in the printed order.
 ghost use Rattle.std.specs.Prelude.{◌≡◌, ◌↔◌, [], length, slice_get, IsTrue};
-ghost use Rattle.std.specs.Option.{option_map};
+ghost use Rattle.std.specs.Option.{option_map, option_copied, SomeIff};
 ghost use Rattle.std.specs.Slice.Iter.{iter_rest};
 ghost use Rattle.std.specs.Vec.Iter.{into_iter_items};
-ghost use Rattle.sparse_polys.specs.Combination.{terms_of, IsCanonicalList};
+ghost use Rattle.sparse_polys.specs.Combination.{terms_of, is_canonical_list, IsCanonicalList};
+ghost use Rattle.sparse_polys.specs.Following.{is_later, is_next};
 
-use crate::label::Label;
+use crate::label::{Label, lies_in_limits};
 use coeff_rings::Scalar;
+use std::cmp::Ordering;
 use std::marker::Model;
 use std::{slice, vec};
 
@@ -29,6 +31,18 @@ impl<L: Label, R: Scalar> Model for Terms<L, R> {
 }
 
 impl<L: Label, R: Scalar> Terms<L, R> {
+    /// The list of these pairs, or `None` exactly where they do not stand strictly in the printed order, or a
+    /// coefficient is 0.
+    pub fn from_pairs(pairs: Vec<(L, R)>) -> Option<Terms<L, R>>
+        ensures { SomeIff result (IsCanonicalList L.order L.is_label (terms_of R.value pairs.items)) (terms_of R.value pairs.items) }
+    {
+        if are_canonical(&pairs) {
+            Some(Terms::from_sorted(pairs))
+        } else {
+            None
+        }
+    }
+
     /// The list of pairs that are in order.
     pub(crate) fn from_sorted(pairs: Vec<(L, R)>) -> Terms<L, R>
         requires { IsCanonicalList L.order L.is_label (terms_of R.value pairs.items) }
@@ -79,5 +93,37 @@ impl<L: Label, R: Scalar> IntoIterator for Terms<L, R> {
 
     fn into_iter(self) -> Self::IntoIter {
         self.pairs.into_iter()
+    }
+}
+
+/// Whether the pairs stand strictly in the printed order, with coefficients that are not 0.
+fn are_canonical<L: Label, R: Scalar>(pairs: &[(L, R)]) -> bool
+    ensures { result ≡ is_canonical_list L.order L.is_label (terms_of R.value pairs.now) }
+{
+    let mut previous: Option<&L> = None;
+    for (label, c) in pairs {
+        if !may_follow(previous, label, *c) {
+            return false;
+        }
+        previous = Some(label);
+    }
+    true
+}
+
+/// Whether a term may stand behind the previous label: its coefficient is not 0, and it stands strictly later in print.
+fn may_follow<L: Label, R: Scalar>(previous: Option<&L>, label: &L, c: R) -> bool
+    ensures { result ≡ is_next L.order L.is_label (option_copied previous.entry) (label.now, R.value c) }
+{
+    lies_in_limits(label);
+    stands_later(previous, label) && !c.is_zero()
+}
+
+/// Whether a label stands strictly later in print than the previous one, if there is one.
+fn stands_later<L: Label>(previous: Option<&L>, label: &L) -> bool
+    ensures { result ≡ is_later L.order (option_copied previous.entry) label.now }
+{
+    match previous {
+        Some(previous) => previous.cmp_printed(label) == Ordering::Less,
+        None => true,
     }
 }
