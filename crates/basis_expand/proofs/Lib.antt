@@ -1,4 +1,3 @@
-pub mod PhraseAtoms
 pub mod WholeLists
 pub mod Bounds
 pub mod PartitionTerms
@@ -10,3 +9,7 @@ pub mod AtomLists
 pub mod Quotients
 pub mod DividedLists
 pub mod TreeFacts
+pub mod StripLists
+pub mod StripTerms
+pub mod StripTables
+pub mod SchurTerms

@@ -28,7 +28,7 @@ pub listed_on : (before old new all : List (List ℕ)) (item : Option (List ℕ)
 listed_on before old new all item label e next current =
     ap (λ t. before ++ t) (ap (λ o. option_to_list o ++ new) (sym current) ∙ sym next) ∙ e
 
-Among-after : (before : List (List ℕ)) (label : List ℕ) (new : List (List ℕ)) → Among label (before ++ (label ∷ new))
+pub Among-after : (before : List (List ℕ)) (label : List ℕ) (new : List (List ℕ)) → Among label (before ++ (label ∷ new))
 Among-after [] label new = inl refl
 Among-after (l ∷ before) label new = inr (Among-after before label new)
 
@@ -53,7 +53,7 @@ IsWithinLimits-listed before new d label h e =
     IsWithinLimits-low label t.0 (omega arith)
 
 -- and is not among those before it
-once_before : (before new : List (List ℕ)) (label : List ℕ) → Once (before ++ (label ∷ new)) → Among label before → ⊥
+pub once_before : (before new : List (List ℕ)) (label : List ℕ) → Once (before ++ (label ∷ new)) → Among label before → ⊥
 once_before [] new label o m = m
 once_before (l ∷ before) new label o (inl e) = o.0 (subst (λ x. Among x (before ++ (label ∷ new))) e (Among-after before label new))
 once_before (l ∷ before) new label o (inr m) = once_before before new label o.1 m

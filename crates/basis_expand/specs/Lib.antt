@@ -1,6 +1,6 @@
-pub mod ReadableAtoms
 pub mod LabelSizes
 pub mod Tables
 pub mod Large
 pub mod Clearing
 pub mod Families
+pub mod Strips

@@ -1,26 +1,25 @@
-// Partitions in the bases m, e, h and p, as lists of terms in m.
+//! Partitions in the five bases, as lists of terms in m.
 ghost use Rattle.std.specs.Prelude.{◌≡◌, ◌<◌, ◌≤◌, ◌^◌, IfOk, IsErrOf};
 ghost use Rattle.sym_model.specs.Bases.{product_over};
 ghost use Rattle.sym_model.specs.Expansion.{basis_polynomial, monomials};
 ghost use Rattle.sym_model.specs.Expression.{atom};
 ghost use Rattle.sym_model.specs.Partition.{ArePositive, size};
-ghost use Rattle.sym_model.specs.Phrase.{HasAtoms};
 ghost use Rattle.sym_model.specs.Weight.{growth};
 ghost use Rattle.sym_model.specs.WholeTerms.{numerators};
-ghost use Rattle.partitions.specs.Limits.{IsWithinLimits};
 ghost use Rattle.monomial_laws.specs.ExpressionTerms.{IsList};
 ghost use Rattle.calc_expressions.specs.Trees.{basis_of};
 ghost use Rattle.basis_expand.specs.Clearing.{IsConverted};
 ghost use Rattle.basis_expand.specs.Families.{polynomial_of};
 
 use crate::cleared::Cleared;
+use crate::schur::schur;
 use crate::whole::{Whole, complete, elementary, is_whole, power_sum, single};
 use calc_base::{Basis, SumFault};
 use monomial_products::times_whole_in_m;
 use partitions::Partition;
 use std::alloc::Global;
 
-// A family whose polynomials are multiplied over the parts of a partition.
+/// A family whose polynomials are multiplied over the parts of a partition.
 #[derive(Clone, Copy)]
 pub(crate) enum Family {
     Elementary,
@@ -28,7 +27,7 @@ pub(crate) enum Family {
     PowerSum,
 }
 
-// The polynomial of one part.
+/// The polynomial of one part.
 fn factor(alloc: Global, family: Family, k: u16) -> Result<Whole, SumFault>
     requires positive { 0 < k }
     requires low { k ≤ 512 }
@@ -42,7 +41,7 @@ fn factor(alloc: Global, family: Family, k: u16) -> Result<Whole, SumFault>
     }
 }
 
-// The product over the parts.
+/// The product over the parts.
 fn over_parts(alloc: Global, family: Family, parts: &[u16]) -> Result<Whole, SumFault>
     requires positive { ArePositive parts.now }
     requires low { size parts.now ≤ 512 }
@@ -59,30 +58,28 @@ fn over_parts(alloc: Global, family: Family, parts: &[u16]) -> Result<Whole, Sum
     times_whole_in_m(alloc, &first, &others)
 }
 
-// The terms of a partition in a basis.
-fn terms_of(alloc: Global, basis: Basis, parts: &[u16]) -> Result<Whole, SumFault>
-    requires readable { HasAtoms (basis_of basis) }
-    requires limits { IsWithinLimits parts.now }
-    requires low { size parts.now ≤ 512 }
-    ensures value { IfOk result (λ list. IsList (numerators list) (basis_polynomial (basis_of basis) parts.now)) }
-    ensures large { IsErrOf result SumFault.Large → 2 ^ 127 ≤ growth monomials (size parts.now) }
+/// The terms of a partition in a basis.
+fn terms_of(alloc: Global, basis: Basis, label: &Partition) -> Result<Whole, SumFault>
+    requires { size label.now ≤ 512 }
+    ensures value { IfOk result (λ list. IsList (numerators list) (basis_polynomial (basis_of basis) label.now)) }
+    ensures large { IsErrOf result SumFault.Large → 2 ^ 127 ≤ growth monomials (size label.now) }
 {
+    let parts = label.parts();
     match basis {
         Basis::M => single(alloc, parts, 1),
         Basis::E => over_parts(alloc, Family::Elementary, parts),
         Basis::H => over_parts(alloc, Family::Complete, parts),
         Basis::P => over_parts(alloc, Family::PowerSum, parts),
-        Basis::S => unreachable!(),
+        Basis::S => schur(alloc, label),
     }
 }
 
-// A partition in a basis.
+/// A partition in a basis.
 #[inline(never)]
 pub(crate) fn atom(alloc: Global, basis: Basis, label: &Partition) -> Result<Cleared, SumFault>
-    requires readable { HasAtoms (basis_of basis) }
-    requires low { size label.now ≤ 512 }
+    requires { size label.now ≤ 512 }
     ensures { IsConverted (atom (basis_of basis) label.now) result }
 {
-    let terms = terms_of(alloc, basis, label.parts())?;
+    let terms = terms_of(alloc, basis, label)?;
     Ok(Cleared { terms, den: 1 })
 }

@@ -1,9 +1,9 @@
-// Expressions with their fractions cleared, as lists of terms in m: no fraction is met on the way.
+//! Expressions with their fractions cleared, as lists of terms in m: no fraction is met on the way.
 ghost use Rattle.std.specs.Prelude.{◌<◌, ◌^◌};
 
 use crate::whole::Whole;
 
-// A list of terms in m that is an expression times its denominator.
+/// A list of terms in m that is an expression times its denominator.
 #[derive(Drop)]
 pub(crate) struct Cleared {
     pub(crate) terms: Whole,

@@ -1,9 +1,8 @@
-// The conversion of an expression into a cleared list.
+//! The conversion of an expression into a cleared list.
 ghost use Rattle.std.specs.Prelude.{◌≤◌, IsTrue};
 ghost use Rattle.sym_model.specs.Expression.{degree};
 ghost use Rattle.calc_expressions.specs.Trees.{tree_of, has_no_signs};
 ghost use Rattle.basis_expand.specs.Clearing.{IsConverted};
-ghost use Rattle.basis_expand.specs.ReadableAtoms.{HasReadableAtoms};
 
 use crate::atoms::atom;
 use crate::cleared::Cleared;
@@ -13,11 +12,10 @@ use calc_base::SumFault;
 use calc_expressions::Expr;
 use std::alloc::Global;
 
-// The expression with its fractions cleared. A tree may be deep: the work of each kind stands in a function that is not inlined, so
-// that little is kept for each level.
+/// The expression with its fractions cleared. A tree may be deep: the work of each kind stands in a function that is not inlined, so
+/// that little is kept for each level.
 pub(crate) fn converted(alloc: Global, tree: &Expr) -> Result<Cleared, SumFault>
     requires plain { IsTrue (has_no_signs tree.now) }
-    requires readable { HasReadableAtoms (tree_of tree.now) }
     requires low { degree (tree_of tree.now) ≤ 20 }
     ensures { IsConverted (tree_of tree.now) result }
 {

@@ -6,7 +6,6 @@ ghost use Rattle.sym_model.specs.ListWeight.{IsBounded};
 ghost use Rattle.sym_model.specs.Weight.{numerator, weight};
 ghost use Rattle.calc_expressions.specs.Trees.{tree_of};
 ghost use Rattle.basis_expand.specs.LabelSizes.{AreWithin};
-ghost use Rattle.basis_expand.specs.ReadableAtoms.{HasReadableAtoms};
 
 use crate::conversion::converted;
 use crate::division::divided;
@@ -20,10 +19,8 @@ use std::alloc::Global;
 /// The expansion of a formula in m, in every number of variables. Its coefficients are bounded by the two numbers of the
 /// formula's weight.
 ///
-/// It is refused as `Large` only where the weight for the target m is 2^127 or more. The atoms are those that an expression
-/// of words can have, in m, e, h and p.
+/// It is refused as `Large` only where the weight for the target m is 2^127 or more.
 pub fn to_monomial(alloc: Global, formula: &Formula) -> Result<Lin<Partition, Frac>, SumFault>
-    requires { HasReadableAtoms (tree_of formula.now.tree) }
     ensures value { let e = tree_of formula.now.tree in
         IfOk result (λ list. (n : ℕ) → IsExpansionOf monomials list n (cleared_value e n) (denominator e)) }
     ensures bounded { let e = tree_of formula.now.tree in IfOk result (IsBounded (numerator e) (denominator e)) }

@@ -8,6 +8,8 @@ mod denominators;
 mod division;
 mod expansion;
 mod operations;
+mod schur;
+mod strips;
 mod whole;
 
 pub use expansion::to_monomial;

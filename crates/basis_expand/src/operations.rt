@@ -1,4 +1,4 @@
-// What expressions are made of, as cleared lists: numbers, negations, sums and products.
+//! What expressions are made of, as cleared lists: numbers, negations, sums and products.
 ghost use Rattle.std.specs.Prelude.{◌≡◌, ◌+◌, ◌<◌, ◌≤◌, ◌^◌, ◌≤ℤ◌, pos, nat_abs};
 ghost use Rattle.sym_model.specs.Expression.{Tree, number, fraction, negation, sum, product};
 ghost use Rattle.monomial_laws.specs.ExpressionTerms.{HasDenominators};
@@ -13,7 +13,7 @@ use coeff_rings::Int;
 use monomial_products::times_whole_in_m;
 use std::alloc::Global;
 
-// A number over another.
+/// A number over another.
 #[inline(never)]
 pub(crate) fn quotient(alloc: Global, num: i128, den: u128) -> Result<Cleared, SumFault>
     requires sign { pos 0 ≤ℤ num }
@@ -25,7 +25,7 @@ pub(crate) fn quotient(alloc: Global, num: i128, den: u128) -> Result<Cleared, S
     Ok(Cleared { terms, den })
 }
 
-// The negation.
+/// The negation.
 #[inline(never)]
 pub(crate) fn negated(inner: Cleared) -> Result<Cleared, SumFault>
     ensures { (e : Tree) → HasDenominators e → ClearsTo e inner → IsConverted (negation e) result }
@@ -37,7 +37,7 @@ pub(crate) fn negated(inner: Cleared) -> Result<Cleared, SumFault>
     Ok(Cleared { terms, den })
 }
 
-// The sum, over the least common denominator.
+/// The sum, over the least common denominator.
 #[inline(never)]
 pub(crate) fn added(left: Cleared, right: Cleared) -> Result<Cleared, SumFault>
     ensures { (e f : Tree) → HasDenominators e → HasDenominators f → ClearsTo e left → ClearsTo f right
@@ -53,7 +53,7 @@ pub(crate) fn added(left: Cleared, right: Cleared) -> Result<Cleared, SumFault>
     })
 }
 
-// The product.
+/// The product.
 #[inline(never)]
 pub(crate) fn multiplied(alloc: Global, left: Cleared, right: Cleared) -> Result<Cleared, SumFault>
     requires { greatest_size left.terms + greatest_size right.terms ≤ 512 }

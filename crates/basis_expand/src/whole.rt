@@ -1,4 +1,4 @@
-// Lists of terms in m with whole coefficients: of one term, and of e_k, h_k and p_k.
+//! Lists of terms in m with whole coefficients: of one term, and of e_k, h_k and p_k.
 ghost use Rattle.std.specs.Prelude.{◌≡◌, ◌<◌, ◌≤◌, [], ◌∷◌, ◌^◌, pos, IfOk, IsErrOf};
 ghost use Rattle.sym_model.specs.Polynomial.{Same, plus, scale};
 ghost use Rattle.sym_model.specs.WholeTerms.{AreWhole, numerators};
@@ -13,10 +13,10 @@ use partitions::{Partition, PartitionsOf};
 use sparse_polys::Lin;
 use std::alloc::Global;
 
-// A list of terms in m with whole coefficients.
+/// A list of terms in m with whole coefficients.
 pub(crate) type Whole = Lin<Partition, Int>;
 
-// Does nothing when it runs: it tells a proof what such a list is.
+/// Does nothing when it runs: it tells a proof what such a list is.
 pub(crate) fn is_whole(list: &Whole)
     ensures whole { AreWhole list.now }
     ensures table { IsTable list.now }
@@ -24,7 +24,7 @@ pub(crate) fn is_whole(list: &Whole)
     let _ = list.iter();
 }
 
-// The list of one term, and of none where the coefficient is 0.
+/// The list of one term, and of none where the coefficient is 0.
 pub(crate) fn single(alloc: Global, parts: &[u16], c: i128) -> Result<Whole, SumFault>
     requires { IsWithinLimits parts.now }
     ensures value { IfOk result (λ list. Same (numerators list) ((parts.now, c) ∷ [])) }
@@ -35,7 +35,7 @@ pub(crate) fn single(alloc: Global, parts: &[u16], c: i128) -> Result<Whole, Sum
     Ok(list)
 }
 
-// e_k: the partition of k ones.
+/// e_k: the partition of k ones.
 pub(crate) fn elementary(alloc: Global, k: u16) -> Result<Whole, SumFault>
     requires { k ≤ 512 }
     ensures value { IfOk result (λ list. Same (numerators list) (elementary_terms k)) }
@@ -45,7 +45,7 @@ pub(crate) fn elementary(alloc: Global, k: u16) -> Result<Whole, SumFault>
     single(alloc, &ones, 1)
 }
 
-// h_k: all partitions of k.
+/// h_k: all partitions of k.
 pub(crate) fn complete(alloc: Global, k: u16) -> Result<Whole, SumFault>
     requires { k ≤ 512 }
     ensures value { IfOk result (λ list. Same (numerators list) (complete_terms k)) }
@@ -62,7 +62,7 @@ pub(crate) fn complete(alloc: Global, k: u16) -> Result<Whole, SumFault>
     Ok(list)
 }
 
-// p_k, for k ≥ 1: the partition of one part.
+/// p_k, for k ≥ 1: the partition of one part.
 pub(crate) fn power_sum(alloc: Global, k: u16) -> Result<Whole, SumFault>
     requires positive { 0 < k }
     requires low { k ≤ 512 }
@@ -72,7 +72,7 @@ pub(crate) fn power_sum(alloc: Global, k: u16) -> Result<Whole, SumFault>
     single(alloc, &[k], 1)
 }
 
-// The sum of two lists, each times a number.
+/// The sum of two lists, each times a number.
 pub(crate) fn sum_of(left: Whole, p: i128, right: Whole, q: i128) -> Result<Whole, SumFault>
     ensures value { IfOk result (λ sum. Same (numerators sum) (plus (scale p (numerators left)) (scale q (numerators right)))) }
     ensures large { IsErrOf result SumFault.Large → SumIsLarge (numerators left) (numerators right) p q }
