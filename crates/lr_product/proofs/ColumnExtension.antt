@@ -9,7 +9,7 @@ use Rattle.tableau_laws.specs.PaddedRows.{letters_at, words_over}
 use Rattle.tableau_laws.specs.Grid.{is_chain, may_precede, pass_by_place, may_stand_above}
 use Rattle.tableau_laws.specs.ColumnFold.{may_be_next}
 use Rattle.tableau_laws.proofs.ColumnCounts.{sum_at_start}
-use Rattle.lr_product.specs.WeighedSum.{sum_over, next_states}
+use Rattle.lr_product.specs.WeighedSum.{sum_over, next_states, seen}
 use Rattle.lr_product.specs.Extension.{numbers_from, greatest_letter, least_letter, letters_end, raised, extended}
 use Rattle.lr_product.proofs.Raising.{take_all, length-raised}
 use Rattle.lr_product.proofs.Ranges.{sum-ext, sum-each, sum-map, sum-under, after-numbers, range-passing, numbers-ext}
@@ -65,7 +65,7 @@ raise_from i b (x ∷ ν) c (suc m) e = by (cases_lt b (i + 1)) (cases_eq b (i +
 pub join-raised : (n b : ℕ) (ν c : List ℕ) → length ν ≡ n → join ν (content n (b ∷ c)) ≡ join (raised b ν) (content n c)
 join-raised n b ν c e = raise_from 0 b ν c n e ∙ ap (λ k. join (raised k ν) (content n c)) (let z : b - 0 ≡ b = omega arith in z)
 
-raised-append : (b : ℕ) (ν w : List ℕ) → b ≤ length ν → raised b (ν ++ w) ≡ raised b ν ++ w
+pub raised-append : (b : ℕ) (ν w : List ℕ) → b ≤ length ν → raised b (ν ++ w) ≡ raised b ν ++ w
 raised-append zero ν w h = refl
 raised-append (suc b) [] w h = absurd (omega arith)
 raised-append (suc zero) (a ∷ ν) w h = refl
@@ -128,7 +128,7 @@ letters-range n true a right S h =
     within [] = omega arith
     within (x ∷ r) = omega arith
 
-end-within : (n : ℕ) (p : Bool) (right : List ℕ) (a : ℕ) → letters_end n p right a ≤ n + 1
+pub end-within : (n : ℕ) (p : Bool) (right : List ℕ) (a : ℕ) → letters_end n p right a ≤ n + 1
 end-within n true [] a = omega arith
 end-within n true (r ∷ right) a = omega arith
 end-within n false right a = by (a == 0)
@@ -154,7 +154,7 @@ goes_on-cons n right a f ν w b c e =
     ∙ cond_and (may_stand_above a b && fits b right) (is_chain may_stand_above (b ∷ c) && (pass_by_place nat_le c (drop 1 right) && is_falling (join (raised b ν) (content n c)))) (f (join (raised b ν) (content n c)) ((w ++ b ∷ []) ++ c))
 
 extended-words : (n : ℕ) (line : List Bool) (right : List ℕ) (a : ℕ) (f : List ℕ → List ℕ → ℕ) (ν w : List ℕ) → length ν ≡ n → a ≤ n
-    → extended n line right a f (ν ++ w) ≡ sum_over (goes_on n right a f ν w) (words_over n line)
+    → extended true n line right a f (ν ++ w) ≡ sum_over (goes_on n right a f ν w) (words_over n line)
 extended-words n [] right a f ν w e h =
     ap₂ (λ (s v : List ℕ). cond (is_falling s) (f s v) 0)
     (ap (λ k. take k (ν ++ w)) (sym e) ∙ take_all ν w ∙ sym (join-nothing n ν e)) (ap (λ k. drop k (ν ++ w)) (sym e) ∙ drop_all ν w ∙ sym (append-nil w))
@@ -163,11 +163,11 @@ extended-words n (p ∷ line) right a f ν w e h =
     let S : ℕ → ℕ = λ b. sum_over (goes_on n (drop 1 right) b f (raised b ν) (w ++ b ∷ [])) (words_over n line) in
     let low = least_letter p a in
     let end = letters_end n p right a in
-    numbers-ext (λ b. extended n line (drop 1 right) b f (raised b (ν ++ w) ++ (b ∷ []))) S low (end - low)
+    numbers-ext (λ b. extended true n line (drop 1 right) b f (raised b (ν ++ w) ++ (b ∷ []))) S low (end - low)
     (λ b l g.
     let k = end-within n p right a in
     let q : b ≤ n = omega arith in
-    ap (extended n line (drop 1 right) b f) (ap (λ s. s ++ (b ∷ [])) (raised-append b ν w (omega arith)) ∙ append_assoc (raised b ν) w (b ∷ []))
+    ap (extended true n line (drop 1 right) b f) (ap (λ s. s ++ (b ∷ [])) (raised-append b ν w (omega arith)) ∙ append_assoc (raised b ν) w (b ∷ []))
     ∙ extended-words n line (drop 1 right) b f (raised b ν) (w ++ b ∷ []) (length-raised b ν ∙ e) q)
     ∙ sym (letters-range n p a right S h)
     ∙ sym (sum-each (goes_on n right a f ν w) (λ b. map (λ c. b ∷ c) (words_over n line)) (letters_at n p)
@@ -178,13 +178,38 @@ extended-words n (p ∷ line) right a f ν w e h =
     ∙ sum-under (may_stand_above a b && fits b right) (goes_on n (drop 1 right) b f (raised b ν) (w ++ b ∷ [])) (words_over n line))
     (letters_at n p))
 
-pub extended-next : (n : ℕ) (line : List Bool) (right : List ℕ) (f : List ℕ → List ℕ → ℕ) (ν : List ℕ) → length ν ≡ n
-    → extended n line right 0 f ν ≡ next_states n line f ν right
+extended-next : (n : ℕ) (line : List Bool) (right : List ℕ) (f : List ℕ → List ℕ → ℕ) (ν : List ℕ) → length ν ≡ n
+    → extended true n line right 0 f ν ≡ next_states n line f ν right
 extended-next n line right f ν e =
-    ap (extended n line right 0 f) (sym (append-nil ν)) ∙ extended-words n line right 0 f ν [] e (omega arith)
+    ap (extended true n line right 0 f) (sym (append-nil ν)) ∙ extended-words n line right 0 f ν [] e (omega arith)
     ∙ sum-ext (goes_on n right 0 f ν []) (λ c. cond (may_be_next n ν right c) (f (join ν (content n c)) c) 0)
     (λ c. ap (λ t. cond ((t && is_chain may_stand_above c) && (pass_by_place nat_le c right && is_falling (join ν (content n c)))) (f (join ν (content n c)) c) 0) (first c)) (words_over n line)
   where
     first : (c : List ℕ) → may_precede may_stand_above 0 c ≡ true
     first [] = refl
     first (b ∷ c) = lt-ltb 0 (b + (1 - 0)) (omega arith)
+
+-- ---- columns that are not kept
+
+forgotten : (n : ℕ) (line : List Bool) (right : List ℕ) (a : ℕ) (f : List ℕ → List ℕ → ℕ) (s w : List ℕ) → length s ≡ n
+    → extended false n line right a f s ≡ extended true n line right a (seen false f) (s ++ w)
+forgotten n [] right a f s w e =
+    let whole : take n s ≡ s = ap (λ k. take k s) (sym e) ∙ ap (take (length s)) (sym (append-nil s)) ∙ take_all s [] in
+    let rest : drop n s ≡ [] = ap (λ k. drop k s) (sym e) ∙ ap (drop (length s)) (sym (append-nil s)) ∙ drop_all s [] in
+    let front : take n (s ++ w) ≡ s = ap (λ k. take k (s ++ w)) (sym e) ∙ take_all s w in
+    ap₂ (λ (x y : List ℕ). cond (is_falling x) (f x y) 0) whole rest ∙ sym (ap (λ (x : List ℕ). cond (is_falling x) (f x []) 0) front)
+forgotten n (p ∷ line) right a f s w e =
+    numbers-ext (λ b. extended false n line (drop 1 right) b f (raised b s ++ [])) (λ b. extended true n line (drop 1 right) b (seen false f) (raised b (s ++ w) ++ (b ∷ [])))
+    (least_letter p a) (letters_end n p right a - least_letter p a)
+    (λ b l g.
+    let k = end-within n p right a in
+    ap (extended false n line (drop 1 right) b f) (append-nil (raised b s))
+    ∙ forgotten n line (drop 1 right) b f (raised b s) (w ++ (b ∷ [])) (length-raised b s ∙ e)
+    ∙ ap (extended true n line (drop 1 right) b (seen false f))
+    (sym (ap (λ t. t ++ (b ∷ [])) (raised-append b s w (omega arith)) ∙ append_assoc (raised b s) w (b ∷ []))))
+
+pub extended-seen : (kept : Bool) (n : ℕ) (line : List Bool) (right : List ℕ) (f : List ℕ → List ℕ → ℕ) (ν : List ℕ) → length ν ≡ n
+    → extended kept n line right 0 f ν ≡ next_states n line (seen kept f) ν right
+extended-seen true n line right f ν e = extended-next n line right f ν e
+extended-seen false n line right f ν e =
+    forgotten n line right 0 f ν [] e ∙ ap (extended true n line right 0 (seen false f)) (append-nil ν) ∙ extended-next n line right (seen false f) ν e

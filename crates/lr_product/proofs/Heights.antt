@@ -1,11 +1,13 @@
--- The columns of a straight shape are lines of cells, as many as the column has.
-use Rattle.std.proofs.Common.{◌≡◌, ℕ, zero, suc, ◌+◌, ◌-◌, ◌<◌, ◌≤◌, ◌⊎◌, inl, inr, nat_le, Bool, true, false, cond, List, [], ◌∷◌, ◌++◌, length, replicate, take, drop, get_or, refl, sym, ap, ap₂, ◌∙◌, arith}
-use Rattle.std.proofs.lemmas.Bool.{cases_lt, le-leb, lt-leb}
+-- The lines of the columns of a skew shape: how many there are, and which places they have.
+use Rattle.std.proofs.Common.{◌≡◌, ℕ, zero, suc, ◌+◌, ◌-◌, ◌<◌, ◌≤◌, ◌⊎◌, inl, inr, nat_le, nat_lt, Bool, true, false, cond, List, [], ◌∷◌, ◌++◌, length, replicate, take, drop, get_or, length-append, refl, sym, ap, ap₂, ◌∙◌, arith}
+use Rattle.std.proofs.lemmas.Bool.{cases_lt, le-leb, lt-leb, lt-ltb, le-ltb, leb-true, and_parts}
 use Rattle.std.proofs.Math.Seq.{drop-cons}
-use Rattle.sym_model.specs.Partition.{Falls, size, columns}
-use Rattle.sym_model.specs.Conjugate.{count_from}
+use Rattle.sym_model.specs.Partition.{Falls, size, columns, part}
+use Rattle.sym_model.specs.Schur.{contains}
 use Rattle.tableau_laws.specs.PaddedRows.{put_row, transposed, line_of, pattern_of}
 use Rattle.tableau_laws.specs.ColumnFold.{column_lines}
+use Rattle.tableau_laws.proofs.ColumnCounts.{contains_nothing}
+use Rattle.lr_product.specs.ColumnLine.{column_line}
 use Rattle.lr_product.specs.WeighedSum.{places}
 
 -- the entries of a row at a place: one or none
@@ -24,31 +26,61 @@ line-put (suc i) (x ∷ row) [] = line-put i row [] ∙ ap (λ l. at_place i row
     nothing_there (suc j) = refl
 line-put (suc i) (x ∷ row) (c ∷ lines) = line-put i row lines
 
-at_place-full : (i a : ℕ) → at_place i (replicate a true) ≡ replicate (cond (nat_le (i + 1) a) 1 0) true
-at_place-full zero zero = sym (ap (λ t. replicate (cond t 1 0) true) (lt-leb 1 0 (omega arith)))
-at_place-full (suc i) zero = sym (ap (λ t. replicate (cond t 1 0) true) (lt-leb (suc i + 1) 0 (omega arith)))
-at_place-full zero (suc a) = by (replicate a true) ∙ sym (ap (λ t. replicate (cond t 1 0) true) (le-leb 1 (suc a) (omega arith)))
+leb-up : (a b c d : ℕ) → c ≡ suc a → d ≡ suc b → nat_le a b ≡ nat_le c d
+leb-up a b c d p q = by (cases_lt b a)
+  where
+    by : (b < a) ⊎ (a ≤ b) → nat_le a b ≡ nat_le c d
+    by (inl l) = lt-leb a b l ∙ sym (lt-leb c d (omega arith))
+    by (inr l) = le-leb a b l ∙ sym (le-leb c d (omega arith))
+
+at_place-cells : (i k : ℕ) → at_place i (replicate k true) ≡ cond (nat_le (i + 1) k) (true ∷ []) []
+at_place-cells zero zero = sym (ap (λ t. cond t (true ∷ []) []) (lt-leb 1 0 (omega arith)))
+at_place-cells (suc i) zero = sym (ap (λ t. cond t (true ∷ []) []) (lt-leb (suc i + 1) 0 (omega arith)))
+at_place-cells zero (suc k) = by (replicate k true) ∙ sym (ap (λ t. cond t (true ∷ []) []) (le-leb 1 (suc k) (omega arith)))
   where
     by : (l : List Bool) → take 1 (true ∷ l) ≡ true ∷ []
     by [] = refl
     by (x ∷ l) = refl
-at_place-full (suc i) (suc a) = at_place-full i a ∙ ap (λ t. replicate (cond t 1 0) true) (by (cases_lt a (i + 1)))
+at_place-cells (suc i) (suc k) = at_place-cells i k ∙ ap (λ t. cond t (true ∷ []) []) (leb-up (i + 1) k (suc i + 1) (suc k) (omega arith) (omega arith))
+
+ltb-up : (a b c d : ℕ) → c ≡ suc a → d ≡ suc b → nat_lt a b ≡ nat_lt c d
+ltb-up a b c d p q = by (cases_lt a b)
   where
-    by : (a < i + 1) ⊎ (i + 1 ≤ a) → nat_le (i + 1) a ≡ nat_le (suc i + 1) (suc a)
-    by (inl l) = lt-leb (i + 1) a l ∙ sym (lt-leb (suc i + 1) (suc a) (omega arith))
-    by (inr l) = le-leb (i + 1) a l ∙ sym (le-leb (suc i + 1) (suc a) (omega arith))
+    by : (a < b) ⊎ (b ≤ a) → nat_lt a b ≡ nat_lt c d
+    by (inl l) = lt-ltb a b l ∙ sym (lt-ltb c d (omega arith))
+    by (inr l) = le-ltb a b l ∙ sym (le-ltb c d (omega arith))
 
-replicate-both : (t : Bool) (k : ℕ) → replicate (cond t 1 0) true ++ replicate k true ≡ replicate (cond t 1 0 + k) true
-replicate-both true k = let e : 1 + k ≡ suc k = omega arith in sym (ap (λ m. replicate m true) e)
-replicate-both false k = let e : 0 + k ≡ k = omega arith in sym (ap (λ m. replicate m true) e)
+at_place-line : (i b k : ℕ) → at_place i (line_of b k) ≡ cond (nat_le (i + 1) (b + k)) (nat_lt b (i + 1) ∷ []) []
+at_place-line i zero k =
+    at_place-cells i k ∙ ap₂ (λ (t u : Bool). cond t (u ∷ []) []) (ap (nat_le (i + 1)) (let e : k ≡ 0 + k = omega arith in e)) (sym (lt-ltb 0 (i + 1) (omega arith)))
+at_place-line zero (suc b) k =
+    by (replicate b false ++ replicate k true)
+    ∙ sym (ap₂ (λ (t u : Bool). cond t (u ∷ []) []) (le-leb 1 (suc b + k) (omega arith)) (le-ltb (suc b) 1 (omega arith)))
+  where
+    by : (l : List Bool) → take 1 (false ∷ l) ≡ false ∷ []
+    by [] = refl
+    by (x ∷ l) = refl
+at_place-line (suc i) (suc b) k =
+    at_place-line i b k
+    ∙ ap₂ (λ (t u : Bool). cond t (u ∷ []) []) (leb-up (i + 1) (b + k) (suc i + 1) (suc b + k) (omega arith) (omega arith)) (ltb-up b (i + 1) (suc b) (suc i + 1) refl (omega arith))
 
-pub line-height : (i : ℕ) (μ : List ℕ) → get_or (transposed (pattern_of μ [])) i [] ≡ replicate (count_from (i + 1) μ) true
-line-height zero [] = refl
-line-height (suc i) [] = refl
-line-height i (a ∷ μ) =
-    line-put i (line_of 0 (a - 0)) (transposed (pattern_of μ []))
-    ∙ ap₂ ◌++◌ (ap (λ k. at_place i (replicate k true)) (let e : a - 0 ≡ a = omega arith in e) ∙ at_place-full i a) (line-height i μ)
-    ∙ replicate-both (nat_le (i + 1) a) (count_from (i + 1) μ)
+-- the first row of a shape, and the others
+first_row : (a : ℕ) (outer inner : List ℕ) → contains (a ∷ outer) inner ≡ true → (part inner 1 ≤ a) × (contains outer (drop 1 inner) ≡ true)
+first_row a outer [] h = (omega arith, contains_nothing outer)
+first_row a outer (b ∷ inner) h = let p = and_parts (nat_le b a) (contains outer inner) h in (leb-true b a p.0, by inner p.1)
+  where
+    by : (l : List ℕ) → contains outer l ≡ true → contains outer (drop 1 (b ∷ l)) ≡ true
+    by [] g = g
+    by (x ∷ l) g = g
+
+pub line-at : (i : ℕ) (outer inner : List ℕ) → contains outer inner ≡ true → get_or (column_lines outer inner) i [] ≡ column_line (i + 1) outer inner
+line-at zero [] inner h = refl
+line-at (suc i) [] inner h = refl
+line-at i (a ∷ outer) inner h =
+    let r = first_row a outer inner h in
+    let whole : part inner 1 + (a - part inner 1) ≡ a = let q = r.0 in omega arith in
+    line-put i (line_of (part inner 1) (a - part inner 1)) (transposed (pattern_of outer (drop 1 inner)))
+    ∙ ap₂ ◌++◌ (at_place-line i (part inner 1) (a - part inner 1) ∙ ap (λ k. cond (nat_le (i + 1) k) (nat_lt (part inner 1) (i + 1) ∷ []) []) whole) (line-at i outer (drop 1 inner) r.1)
 
 length-put : (row : List Bool) (lines : List (List Bool)) → length lines ≤ length row → length (put_row row lines) ≡ length row
 length-put [] [] h = refl
@@ -56,30 +88,41 @@ length-put [] (c ∷ lines) h = absurd (omega arith)
 length-put (x ∷ row) [] h = ap suc (length-put row [] (omega arith))
 length-put (x ∷ row) (c ∷ lines) h = ap suc (length-put row lines (omega arith))
 
-length-full : (k : ℕ) → length (replicate k true) ≡ k
-length-full zero = refl
-length-full (suc k) = ap suc (length-full k)
+length-replicate : (k : ℕ) (x : Bool) → length (replicate k x) ≡ k
+length-replicate zero x = refl
+length-replicate (suc k) x = ap suc (length-replicate k x)
 
-pub length-lines : (μ : List ℕ) → Falls μ → length (transposed (pattern_of μ [])) ≡ columns μ
-length-lines [] f = refl
-length-lines (a ∷ []) f = length-put (line_of 0 (a - 0)) [] (omega arith) ∙ length-full (a - 0) ∙ (let e : a - 0 ≡ a = omega arith in e)
-length-lines (a ∷ b ∷ μ) f =
-    let i = length-lines (b ∷ μ) f.1 in
-    let k = length-full (a - 0) in
+length-line_of : (a b : ℕ) → b ≤ a → length (line_of b (a - b)) ≡ a
+length-line_of a b h =
+    let l = length-append (replicate b false) (replicate (a - b) true) in
+    let p = length-replicate b false in
+    let q = length-replicate (a - b) true in
+    omega arith
+
+pub length-lines : (outer inner : List ℕ) → Falls outer → contains outer inner ≡ true → length (column_lines outer inner) ≡ columns outer
+length-lines [] inner f h = refl
+length-lines (a ∷ []) inner f h =
+    let r = first_row a [] inner h in
+    length-put (line_of (part inner 1) (a - part inner 1)) [] (omega arith) ∙ length-line_of a (part inner 1) r.0
+length-lines (a ∷ b ∷ outer) inner f h =
+    let r = first_row a (b ∷ outer) inner h in
+    let i = length-lines (b ∷ outer) (drop 1 inner) f.1 r.1 in
+    let k = length-line_of a (part inner 1) r.0 in
     let g = f.0 in
-    length-put (line_of 0 (a - 0)) (transposed (pattern_of (b ∷ μ) [])) (omega arith) ∙ k ∙ (let e : a - 0 ≡ a = omega arith in e)
+    length-put (line_of (part inner 1) (a - part inner 1)) (transposed (pattern_of (b ∷ outer) (drop 1 inner))) (omega arith) ∙ k
 
 places-put : (row : List Bool) (lines : List (List Bool)) → places (put_row row lines) ≡ length row + places lines
 places-put [] lines = omega arith
 places-put (x ∷ row) [] = let i = places-put row [] in omega arith
 places-put (x ∷ row) (c ∷ lines) = let i = places-put row lines in omega arith
 
-pub places-lines : (μ : List ℕ) → places (transposed (pattern_of μ [])) ≡ size μ
-places-lines [] = refl
-places-lines (a ∷ μ) =
-    let i = places-lines μ in
-    let p = places-put (line_of 0 (a - 0)) (transposed (pattern_of μ [])) in
-    let k = length-full (a - 0) in
+pub places-lines : (outer inner : List ℕ) → contains outer inner ≡ true → places (column_lines outer inner) ≡ size outer
+places-lines [] inner h = refl
+places-lines (a ∷ outer) inner h =
+    let r = first_row a outer inner h in
+    let i = places-lines outer (drop 1 inner) r.1 in
+    let p = places-put (line_of (part inner 1) (a - part inner 1)) (transposed (pattern_of outer (drop 1 inner))) in
+    let k = length-line_of a (part inner 1) r.0 in
     omega arith
 
 pub places-drop : (i : ℕ) (lines : List (List Bool)) → places (drop i lines) ≤ places lines
@@ -89,14 +132,14 @@ places-drop (suc i) [] = omega arith
 places-drop (suc i) (l ∷ lines) = let r = places-drop i lines in omega arith
 
 -- the columns from one on: that one and the others
-pub column-cons : (μ : List ℕ) (i : ℕ) → Falls μ → i < columns μ → drop i (column_lines μ []) ≡ replicate (count_from (i + 1) μ) true ∷ drop (i + 1) (column_lines μ [])
-column-cons μ i f h =
+pub column-cons : (outer inner : List ℕ) (i : ℕ) → Falls outer → contains outer inner ≡ true → i < columns outer → drop i (column_lines outer inner) ≡ column_line (i + 1) outer inner ∷ drop (i + 1) (column_lines outer inner)
+column-cons outer inner i f c h =
     let e : suc i ≡ i + 1 = omega arith in
-    drop-cons (column_lines μ []) i [] (let l = length-lines μ f in omega arith)
-    ∙ ap₂ (λ (l : List Bool) (ls : List (List Bool)). l ∷ ls) (line-height i μ) (ap (λ k. drop k (column_lines μ [])) e)
+    drop-cons (column_lines outer inner) i [] (let l = length-lines outer inner f c in omega arith)
+    ∙ ap₂ (λ (l : List Bool) (ls : List (List Bool)). l ∷ ls) (line-at i outer inner c) (ap (λ k. drop k (column_lines outer inner)) e)
 
-pub column-none : (μ : List ℕ) → Falls μ → drop (columns μ) (column_lines μ []) ≡ []
-column-none μ f = past (columns μ) (column_lines μ []) (let l = length-lines μ f in omega arith)
+pub column-none : (outer inner : List ℕ) → Falls outer → contains outer inner ≡ true → drop (columns outer) (column_lines outer inner) ≡ []
+column-none outer inner f c = past (columns outer) (column_lines outer inner) (let l = length-lines outer inner f c in omega arith)
   where
     past : (i : ℕ) (ls : List (List Bool)) → length ls ≤ i → drop i ls ≡ []
     past zero [] h = refl
@@ -107,3 +150,37 @@ column-none μ f = past (columns μ) (column_lines μ []) (let l = length-lines 
 pub column-all : (lines : List (List Bool)) → drop 0 lines ≡ lines
 column-all [] = refl
 column-all (l ∷ lines) = refl
+
+-- a line row by row
+pub column_line-step : (row column : ℕ) (outer inner : List ℕ) → row < length outer
+    → column_line column (drop row outer) (drop row inner) ≡ cond (nat_le column (get_or outer row 0)) (nat_lt (get_or inner row 0) column ∷ []) [] ++ column_line column (drop (row + 1) outer) (drop (row + 1) inner)
+column_line-step row column [] inner h = absurd (omega arith)
+column_line-step zero column (a ∷ outer) [] h = ap (λ l. cond (nat_le column a) (nat_lt 0 column ∷ []) [] ++ column_line column l []) (all outer)
+  where
+    all : (l : List ℕ) → l ≡ drop 0 l
+    all [] = refl
+    all (x ∷ l) = refl
+column_line-step zero column (a ∷ outer) (b ∷ inner) h = ap₂ (λ (l m : List ℕ). cond (nat_le column a) (nat_lt b column ∷ []) [] ++ column_line column l m) (all outer) refl
+  where
+    all : (l : List ℕ) → l ≡ drop 0 l
+    all [] = refl
+    all (x ∷ l) = refl
+column_line-step (suc row) column (a ∷ outer) [] h =
+    let e : row + 1 ≡ suc row = omega arith in
+    ap (column_line column (drop row outer)) (nothing row) ∙ column_line-step row column outer [] (omega arith)
+    ∙ ap₂ (λ (u : ℕ) (l : List ℕ). cond (nat_le column (get_or outer row 0)) (nat_lt u column ∷ []) [] ++ column_line column (drop (row + 1) outer) l) (none row) (sym (nothing (row + 1)) ∙ more (row + 1))
+    ∙ ap (λ k. cond (nat_le column (get_or outer row 0)) (nat_lt 0 column ∷ []) [] ++ column_line column (drop k (a ∷ outer)) (drop {A = ℕ} k [])) (let q : suc (row + 1) ≡ suc row + 1 = omega arith in q)
+  where
+    nothing : (k : ℕ) → [] ≡ drop {A = ℕ} k []
+    nothing zero = refl
+    nothing (suc k) = refl
+
+    more : (k : ℕ) → [] ≡ drop {A = ℕ} (suc k) []
+    more k = refl
+
+    none : (k : ℕ) → get_or {A = ℕ} [] k 0 ≡ 0
+    none zero = refl
+    none (suc k) = refl
+column_line-step (suc row) column (a ∷ outer) (b ∷ inner) h =
+    column_line-step row column outer inner (omega arith)
+    ∙ ap (λ k. cond (nat_le column (get_or outer row 0)) (nat_lt (get_or inner row 0) column ∷ []) [] ++ column_line column (drop k (a ∷ outer)) (drop k (b ∷ inner))) (let q : suc (row + 1) ≡ suc row + 1 = omega arith in q)

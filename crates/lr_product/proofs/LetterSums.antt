@@ -29,3 +29,7 @@ pub agree_end : (now all ways : ℕ) (X : ℕ → ℕ) (letter end : ℕ) → en
 agree_end now all ways X letter end h p =
     let s : sum_over X (numbers_from letter (end - letter)) ≡ 0 = sum-end X letter end h in
     agree_then _ _ _ (agree_same _ _ ((let e : now ≡ now + ways * 0 = omega arith in e) ∙ ap (λ x. now + ways * x) (sym s))) p
+
+-- a letter that leads to nothing adds nothing
+pub agree_without : (now ways x : ℕ) → x ≡ 0 → Agree now (now + ways * x)
+agree_without now ways x e = agree_same now (now + ways * x) (sym (ap (λ y. now + ways * y) e ∙ (let z : now + ways * 0 ≡ now = omega arith in z)))

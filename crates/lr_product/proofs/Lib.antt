@@ -2,7 +2,7 @@ mod Agreeing
 mod Tables
 mod Raising
 mod LetterSums
-mod Lines
+pub mod Results
 mod Ranges
 mod ColumnExtension
 mod Steps
@@ -11,3 +11,6 @@ mod ColumnsOfCounts
 mod Heights
 mod Rounds
 mod Sums
+mod Pruned
+mod CountedLists
+pub mod GoodCounts

@@ -1,7 +1,6 @@
 -- A number of a list raised by one, and the sum of the first numbers.
-use Rattle.std.proofs.Common.{◌≡◌, ℕ, zero, suc, ◌+◌, ◌-◌, ◌<◌, ◌≤◌, true, List, [], ◌∷◌, ◌++◌, length, take, get_or, set, length-append, refl, ap, ◌∙◌, arith}
+use Rattle.std.proofs.Common.{◌≡◌, ℕ, zero, suc, ◌+◌, ◌-◌, ◌<◌, ◌≤◌, List, [], ◌∷◌, ◌++◌, length, take, get_or, set, length-append, refl, ap, ◌∙◌, arith}
 use Rattle.sym_model.specs.Partition.{size}
-use Rattle.sym_model.specs.GoodTableau.{is_falling}
 use Rattle.lr_product.specs.Extension.{raised}
 
 pub raised-set : (b : ℕ) (s : List ℕ) → set s b (get_or s b 0 + 1) ≡ raised (suc b) s
@@ -52,25 +51,20 @@ size-raised (suc n) (suc b) [] w h = absurd (omega arith)
 size-raised (suc n) (suc zero) (a ∷ s) w h = let e = size-appended n s w (omega arith) in omega arith
 size-raised (suc n) (suc (suc b)) (a ∷ s) w h = let i = size-raised n (suc b) s w (omega arith) in omega arith
 
-pub falling-short : (s : List ℕ) → length s < 2 → is_falling s ≡ true
-falling-short [] h = refl
-falling-short (a ∷ []) h = refl
-falling-short (a ∷ b ∷ s) h = absurd (omega arith)
-
 -- a letter placed at the end of a state, and taken back
 pub placed : (b : ℕ) (s t : List ℕ) → 0 < b → t ≡ set s (b - 1) (get_or s (b - 1) 0 + 1) → t ≡ raised b s
 placed zero s t h e = absurd (omega arith)
 placed (suc b) s t h e = let p : suc b - 1 ≡ b = omega arith in e ∙ ap (λ i. set s i (get_or s i 0 + 1)) p ∙ raised-set b s
 
-pub taken_back : (b : ℕ) (s old t : List ℕ) → 0 < b → b ≤ length s → old ≡ raised b s ++ b ∷ [] → t ≡ set old (b - 1) (get_or old (b - 1) 0 - 1) → take (length s) t ≡ s
-taken_back zero s old t h l is e = absurd (omega arith)
-taken_back (suc b) s old t h l is e =
+pub taken_back : (b : ℕ) (s w old t : List ℕ) → 0 < b → b ≤ length s → old ≡ raised b s ++ w → t ≡ set old (b - 1) (get_or old (b - 1) 0 - 1) → take (length s) t ≡ s
+taken_back zero s w old t h l is e = absurd (omega arith)
+taken_back (suc b) s w old t h l is e =
     let p : suc b - 1 ≡ b = omega arith in
-    ap (take (length s)) (e ∙ ap (λ i. set old i (get_or old i 0 - 1)) p ∙ ap (λ o. set o b (get_or o b 0 - 1)) is) ∙ raised-undone b s (suc b ∷ []) (omega arith)
+    ap (take (length s)) (e ∙ ap (λ i. set old i (get_or old i 0 - 1)) p ∙ ap (λ o. set o b (get_or o b 0 - 1)) is) ∙ raised-undone b s w (omega arith)
 
 pub raised-none : (b : ℕ) (s : List ℕ) → b ≤ 0 → raised b s ≡ s
 raised-none zero s h = refl
 raised-none (suc b) s h = absurd (omega arith)
 
-pub length-placed : (b : ℕ) (s : List ℕ) → length (raised b s ++ b ∷ []) ≡ length s + 1
-length-placed b s = length-append (raised b s) (b ∷ []) ∙ ap (λ k. k + 1) (length-raised b s)
+pub length-placed : (b : ℕ) (s w : List ℕ) → length (raised b s ++ w) ≡ length s + length w
+length-placed b s w = length-append (raised b s) w ∙ ap (λ k. k + length w) (length-raised b s)

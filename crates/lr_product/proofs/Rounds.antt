@@ -1,15 +1,20 @@
 -- One round of adding columns.
-use Rattle.std.proofs.Common.{◌≡◌, ℕ, zero, suc, ◌+◌, ◌-◌, ◌^◌, ◌<◌, ◌≤◌, ◌⊎◌, inl, inr, nat_le, Bool, true, cond, List, [], ◌∷◌, ◌++◌, length, take, drop, get_or, replicate, refl, sym, ap, ap₂, ◌∙◌, arith}
-use Rattle.std.proofs.lemmas.Bool.{cases_lt}
-use Rattle.sym_model.specs.Partition.{Falls, size, columns}
-use Rattle.sym_model.specs.Polynomial.{resize}
-use Rattle.sym_model.specs.Conjugate.{count_from}
-use Rattle.tableau_laws.specs.ColumnFold.{column_lines}
-use Rattle.lr_product.specs.WeighedSum.{at_state, weighed, next_states, over_states, unreached, places}
+use Rattle.std.proofs.Common.{◌≡◌, ℕ, zero, suc, ◌+◌, ◌-◌, ◌^◌, ◌<◌, ◌≤◌, ◌⊎◌, inl, inr, nat_le, nat_lt, Bool, true, false, ◌&&◌, cond, List, [], ◌∷◌, ◌++◌, length, take, drop, refl, sym, ap, ap₂, ◌∙◌, arith}
+use Rattle.std.proofs.lemmas.Bool.{cases_lt, lt-ltb, le-ltb, lt-leb, le-leb}
+use Rattle.sym_model.specs.Partition.{Falls, IsPartition, size, columns}
+use Rattle.sym_model.specs.Polynomial.{join, resize}
+use Rattle.sym_model.specs.Schur.{contains, content}
+use Rattle.tableau_laws.specs.PaddedRows.{words_over}
+use Rattle.tableau_laws.specs.Grid.{pass_by_place}
+use Rattle.tableau_laws.specs.ColumnFold.{column_lines, may_be_next}
+use Rattle.tableau_laws.proofs.ColumnCounts.{falling-resize}
+use Rattle.lr_product.specs.ColumnLine.{column_line}
+use Rattle.lr_product.specs.WeighedSum.{at_state, weighed, next_states, over_states, seen, unreached, places, VanishesOutside}
 use Rattle.lr_product.specs.Capped.{Agree}
 use Rattle.lr_product.proofs.Agreeing.{agree_same, agree_then}
-use Rattle.lr_product.proofs.Reaching.{reached, over-reached}
-use Rattle.lr_product.proofs.Heights.{column-cons, places-drop, places-lines}
+use Rattle.lr_product.proofs.Ranges.{sum-ext, sum-zero}
+use Rattle.lr_product.proofs.Reaching.{reached, weighed-weaker}
+use Rattle.lr_product.proofs.Heights.{column-cons, column-none, column-all, places-drop, places-lines}
 
 pub agree_zero : (a b : ℕ) → Agree a b → b ≡ 0 → a ≡ 0
 agree_zero a b p e = by (cases_lt a (2 ^ 127))
@@ -39,39 +44,120 @@ resize-full zero (a ∷ s) h l = absurd (omega arith)
 resize-full (suc n) [] h l = absurd (omega arith)
 resize-full (suc n) (a ∷ s) h l = ap (λ x. a ∷ x) (resize-full n s (omega arith) (omega arith))
 
-length-full : (k : ℕ) → length (replicate k true) ≡ k
-length-full zero = refl
-length-full (suc k) = ap suc (length-full k)
+-- ---- the bound
+
+within-more : (ν κ bound : List ℕ) → pass_by_place nat_le ν bound ≡ false → pass_by_place nat_le (join ν κ) bound ≡ false
+within-more [] κ [] h = absurd (cc)
+within-more [] κ (b ∷ bound) h = absurd (cc)
+within-more (a ∷ ν) κ [] h = absurd (cc)
+within-more (a ∷ ν) [] (b ∷ bound) h = h
+within-more (a ∷ ν) (x ∷ κ) (b ∷ bound) h = by (cases_lt b a) (λ g. within-more ν κ bound g)
+  where
+    split : (t : Bool) → t ≡ true → t && pass_by_place nat_le ν bound ≡ false → pass_by_place nat_le ν bound ≡ false
+    split true e g = g
+    split false e g = absurd (cc)
+
+    with_rest : (t : Bool) → pass_by_place nat_le (join ν κ) bound ≡ false → t && pass_by_place nat_le (join ν κ) bound ≡ false
+    with_rest true e = e
+    with_rest false e = refl
+
+    by : (b < a) ⊎ (a ≤ b) → (pass_by_place nat_le ν bound ≡ false → pass_by_place nat_le (join ν κ) bound ≡ false) → nat_le (a + x) b && pass_by_place nat_le (join ν κ) bound ≡ false
+    by (inl l) rec = ap (λ t. t && pass_by_place nat_le (join ν κ) bound) (lt-leb (a + x) b (omega arith))
+    by (inr l) rec = with_rest (nat_le (a + x) b) (rec (split (nat_le a b) (le-leb a b l) h))
+
+pub vanishes-next : (n : ℕ) (line : List Bool) (bound : List ℕ) (kept : Bool) (f : List ℕ → List ℕ → ℕ) → VanishesOutside bound f → VanishesOutside bound (next_states n line (seen kept f))
+vanishes-next n line bound kept f v ν right h =
+    sum-ext (λ c. cond (may_be_next n ν right c) (seen kept f (join ν (content n c)) c) 0) (λ c. 0) (λ c. under (may_be_next n ν right c) (seen_zero kept (join ν (content n c)) c (within-more ν (content n c) bound h))) (words_over n line)
+    ∙ sum-zero (words_over n line)
+  where
+    seen_zero : (k : Bool) (ν' r : List ℕ) → pass_by_place nat_le ν' bound ≡ false → seen k f ν' r ≡ 0
+    seen_zero true ν' r e = v ν' r e
+    seen_zero false ν' r e = v ν' [] e
+
+    under : (t : Bool) {x : ℕ} → x ≡ 0 → cond t x 0 ≡ 0
+    under true e = e
+    under false e = refl
+
+-- ---- one column more
+
+pub first_counts : (n : ℕ) (start outer inner : List ℕ) (es : List (List ℕ × ℕ)) (at : ℕ) → Falls outer → contains outer inner ≡ true → at ≡ columns outer
+    → ((f : List ℕ → List ℕ → ℕ) → Agree (weighed n f es) (f (resize n start) []))
+    → (f : List ℕ → List ℕ → ℕ) → Agree (weighed n f es) (over_states n (drop at (column_lines outer inner)) (seen (nat_lt 0 at) f) (resize n start) [])
+first_counts n start outer inner es at fall c e agree f =
+    agree_then _ _ _ (agree f)
+    (agree_same _ _ (by (nat_lt 0 at) ∙ ap (λ ls. over_states n ls (seen (nat_lt 0 at) f) (resize n start) []) (sym (ap (λ k. drop k (column_lines outer inner)) e ∙ column-none outer inner fall c))))
+  where
+    by : (t : Bool) → f (resize n start) [] ≡ seen t f (resize n start) []
+    by true = refl
+    by false = refl
+
+pub first_reached : (n : ℕ) (start outer inner : List ℕ) (es : List (List ℕ × ℕ)) (at : ℕ) → IsPartition start → Falls outer → contains outer inner ≡ true → at ≡ columns outer
+    → ((f : List ℕ → List ℕ → ℕ) → Agree (weighed n f es) (f (resize n start) []))
+    → weighed n (unreached n (size start + places (drop at (column_lines outer inner)))) es ≡ 0
+first_reached n start outer inner es at p fall c e agree =
+    let m = size start + places (drop at (column_lines outer inner)) in
+    let small = size-resize n start in
+    agree_zero _ _ (agree (unreached n m)) (reached n m (resize n start) [] (record { long = length-resize n start; small = omega arith; falls = falling-resize n start p.falls }))
+
+-- the column before one and the others
+last_column : (outer inner : List ℕ) (at : ℕ) → Falls outer → contains outer inner ≡ true → 0 < at → at ≤ columns outer
+    → drop (at - 1) (column_lines outer inner) ≡ column_line at outer inner ∷ drop at (column_lines outer inner)
+last_column outer inner at fall c h k =
+    let one : at - 1 + 1 ≡ at = omega arith in
+    column-cons outer inner (at - 1) fall c (omega arith) ∙ ap (λ j. column_line j outer inner ∷ drop j (column_lines outer inner)) one
+
+places_last : (outer inner : List ℕ) (at : ℕ) (line : List Bool) → Falls outer → contains outer inner ≡ true → 0 < at → at ≤ columns outer → line ≡ column_line at outer inner
+    → places (drop (at - 1) (column_lines outer inner)) ≡ length line + places (drop at (column_lines outer inner))
+places_last outer inner at line fall c h k is =
+    ap places (last_column outer inner at fall c h k) ∙ ap (λ (l : List Bool). length l + places (drop at (column_lines outer inner))) (sym is)
 
 -- before a column is added, the states leave it room
-pub round_reached : (n : ℕ) (start μ : List ℕ) (es : List (List ℕ × ℕ)) (at : ℕ) (line : List Bool) → Falls μ → 0 < at → at ≤ columns μ → size start + size μ ≤ 4096
-    → line ≡ replicate (count_from at μ) true
-    → ((f : List ℕ → List ℕ → ℕ) → Agree (weighed n f es) (over_states n (drop at (column_lines μ [])) f (resize n start) []))
-    → weighed n (unreached n (4096 - length line)) es ≡ 0
-round_reached n start μ es at line fall h k room is agree =
-    let m' = 4096 - length line in
-    let one : at - 1 + 1 ≡ at = omega arith in
-    let cons = column-cons μ (at - 1) fall (omega arith) in
-    let p : places (drop (at - 1) (column_lines μ [])) ≡ length (replicate (count_from (at - 1 + 1) μ) true) + places (drop (at - 1 + 1) (column_lines μ [])) = ap places cons in
-    let q : places (drop (at - 1) (column_lines μ [])) ≡ length line + places (drop at (column_lines μ [])) = p ∙ ap (λ j. length (replicate (count_from j μ) true) + places (drop j (column_lines μ []))) one ∙ ap (λ (l : List Bool). length l + places (drop at (column_lines μ []))) (sym is) in
-    let r = places-drop (at - 1) (column_lines μ []) in
-    let s = places-lines μ in
-    agree_zero _ _ (agree (unreached n m'))
-    (over-reached n (size start) m' (drop at (column_lines μ [])) (resize n start) [] (reached n (size start) (resize n start) [] (length-resize n start) (size-resize n start)) (omega arith))
+pub round_room : (n : ℕ) (start outer inner : List ℕ) (es : List (List ℕ × ℕ)) (at : ℕ) (line : List Bool) → Falls outer → contains outer inner ≡ true → 0 < at → at ≤ columns outer → size start + size outer ≤ 4096
+    → line ≡ column_line at outer inner → weighed n (unreached n (size start + places (drop at (column_lines outer inner)))) es ≡ 0
+    → (weighed n (unreached n (4096 - length line)) es ≡ 0) × (length line ≤ 4096)
+round_room n start outer inner es at line fall c h k room is z =
+    let p = places_last outer inner at line fall c h k is in
+    let r = places-drop (at - 1) (column_lines outer inner) in
+    let s = places-lines outer inner c in
+    (weighed-weaker n _ (4096 - length line) es (omega arith) z, omega arith)
 
 -- and after it they are those with one column more
-pub round_more : (n : ℕ) (start μ : List ℕ) (es new : List (List ℕ × ℕ)) (at : ℕ) (line : List Bool) → Falls μ → 0 < at → at ≤ columns μ
-    → line ≡ replicate (count_from at μ) true
-    → ((f : List ℕ → List ℕ → ℕ) → Agree (weighed n f es) (over_states n (drop at (column_lines μ [])) f (resize n start) []))
-    → ((f : List ℕ → List ℕ → ℕ) → Agree (weighed n f new) (weighed n (next_states n line f) es))
-    → (f : List ℕ → List ℕ → ℕ) → Agree (weighed n f new) (over_states n (drop (at - 1) (column_lines μ [])) f (resize n start) [])
-round_more n start μ es new at line fall h k is agree more f =
-    let one : at - 1 + 1 ≡ at = omega arith in
-    let cons = column-cons μ (at - 1) fall (omega arith) in
-    agree_then _ _ _ (more f) (agree_then _ _ _ (agree (next_states n line f)) (agree_same _ _
-    (ap (λ (l : List Bool). over_states n (l ∷ drop at (column_lines μ [])) f (resize n start) []) is
-    ∙ sym (ap (λ ls. over_states n ls f (resize n start) []) cons
-    ∙ ap (λ j. over_states n (replicate (count_from j μ) true ∷ drop j (column_lines μ [])) f (resize n start) []) one))))
+pub round_counts : (n : ℕ) (start outer inner bound : List ℕ) (es new : List (List ℕ × ℕ)) (at : ℕ) (line : List Bool) (kept : Bool) → Falls outer → contains outer inner ≡ true → 0 < at → at ≤ columns outer
+    → line ≡ column_line at outer inner → kept ≡ nat_lt 1 at
+    → ((f : List ℕ → List ℕ → ℕ) → VanishesOutside bound f → Agree (weighed n f es) (over_states n (drop at (column_lines outer inner)) (seen (nat_lt 0 at) f) (resize n start) []))
+    → ((f : List ℕ → List ℕ → ℕ) → VanishesOutside bound f → Agree (weighed n f new) (weighed n (next_states n line (seen kept f)) es))
+    → (f : List ℕ → List ℕ → ℕ) → VanishesOutside bound f → Agree (weighed n f new) (over_states n (drop (at - 1) (column_lines outer inner)) (seen (nat_lt 0 (at - 1)) f) (resize n start) [])
+round_counts n start outer inner bound es new at line kept fall c h k is last agree more f v =
+    agree_then _ _ _ (more f v) (agree_then _ _ _ (agree (next_states n line (seen kept f)) (vanishes-next n line bound kept f v)) (agree_same _ _
+    (ap (λ t. over_states n (drop at (column_lines outer inner)) (seen t (next_states n line (seen kept f))) (resize n start) []) (lt-ltb 0 at h)
+    ∙ ap₂ (λ (l : List Bool) (t : Bool). over_states n (l ∷ drop at (column_lines outer inner)) (seen t f) (resize n start) []) is (last ∙ fewer (cases_lt 1 at))
+    ∙ sym (ap (λ ls. over_states n ls (seen (nat_lt 0 (at - 1)) f) (resize n start) []) (last_column outer inner at fall c h k)))))
+  where
+    fewer : (1 < at) ⊎ (at ≤ 1) → nat_lt 1 at ≡ nat_lt 0 (at - 1)
+    fewer (inl l) = lt-ltb 1 at l ∙ sym (lt-ltb 0 (at - 1) (omega arith))
+    fewer (inr l) = le-ltb 1 at l ∙ sym (le-ltb 0 (at - 1) (omega arith))
+
+pub round_reached : (n : ℕ) (start outer inner : List ℕ) (new : List (List ℕ × ℕ)) (at : ℕ) (line : List Bool) → Falls outer → contains outer inner ≡ true → 0 < at → at ≤ columns outer → line ≡ column_line at outer inner
+    → weighed n (unreached n (size start + places (drop at (column_lines outer inner)) + length line)) new ≡ 0
+    → weighed n (unreached n (size start + places (drop (at - 1) (column_lines outer inner)))) new ≡ 0
+round_reached n start outer inner new at line fall c h k is z =
+    let p = places_last outer inner at line fall c h k is in
+    weighed-weaker n _ (size start + places (drop (at - 1) (column_lines outer inner))) new (omega arith) z
+
+-- after the last column
+pub last_counts : (n : ℕ) (start outer inner : List ℕ) (at : ℕ) (f : List ℕ → ℕ) → at ≤ 0
+    → over_states n (drop at (column_lines outer inner)) (seen (nat_lt 0 at) (λ ν right. f ν)) (resize n start) [] ≡ over_states n (column_lines outer inner) (λ ν right. f ν) (resize n start) []
+last_counts n start outer inner at f h =
+    let z : at ≡ 0 = omega arith in
+    ap (λ k. over_states n (drop k (column_lines outer inner)) (seen (nat_lt 0 k) (λ ν right. f ν)) (resize n start) []) z
+    ∙ ap (λ ls. over_states n ls (seen (nat_lt 0 0) (λ ν right. f ν)) (resize n start) []) (column-all (column_lines outer inner))
+
+pub last_reached : (n : ℕ) (start outer inner : List ℕ) (es : List (List ℕ × ℕ)) (at : ℕ) → contains outer inner ≡ true → size start + size outer ≤ 4096
+    → weighed n (unreached n (size start + places (drop at (column_lines outer inner)))) es ≡ 0 → weighed n (unreached n 4096) es ≡ 0
+last_reached n start outer inner es at c room z =
+    let r = places-drop at (column_lines outer inner) in
+    let s = places-lines outer inner c in
+    weighed-weaker n _ 4096 es (omega arith) z
 
 take_whole : (s : List ℕ) → take (length s) s ≡ s
 take_whole [] = refl
@@ -83,11 +169,3 @@ drop_whole (a ∷ s) = drop_whole s
 
 pub at_whole : (n : ℕ) (f : List ℕ → List ℕ → ℕ) (s : List ℕ) → length s ≡ n → at_state n f s ≡ f s []
 at_whole n f s e = ap₂ f (ap (λ k. take k s) (sym e) ∙ take_whole s) (ap (λ k. drop k s) (sym e) ∙ drop_whole s)
-
-pub count-step : (least at : ℕ) (s : List ℕ) → at < length s → count_from least (drop at s) ≡ cond (nat_le least (get_or s at 0)) 1 0 + count_from least (drop (at + 1) s)
-count-step least at [] h = absurd (omega arith)
-count-step least zero (a ∷ []) h = refl
-count-step least zero (a ∷ b ∷ s) h = refl
-count-step least (suc at) (a ∷ s) h =
-    let e : suc at + 1 ≡ suc (at + 1) = omega arith in
-    count-step least at s (omega arith) ∙ ap (λ j. cond (nat_le least (get_or s at 0)) 1 0 + count_from least (drop j (a ∷ s))) (sym e)

@@ -3,6 +3,7 @@ use Rattle.std.proofs.Common.{◌≡◌, ℕ, zero, suc, ◌+◌, ◌*◌, ◌^�
 use Rattle.std.specs.Prelude.{Some, slice_get}
 use Rattle.std.proofs.lemmas.Bool.{leb-true, eqb-true, cases_lt}
 use Rattle.sym_model.specs.Partition.{size}
+use Rattle.sym_model.specs.GoodTableau.{is_falling}
 use Rattle.lr_product.specs.WeighedSum.{at_state, weighed, unreached}
 use Rattle.lr_product.specs.Capped.{Agree}
 use Rattle.lr_product.proofs.Agreeing.{agree_same, agree_then, agree_sum, agree_times}
@@ -21,7 +22,7 @@ weighed-drop n g (e ∷ es) (suc i) p h =
     let k : suc i + 1 ≡ suc (i + 1) = omega arith in
     weighed-drop n g es i p h ∙ ap (λ j. p.1 * at_state n g p.0 + weighed n g (drop j (e ∷ es))) (sym k)
 
-positive_factor : (w x : ℕ) → 0 < w → w * x ≡ 0 → x ≡ 0
+pub positive_factor : (w x : ℕ) → 0 < w → w * x ≡ 0 → x ≡ 0
 positive_factor w zero h e = refl
 positive_factor zero (suc x) h e = absurd (omega arith)
 positive_factor (suc w) (suc x) h e = absurd (omega arith)
@@ -33,17 +34,24 @@ weighed-none n g (e ∷ es) zero key w z h l =
     positive_factor w (at_state n g key) l (ap (λ (x : List ℕ × ℕ). x.1 * at_state n g x.0) (sym here) ∙ (let q : e.1 * at_state n g e.0 ≡ 0 = omega arith in q))
 weighed-none n g (e ∷ es) (suc i) key w z h l = weighed-none n g es i key w (omega arith) h l
 
--- 0 where both truth values are true, else 1
-abbrev no_of : Bool → Bool → ℕ
-no_of p q = cond (p && q) 0 1
+-- 0 where all three truth values are true, else 1
+abbrev no_of : Bool → Bool → Bool → ℕ
+no_of p q r = cond (p && (q && r)) 0 1
 
-pub reached-tells : (n m : ℕ) (ν right : List ℕ) → unreached n m ν right ≡ 0 → (length ν ≡ n) × (size ν ≤ m)
-reached-tells n m ν right h = by (length ν == n) (nat_le (size ν) m) refl refl h
+-- a state that is reached
+pub record IsReached (n m : ℕ) (ν : List ℕ) : Type 0 where
+  pub long : length ν ≡ n
+  pub small : size ν ≤ m
+  pub falls : is_falling ν ≡ true
+
+pub reached-tells : (n m : ℕ) (ν right : List ℕ) → unreached n m ν right ≡ 0 → IsReached n m ν
+reached-tells n m ν right h = by (length ν == n) (nat_le (size ν) m) (is_falling ν) refl refl refl h
   where
-    by : (p q : Bool) → (length ν == n) ≡ p → nat_le (size ν) m ≡ q → no_of p q ≡ 0 → (length ν ≡ n) × (size ν ≤ m)
-    by true true e d k = (eqb-true (length ν) n e, leb-true (size ν) m d)
-    by true false e d k = absurd (omega arith)
-    by false q e d k = absurd (omega arith)
+    by : (p q r : Bool) → (length ν == n) ≡ p → nat_le (size ν) m ≡ q → is_falling ν ≡ r → no_of p q r ≡ 0 → IsReached n m ν
+    by true true true e d g k = record { long = eqb-true (length ν) n e; small = leb-true (size ν) m d; falls = g }
+    by true true false e d g k = absurd (omega arith)
+    by true false r e d g k = absurd (omega arith)
+    by false q r e d g k = absurd (omega arith)
 
 pub agree_entry : (now next rest all rest' ways counted x : ℕ) → Agree (now + rest) all → rest ≡ ways * x + rest' → Agree counted ways → Agree next (now + counted * x) → Agree (next + rest') all
 agree_entry now next rest all rest' ways counted x p e a q =

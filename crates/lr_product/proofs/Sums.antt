@@ -1,8 +1,8 @@
 -- The count of a sum in a table, and the counts of products.
-use Rattle.std.proofs.Common.{◌≡◌, ℕ, zero, suc, ◌+◌, ◌*◌, ◌^◌, ◌<◌, ◌≤◌, ◌==◌, Bool, true, false, cond, ◌&&◌, List, [], ◌∷◌, map, min, length, take, refl, sym, ap, ap₂, ◌∙◌, arith, pos}
+use Rattle.std.proofs.Common.{◌≡◌, ℕ, zero, suc, ◌+◌, ◌*◌, ◌^◌, ◌<◌, ◌≤◌, ◌==◌, ◌⊎◌, inl, inr, nat_le, Bool, true, false, cond, ◌&&◌, List, [], ◌∷◌, map, min, length, take, refl, sym, ap, ap₂, ◌∙◌, arith, pos}
 use Rattle.std.specs.Prelude.{nat_eq}
 use Rattle.std.specs.Cmp.Lexicographic.{pointwise}
-use Rattle.std.proofs.lemmas.Bool.{ne_eqb, lt-leb}
+use Rattle.std.proofs.lemmas.Bool.{ne_eqb, lt-leb, le-leb, cases_lt}
 use Rattle.std.proofs.lemmas.Int.{ints}
 use Rattle.sym_model.specs.Sum.{select}
 use Rattle.sym_model.specs.Partition.{ArePositive, IsPartition, rows, in_front, without_last_zeros}
@@ -10,9 +10,10 @@ use Rattle.sym_model.specs.Polynomial.{same, join, resize}
 use Rattle.sym_model.specs.Schur.{words, content, tableaux}
 use Rattle.sym_model.specs.Partition.{cells}
 use Rattle.sym_model.specs.GoodTableau.{column_reading, is_good, is_among, product_count}
+use Rattle.tableau_laws.specs.Grid.{pass_by_place}
 use Rattle.tableau_laws.specs.ColumnFold.{column_lines, is_sum}
 use Rattle.tableau_laws.proofs.ColumnCounts.{product_count-columns}
-use Rattle.lr_product.specs.WeighedSum.{at_state, weighed, over_states, comes_to}
+use Rattle.lr_product.specs.WeighedSum.{at_state, weighed, over_states, comes_to, VanishesOutside}
 use Rattle.lr_product.specs.Capped.{Agree}
 use Rattle.lr_product.proofs.Agreeing.{agree_same, agree_then}
 use Rattle.lr_product.proofs.Steps.{agree_entry}
@@ -31,7 +32,7 @@ same-whole (zero ∷ s) (b ∷ ν) h p =
     by [] n = refl
     by (x ∷ l) n = ap (λ t. t && same (x ∷ l) ν) n
 
-length_take : (n : ℕ) (s : List ℕ) → length (take n s) ≤ n
+pub length_take : (n : ℕ) (s : List ℕ) → length (take n s) ≤ n
 length_take zero [] = omega arith
 length_take zero (a ∷ s) = omega arith
 length_take (suc n) [] = omega arith
@@ -40,7 +41,7 @@ length_take (suc n) (a ∷ s) = let i = length_take n s in omega arith
 pub begins : (s ν : List ℕ) → ArePositive ν → pointwise nat_eq (take (length ν) s) ν ≡ same (without_last_zeros (take (length ν) s)) ν
 begins s ν p = same-whole (take (length ν) s) ν (length_take (length ν) s) p
 
-pos_comes : (parts ν right : List ℕ) → pos (comes_to parts ν right) ≡ is_sum parts ν right
+pub pos_comes : (parts ν right : List ℕ) → pos (comes_to parts ν right) ≡ is_sum parts ν right
 pos_comes parts ν right = by (same (without_last_zeros ν) parts)
   where
     by : (t : Bool) → pos (cond t 1 0) ≡ cond t (pos 1) (pos 0)
@@ -82,17 +83,52 @@ agree_counted now rest all rest' ways x saturated next p e o s a =
     agree_entry now next rest all rest' ways ways x p e (agree_same ways ways refl)
     (agree_then _ _ _ a (record { below = λ h. let q = ap (λ y. ways * y) o in omega arith; past = λ h. let q = ap (λ y. ways * y) o in omega arith }))
 
+-- sums that come to a partition lie inside it
+pub comes-inside : (outer ν right : List ℕ) → pass_by_place nat_le ν outer ≡ false → comes_to outer ν right ≡ 0
+comes-inside outer ν right h = ap (λ t. cond t 1 0) (by_places ν outer h)
+  where
+    front : (a : ℕ) (l : List ℕ) (b : ℕ) (outer' : List ℕ) → b < a → same (in_front a l) (b ∷ outer') ≡ false
+    front zero l b outer' g = absurd (omega arith)
+    front (suc a) l b outer' g = ap (λ t. t && same l outer') (ne_eqb (suc a) b (λ e. absurd (omega arith)))
+
+    rest : (a : ℕ) (l : List ℕ) (b : ℕ) (outer' : List ℕ) → same l outer' ≡ false → same (in_front a l) (b ∷ outer') ≡ false
+    rest zero [] b outer' e = refl
+    rest zero (x ∷ l) b outer' e = and_false (0 == b) e
+      where
+        and_false : (t : Bool) {u : Bool} → u ≡ false → t && u ≡ false
+        and_false true e' = e'
+        and_false false e' = refl
+    rest (suc a) l b outer' e = and_false (suc a == b) e
+      where
+        and_false : (t : Bool) {u : Bool} → u ≡ false → t && u ≡ false
+        and_false true e' = e'
+        and_false false e' = refl
+
+    by_places : (ν' outer' : List ℕ) → pass_by_place nat_le ν' outer' ≡ false → same (without_last_zeros ν') outer' ≡ false
+    by_places [] [] g = absurd (cc)
+    by_places [] (b ∷ outer') g = absurd (cc)
+    by_places (a ∷ ν') [] g = absurd (cc)
+    by_places (a ∷ ν') (b ∷ outer') g = split (cases_lt b a) (by_places ν' outer')
+      where
+        tail : (t : Bool) → t ≡ true → t && pass_by_place nat_le ν' outer' ≡ false → pass_by_place nat_le ν' outer' ≡ false
+        tail true e k = k
+        tail false e k = absurd (cc)
+
+        split : (b < a) ⊎ (a ≤ b) → (pass_by_place nat_le ν' outer' ≡ false → same (without_last_zeros ν') outer' ≡ false) → same (in_front a (without_last_zeros ν')) (b ∷ outer') ≡ false
+        split (inl l) rec = front a (without_last_zeros ν') b outer' l
+        split (inr l) rec = rest a (without_last_zeros ν') b outer' (rec (tail (nat_le a b) (le-leb a b l) g))
+
 -- what a table counts at a partition is the count of the product
-pub counted_product : (count letters : ℕ) (es : List (List ℕ × ℕ)) (outer parts left right : List ℕ) → letters ≡ rows outer → parts ≡ outer
+pub counted_product : (count letters : ℕ) (es : List (List ℕ × ℕ)) (outer parts start left right : List ℕ) → letters ≡ rows outer → parts ≡ outer → start ≡ left
     → IsPartition left → IsPartition right → rows left ≤ letters → Agree count (weighed (length parts) (comes_to parts) es)
-    → ((f : List ℕ → List ℕ → ℕ) → Agree (weighed letters f es) (over_states letters (column_lines right []) f (resize letters left) []))
+    → ((f : List ℕ → ℕ) → VanishesOutside parts (λ ν r. f ν) → Agree (weighed letters (λ ν r. f ν) es) (over_states letters (column_lines right []) (λ ν r. f ν) (resize letters start) []))
     → Agree count (product_count (rows outer) left right outer)
-counted_product count letters es outer parts left right l p i j h a ways =
+counted_product count letters es outer parts start left right l p begins_at i j h a ways =
     let n : length parts ≡ letters = ap length p ∙ sym l in
     agree_then _ _ _ a
-    (agree_then _ _ _ (agree_same _ (weighed letters (comes_to outer) es) (ap₂ (λ (k : ℕ) (q : List ℕ). weighed k (comes_to q) es) n p))
-    (agree_then _ _ _ (ways (comes_to outer))
-    (agree_same _ _ (states-count letters left right outer i j h ∙ ap (λ k. product_count k left right outer) l))))
+    (agree_then _ _ _ (agree_same _ (weighed letters (comes_to parts) es) (ap (λ (k : ℕ). weighed k (comes_to parts) es) n))
+    (agree_then _ _ _ (ways (λ ν. comes_to parts ν []) (comes-inside parts))
+    (agree_same _ _ (ap₂ (λ (q t : List ℕ). over_states letters (column_lines right []) (comes_to q) (resize letters t) []) p begins_at ∙ states-count letters left right outer i j h ∙ ap (λ k. product_count k left right outer) l))))
 
 pub not_past : (a b : ℕ) → Agree a b → a < 2 ^ 127 → b < 2 ^ 127
 not_past a b p h = let e = p.below h in omega arith

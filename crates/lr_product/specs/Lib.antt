@@ -1,3 +1,5 @@
 pub mod WeighedSum
 pub mod Capped
 pub mod Extension
+pub mod ColumnLine
+pub mod Counts

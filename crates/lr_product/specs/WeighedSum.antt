@@ -1,9 +1,11 @@
 -- Sums of natural numbers over lists, and tables from states to counts seen as sums (this project's own). A state is the sum
 -- reached, which has n places, and after it the column added last.
-use Rattle.std.specs.Prelude.{ℕ, ◌+◌, ◌*◌, ◌==◌, nat_le, Bool, ◌&&◌, cond, List, [], ◌∷◌, length, take, drop}
+use Rattle.std.specs.Prelude.{◌≡◌, ℕ, ◌+◌, ◌*◌, ◌==◌, nat_le, Bool, true, false, ◌&&◌, cond, List, [], ◌∷◌, length, take, drop}
 use Rattle.sym_model.specs.Partition.{size, without_last_zeros}
 use Rattle.sym_model.specs.Polynomial.{same, join}
 use Rattle.sym_model.specs.Schur.{content}
+use Rattle.sym_model.specs.GoodTableau.{is_falling}
+use Rattle.tableau_laws.specs.Grid.{pass_by_place}
 use Rattle.tableau_laws.specs.PaddedRows.{words_over}
 use Rattle.tableau_laws.specs.ColumnFold.{may_be_next}
 
@@ -30,9 +32,18 @@ abbrev pub over_states : ℕ → List (List Bool) → (List ℕ → List ℕ →
 over_states n [] f ν right = f ν right
 over_states n (line ∷ lines) f ν right = over_states n lines (next_states n line f) ν right
 
--- 1 where ν isn't a list of n numbers that add up to at most m, 0 where it is
+-- 1 where ν isn't a falling list of n numbers that add up to at most m, 0 where it is
 abbrev pub unreached : ℕ → ℕ → List ℕ → List ℕ → ℕ
-unreached n m ν right = cond ((length ν == n) && nat_le (size ν) m) 0 1
+unreached n m ν right = cond ((length ν == n) && (nat_le (size ν) m && is_falling ν)) 0 1
+
+-- f is 0 where some number of the sum is greater than that of the bound at its place; the bound may be shorter than the sum
+abbrev pub VanishesOutside : List ℕ → (List ℕ → List ℕ → ℕ) → Type 0
+VanishesOutside bound f = (ν right : List ℕ) → pass_by_place nat_le ν bound ≡ false → f ν right ≡ 0
+
+-- what f sees of a sum and the column added last, where that column is kept or not
+abbrev pub seen : Bool → (List ℕ → List ℕ → ℕ) → List ℕ → List ℕ → ℕ
+seen true f ν right = f ν right
+seen false f ν right = f ν []
 
 -- how many places the lines have
 abbrev pub places : List (List Bool) → ℕ

@@ -1,8 +1,14 @@
 //! One coefficient of a product.
 ghost use Rattle.std.specs.Prelude.{◌≡◌, ℕ, ◌+◌, ◌^◌, ◌<◌, ◌≤◌, List, pos, length, take, nat_eq, IfOk, OnOk, IsErrOf};
 ghost use Rattle.std.specs.Cmp.Lexicographic.{pointwise};
-ghost use Rattle.sym_model.specs.Partition.{ArePositive, size, rows};
+ghost use Rattle.sym_model.specs.Partition.{IsPartition, ArePositive, size, rows};
 ghost use Rattle.sym_model.specs.GoodTableau.{product_count};
+ghost use Rattle.sym_model.specs.Expansion.{Terms as TermList};
+ghost use Rattle.sym_model.specs.Kind as kinds;
+ghost use Rattle.sym_model.specs.Answer.{answer, number_in};
+ghost use Rattle.sym_model.specs.Command as commands;
+ghost use Rattle.sym_model.specs.Target.{Meets};
+ghost use Rattle.sym_model.specs.LargeAnswer.{HasPastCoefficient};
 ghost use Rattle.lr_product.specs.WeighedSum.{weighed, comes_to};
 ghost use Rattle.lr_product.specs.Capped.{Agree};
 
@@ -16,8 +22,7 @@ use indexmap::IndexMap;
 use partitions::Partition;
 use std::alloc::Global;
 
-/// The coefficient of the Schur polynomial of `outer` in the product of those of `left` and `right`, as the count of the
-/// good tableaux of the shape `right` that start at `left` and come to `outer`.
+/// The coefficient of the Schur polynomial of `outer` in the product of those of `left` and `right`.
 ///
 /// It is refused as `Large` exactly where it is past 2^127 - 1.
 pub fn coef(
@@ -27,19 +32,41 @@ pub fn coef(
     right: &Partition,
 ) -> Result<Int, SumFault>
     requires { size left.now + size right.now ≤ 4096 }
+    // Every list of terms that is this number is the answer.
+    ensures meets { IfOk result (λ c. (terms : TermList (kinds.Label kinds.number)) → number_in terms ≡ c
+        → Meets (commands.coef outer.now left.now right.now) (answer kinds.number terms)) }
+    ensures large { IsErrOf result SumFault.Large → HasPastCoefficient (commands.coef outer.now left.now right.now) }
+    ensures fits { OnOk result (HasPastCoefficient (commands.coef outer.now left.now right.now) → ⊥) }
+{
+    count_in(alloc, outer, left, right)
+}
+
+/// The count of the good tableaux of the shape `right` that start at `left` and come to `outer`.
+fn count_in(
+    alloc: Global,
+    outer: &Partition,
+    left: &Partition,
+    right: &Partition,
+) -> Result<Int, SumFault>
+    requires { size left.now + size right.now ≤ 4096 }
     ensures value { IfOk result (λ c. c ≡ pos (product_count (rows outer.now) left.now right.now outer.now)) }
     ensures large { IsErrOf result SumFault.Large → 2 ^ 127 ≤ product_count (rows outer.now) left.now right.now outer.now }
     ensures fits { OnOk result (product_count (rows outer.now) left.now right.now outer.now < 2 ^ 127) }
+    ensures factors { IsPartition outer.now × IsPartition left.now × IsPartition right.now }
 {
+    if left.size() + right.size() != outer.size() {
+        return Ok(Int::new(0));
+    }
     let letters = outer.rows();
     if left.rows() > letters {
         return Ok(Int::new(0));
     }
-    let table = match ways_by_columns(alloc, left, right, letters) {
+    let parts = outer.parts();
+    let table = match ways_by_columns(alloc, left.parts(), right, &[], letters, parts) {
         Ok(table) => table,
         Err(NoMemory) => return Err(SumFault::NoMemory),
     };
-    let count = count_of(&table, outer.parts());
+    let count = count_of(&table, parts);
     if count >= CAP {
         return Err(SumFault::Large);
     }

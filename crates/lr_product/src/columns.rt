@@ -1,11 +1,12 @@
 //! All columns of a shape added one by one, from the rightmost to the leftmost.
-ghost use Rattle.std.specs.Prelude.{◌≡◌, ℕ, ◌+◌, ◌≤◌, List, [], ◌∷◌, ◌++◌, length, IfOk, OnOk};
+ghost use Rattle.std.specs.Prelude.{◌≡◌, ℕ, ◌+◌, ◌≤◌, true, List, [], length, IfOk, OnOk};
 ghost use Rattle.sym_model.specs.Partition.{IsPartition, size, rows};
 ghost use Rattle.sym_model.specs.Polynomial.{resize};
-ghost use Rattle.sym_model.specs.Conjugate.{count_from};
+ghost use Rattle.sym_model.specs.Schur.{contains};
 ghost use Rattle.tableau_laws.specs.ColumnFold.{column_lines};
-ghost use Rattle.lr_product.specs.WeighedSum.{weighed, over_states};
+ghost use Rattle.lr_product.specs.WeighedSum.{weighed, over_states, unreached, VanishesOutside};
 ghost use Rattle.lr_product.specs.Capped.{Agree};
+ghost use Rattle.lr_product.specs.ColumnLine.{column_line};
 
 use crate::state::State;
 use crate::step::with_column;
@@ -15,57 +16,63 @@ use indexmap::IndexMap;
 use partitions::Partition;
 use std::alloc::Global;
 
-/// For each sum that a start and the contents of columns come to, with the last column, the number of ways to add the
-/// columns of a shape to the start, in `letters` letters.
+/// For each sum that a start and the content of a good tableau come to the number of these tableaux, which are those of a skew
+/// shape in `letters` letters. Sums in which some number is greater than that of the bound at its place may be missing.
 pub(crate) fn ways_by_columns(
     alloc: Global,
-    start: &Partition,
-    shape: &Partition,
+    start: &[u16],
+    outer: &Partition,
+    inner: &[u16],
     letters: u16,
+    bound: &[u16],
 ) -> Result<IndexMap<State, u128>, NoMemory>
     requires letters { letters ≤ 512 }
-    requires start { rows start.now ≤ letters }
-    requires size { size start.now + size shape.now ≤ 4096 }
-    ensures shape { OnOk result (IsPartition shape.now) }
-    ensures ways { IfOk result (λ table. (f : List ℕ → List ℕ → ℕ)
-        → Agree (weighed letters f table.entries) (over_states letters (column_lines shape.now []) f (resize letters start.now) [])) }
+    requires start { IsPartition start.now }
+    requires rows { rows start.now ≤ letters }
+    requires inside { contains outer.now inner.now ≡ true }
+    requires size { size start.now + size outer.now ≤ 4096 }
+    requires bound { length bound.now ≤ letters }
+    ensures ways { IfOk result (λ table. (f : List ℕ → ℕ) → VanishesOutside bound.now (λ ν right. f ν)
+        → Agree (weighed letters (λ ν right. f ν) table.entries)
+        (over_states letters (column_lines outer.now inner.now) (λ ν right. f ν) (resize letters start.now) [])) }
+    ensures reached { IfOk result (λ table. weighed letters (unreached letters 4096) table.entries ≡ 0) }
+    ensures shape { OnOk result (IsPartition outer.now) }
 {
     let mut table = first_table(alloc, start, letters)?;
-    let mut at = shape.part(1);
+    let mut at = outer.part(1);
     while at > 0 {
-        let line = vec![in alloc; true; height(shape.parts(), at)]?;
-        table = with_column(alloc, &table, letters, &line)?;
+        let line = line_of(alloc, outer.parts(), inner, at)?;
+        table = with_column(alloc, &table, letters, &line, bound, at > 1)?;
         at -= 1;
     }
     Ok(table)
 }
 
-/// How many of the numbers are at least `least`.
-fn height(numbers: &[u16], least: u16) -> usize
-    ensures value { result ≡ count_from least numbers.now }
-    ensures within { result ≤ length numbers.now }
+/// For each row that reaches a column whether its place in the column is a cell.
+fn line_of(alloc: Global, outer: &[u16], inner: &[u16], column: u16) -> Result<Vec<bool>, NoMemory>
+    ensures { IfOk result (λ line. line.items ≡ column_line column outer.now inner.now) }
 {
-    let mut count = 0;
-    for at in 0..numbers.len() {
-        if numbers[at] < least {
+    let mut line = Vec::new(alloc);
+    for row in 0..outer.len() {
+        if outer[row] < column {
             continue;
         }
-        count += 1;
+        line.push(inner.get(row).copied().unwrap_or(0) < column)?;
     }
-    count
+    Ok(line)
 }
 
 /// The table with the start alone, padded with zeros, once and with no column.
 fn first_table(
     alloc: Global,
-    start: &Partition,
+    start: &[u16],
     letters: u16,
 ) -> Result<IndexMap<State, u128>, NoMemory>
     requires { rows start.now ≤ letters }
     ensures { IfOk result (λ table. (f : List ℕ → List ℕ → ℕ)
         → Agree (weighed letters f table.entries) (f (resize letters start.now) [])) }
 {
-    let state = padded(alloc, start.parts(), letters)?;
+    let state = padded(alloc, start, letters)?;
     let mut table = IndexMap::new(alloc);
     add(&mut table, &state, 1)?;
     Ok(table)

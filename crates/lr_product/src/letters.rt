@@ -1,23 +1,24 @@
 //! The letters of a column, and what a letter does to a state.
-ghost use Rattle.std.specs.Prelude.{◌≡◌, ◌+◌, ◌-◌, ◌^◌, ◌<◌, ◌≤◌, List, ℕ, ◌∷◌, [], ◌++◌, length, drop, slice_index, OnOk, IfOk};
-ghost use Rattle.sym_model.specs.GoodTableau.{is_falling};
-ghost use Rattle.lr_product.specs.Extension.{raised, least_letter as least_letter_of, letters_end};
+ghost use Rattle.std.specs.Prelude.{◌≡◌, ◌+◌, ◌-◌, ◌^◌, ◌<◌, ◌≤◌, ◌==◌, ◌||◌, List, ℕ, ◌++◌, length, drop, slice_index, OnOk, IfOk};
+ghost use Rattle.lr_product.specs.Extension.{raised, mark, can_rise as can_rise_at, least_letter as least_letter_of, letters_end};
 
 use crate::state::State;
 use calc_base::NoMemory;
 
-/// Whether no number is greater than the one before it.
-pub(crate) fn falls(numbers: &[u16]) -> bool
-    ensures { result ≡ is_falling numbers.now }
+/// Whether a letter may be placed: the sum still falls with it, and stays within the bound.
+pub(crate) fn has_room(numbers: &[u16], letter: u16, bound: &[u16]) -> bool
+    requires { letter ≤ length numbers.now }
+    ensures { result ≡ ((letter == 0) || can_rise_at bound.now (letter - 1) numbers.now) }
 {
-    let mut rest = numbers;
-    while let [first, second, ..] = rest {
-        if *second > *first {
-            return false;
-        }
-        rest = &rest[1..];
-    }
-    true
+    letter == 0 || can_rise(numbers, usize::from(letter) - 1, bound)
+}
+
+/// Whether the number at an index may be raised by one.
+fn can_rise(numbers: &[u16], at: usize, bound: &[u16]) -> bool
+    requires { at < length numbers.now }
+    ensures { result ≡ can_rise_at bound.now at numbers.now }
+{
+    (at == 0 || numbers[at] < numbers[at - 1]) && (bound.len() <= at || numbers[at] < bound[at])
 }
 
 /// The least letter for a place.
@@ -28,16 +29,23 @@ pub(crate) fn least_letter(cell: bool, above: u16) -> u16
     if cell { above + 1 } else { 0 }
 }
 
-/// The number past the greatest letter for a place.
-pub(crate) fn end_of_letters(letters: u16, cell: bool, right: &[u16], above: u16) -> u16
+/// The number past the greatest letter for a place, where letters are left for the places below.
+pub(crate) fn end_of_letters(
+    letters: u16,
+    cell: bool,
+    below: usize,
+    right: &[u16],
+    above: u16,
+) -> u16
     requires { letters ≤ 512 }
-    ensures value { result ≡ letters_end letters cell right.now above }
+    ensures value { result ≡ letters_end (letters - below) cell right.now above }
     ensures within { result ≤ letters + 1 }
 {
     if cell {
+        let most = usize::from(letters).saturating_sub(below) as u16;
         let greatest = match right.first() {
-            Some(neighbour) => letters.min(*neighbour),
-            None => letters,
+            Some(neighbour) => most.min(*neighbour),
+            None => most,
         };
         greatest + 1
     } else if above == 0 {
@@ -54,28 +62,39 @@ pub(crate) fn rest_of(right: &[u16]) -> &[u16]
     if right.is_empty() { right } else { &right[1..] }
 }
 
-/// Puts a letter, or a 0 outside the shape, at the end of the column, and raises the sum at a letter's place. It gives the
-/// length before.
-pub(crate) fn place(state: &mut State, letter: u16) -> Result<usize, NoMemory>
+/// Raises the sum at a letter's place, and where the column is kept puts the letter, or a 0 outside the shape, at its end. It
+/// gives the length before.
+pub(crate) fn place(state: &mut State, letter: u16, is_kept: bool) -> Result<usize, NoMemory>
     requires within { letter ≤ length state.old }
     requires room { 0 < letter → slice_index state.old (letter - 1) < 2 ^ 16 - 1 }
-    ensures state { OnOk result (state.new ≡ raised letter state.old ++ letter ∷ []) }
+    ensures state { OnOk result (state.new ≡ raised letter state.old ++ mark is_kept letter) }
     ensures length { IfOk result (λ len. len ≡ length state.old) }
 {
     let len = state.numbers().len();
+    raise(state, letter);
+    if is_kept {
+        state.push(letter)?;
+    }
+    Ok(len)
+}
+
+/// Raises the sum at a letter's place.
+fn raise(state: &mut State, letter: u16)
+    requires within { letter ≤ length state.old }
+    requires room { 0 < letter → slice_index state.old (letter - 1) < 2 ^ 16 - 1 }
+    ensures { state.new ≡ raised letter state.old }
+{
     if letter > 0 {
         let at = usize::from(letter) - 1;
         let number = state.numbers()[at];
         state.set(at, number + 1);
     }
-    state.push(letter)?;
-    Ok(len)
 }
 
 /// Takes a letter back that was placed when the state had this length.
 pub(crate) fn take_back(state: &mut State, len: usize, letter: u16)
     requires within { letter ≤ length state.old }
-    ensures { (before : List ℕ) → state.old ≡ raised letter before ++ letter ∷ [] → length before ≡ len → letter ≤ len
+    ensures { (before after : List ℕ) → state.old ≡ raised letter before ++ after → length before ≡ len → letter ≤ len
         → state.new ≡ before }
 {
     if letter > 0 {

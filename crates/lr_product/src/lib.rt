@@ -6,10 +6,15 @@
 
 mod coefficient;
 mod columns;
+mod counts;
 mod extension;
 mod letters;
+mod product;
+mod skew_expansion;
 mod state;
 mod step;
 mod table;
 
 pub use coefficient::coef;
+pub use product::mult;
+pub use skew_expansion::skew;

@@ -1,37 +1,44 @@
 //! One more column added to each state of a table.
-ghost use Rattle.std.specs.Prelude.{◌≡◌, ℕ, ◌+◌, ◌-◌, ◌*◌, ◌^◌, ◌<◌, ◌≤◌, List, ◌∷◌, [], ◌++◌, length, take, slice_get, OnOk, IfOk, Some};
+ghost use Rattle.std.specs.Prelude.{◌≡◌, ℕ, ◌+◌, ◌-◌, ◌*◌, ◌^◌, ◌<◌, ◌≤◌, List, length, take, slice_get, true, OnOk, IfOk, Some};
+ghost use Rattle.sym_model.specs.GoodTableau.{is_falling};
 ghost use Rattle.sym_model.specs.Partition.{size};
-ghost use Rattle.lr_product.specs.WeighedSum.{at_state, weighed, next_states, unreached};
+ghost use Rattle.lr_product.specs.WeighedSum.{at_state, weighed, next_states, seen, unreached, VanishesOutside};
 ghost use Rattle.lr_product.specs.Capped.{Agree};
 
-use crate::extension::{Count, extend};
+use crate::extension::{Column, extend};
 use crate::state::State;
 use crate::table::capped;
 use calc_base::NoMemory;
 use indexmap::IndexMap;
 use std::alloc::Global;
 
-/// The table after one more column of this line in `letters` letters.
+/// The table after one more column of this line in `letters` letters, within a bound.
 pub(crate) fn with_column(
     alloc: Global,
     table: &IndexMap<State, u128>,
     letters: u16,
     line: &[bool],
+    bound: &[u16],
+    is_kept: bool,
 ) -> Result<IndexMap<State, u128>, NoMemory>
     requires letters { letters ≤ 512 }
+    requires bound { length bound.now ≤ letters }
     requires reached { weighed letters (unreached letters (4096 - length line.now)) table.now.entries ≡ 0 }
     requires short { length line.now ≤ 4096 }
-    ensures { IfOk result (λ next. (f : List ℕ → List ℕ → ℕ)
-        → Agree (weighed letters f next.entries) (weighed letters (next_states letters line.now f) table.now.entries)) }
+    ensures counts { IfOk result (λ next. (f : List ℕ → List ℕ → ℕ) → VanishesOutside bound.now f
+        → Agree (weighed letters f next.entries) (weighed letters (next_states letters line.now (seen is_kept f)) table.now.entries)) }
+    ensures reached { IfOk result (λ next. (m : ℕ) → weighed letters (unreached letters m) table.now.entries ≡ 0
+        → weighed letters (unreached letters (m + length line.now)) next.entries ≡ 0) }
 {
     let mut next = IndexMap::new(alloc);
     for at in 0..table.len() {
         let (state, ways) = entry_at(table, at);
-        let count = Count {
+        let column = Column {
             letters,
+            is_kept,
             ways: capped(ways),
         };
-        add_columns(alloc, &mut next, state, line, count)?;
+        add_columns(alloc, &mut next, state, line, bound, column)?;
     }
     Ok(next)
 }
@@ -51,20 +58,27 @@ fn add_columns(
     next: &mut IndexMap<State, u128>,
     state: &State,
     line: &[bool],
-    count: Count,
+    bound: &[u16],
+    column: Column,
 ) -> Result<(), NoMemory>
-    requires letters { count.letters ≤ 512 }
-    requires ways { count.ways ≤ 2 ^ 127 }
-    requires long { 0 < count.ways → count.letters ≤ length state.now }
-    requires size { 0 < count.ways → size (take count.letters state.now) + length line.now ≤ 4096 }
-    ensures { OnOk result ((f : List ℕ → List ℕ → ℕ)
-        → Agree (weighed count.letters f next.new.entries)
-        (weighed count.letters f next.old.entries + count.ways * at_state count.letters (next_states count.letters line.now f) state.now)) }
+    requires letters { column.letters ≤ 512 }
+    requires bound { length bound.now ≤ column.letters }
+    requires ways { column.ways ≤ 2 ^ 127 }
+    requires long { 0 < column.ways → column.letters ≤ length state.now }
+    requires falls { 0 < column.ways → is_falling (take column.letters state.now) ≡ true }
+    requires size { 0 < column.ways → size (take column.letters state.now) + length line.now ≤ 4096 }
+    ensures adds { OnOk result ((f : List ℕ → List ℕ → ℕ) → VanishesOutside bound.now f
+        → Agree (weighed column.letters f next.new.entries)
+        (weighed column.letters f next.old.entries
+        + column.ways * at_state column.letters (next_states column.letters line.now (seen column.is_kept f)) state.now)) }
+    ensures reached { OnOk result ((m : ℕ) → (0 < column.ways → size (take column.letters state.now) + length line.now ≤ m)
+        → weighed column.letters (unreached column.letters m) next.old.entries ≡ 0
+        → weighed column.letters (unreached column.letters m) next.new.entries ≡ 0) }
 {
-    if count.ways == 0 {
+    if column.ways == 0 {
         return Ok(());
     }
-    let (sum, right) = state.numbers().split_at(usize::from(count.letters));
+    let (sum, right) = state.numbers().split_at(usize::from(column.letters));
     let mut reached = State::new(alloc, sum)?;
-    extend(next, &mut reached, line, right, 0, count)
+    extend(next, &mut reached, line, right, 0, bound, column)
 }

@@ -1,35 +1,17 @@
-use Rattle.std.proofs.Common.{sym, ap, ◌∙◌, arith, pos}
-use Rattle.std.specs.Int.{w128}
-use Rattle.std.proofs.lemmas.Int.{to_z_pos}
-use Rattle.sym_model.specs.Partition.{rows}
-use Rattle.lr_product.proofs.Sums.{product_count-none, counted_product, not_past}
+use Rattle.std.proofs.Common.{◌∙◌}
+use Rattle.lr_product.proofs.GoodCounts.{coef_past, coef_fits}
+use Rattle.lr_product.proofs.Results.{if_answered, on_answered}
+use Rattle.alternant_laws.proofs.CountedTerms.{coef_meets}
 use Rattle.lr_product.proofs.coefficient.coef.Goals as goal
 
-pub returns-then-rows-letters-clause-value : goal.returns-then-rows-letters-clause-value
-returns-then-rows-letters-clause-value c =
-    let none = product_count-none (rows c.args.outer.now) c.args.left.now c.args.right.now c.args.outer.now (omega (arith, c.if-rows-letters.true, c.rows-letters.ensures.value, c.rows.ensures.value)) in
-    c.new.ensures ∙ ap pos (sym none)
+pub returns-clause-meets : goal.returns-clause-meets
+returns-clause-meets c =
+    if_answered c.count_in.result c.count_in.ensures.value
+    (λ z is terms e. coef_meets c.args.outer.now c.args.left.now c.args.right.now terms c.count_in.ensures.factors.0 c.count_in.ensures.factors.1 c.count_in.ensures.factors.2 (e ∙ is))
 
-pub returns-then-rows-letters-clause-fits : goal.returns-then-rows-letters-clause-fits
-returns-then-rows-letters-clause-fits c =
-    let none = product_count-none (rows c.args.outer.now) c.args.left.now c.args.right.now c.args.outer.now (omega (arith, c.if-rows-letters.true, c.rows-letters.ensures.value, c.rows.ensures.value)) in
-    omega arith
-
-pub returns-then-count-ge-CAP-clause-large : goal.returns-then-count-ge-CAP-clause-large
-returns-then-count-ge-CAP-clause-large c =
-    λ e.
-    let a = counted_product c.count_of-count.result c.rows-letters.result c.in-Ok.table.entries c.args.outer.now c.parts.result.now c.args.left.now c.args.right.now c.rows-letters.ensures.value c.parts.ensures.value
-    c.rows.ensures.limits.partition c.in-Ok.ensures.shape (omega (arith, c.if-rows-letters.false, c.rows.ensures.value)) c.count_of-count.ensures.agrees c.in-Ok.ensures.ways in
-    a.past c.if-count-ge-CAP.true
-
-pub returns-clause-value : goal.returns-clause-value
-returns-clause-value c =
-    let a = counted_product c.count_of-count.result c.rows-letters.result c.in-Ok.table.entries c.args.outer.now c.parts.result.now c.args.left.now c.args.right.now c.rows-letters.ensures.value c.parts.ensures.value
-    c.rows.ensures.limits.partition c.in-Ok.ensures.shape (omega (arith, c.if-rows-letters.false, c.rows.ensures.value)) c.count_of-count.ensures.agrees c.in-Ok.ensures.ways in
-    c.new-2.ensures ∙ to_z_pos w128 c.count_of-count.result c.if-count-ge-CAP.false ∙ ap pos (a.below c.if-count-ge-CAP.false)
+pub returns-clause-large : goal.returns-clause-large
+returns-clause-large c = λ e. coef_past c.args.outer.now c.args.left.now c.args.right.now c.count_in.ensures.factors.0 c.count_in.ensures.factors.1 c.count_in.ensures.factors.2 (c.count_in.ensures.large e)
 
 pub returns-clause-fits : goal.returns-clause-fits
 returns-clause-fits c =
-    let a = counted_product c.count_of-count.result c.rows-letters.result c.in-Ok.table.entries c.args.outer.now c.parts.result.now c.args.left.now c.args.right.now c.rows-letters.ensures.value c.parts.ensures.value
-    c.rows.ensures.limits.partition c.in-Ok.ensures.shape (omega (arith, c.if-rows-letters.false, c.rows.ensures.value)) c.count_of-count.ensures.agrees c.in-Ok.ensures.ways in
-    not_past _ _ a c.if-count-ge-CAP.false
+    on_answered c.count_in.result c.count_in.ensures.fits (coef_fits c.args.outer.now c.args.left.now c.args.right.now c.count_in.ensures.factors.0 c.count_in.ensures.factors.1 c.count_in.ensures.factors.2)

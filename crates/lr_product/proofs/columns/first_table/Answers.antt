@@ -9,7 +9,7 @@ pub returns : goal.returns
 returns c f =
     let n = c.args.letters in
     let start = c.args.start.now in
-    let state : c.in_ok-state.state ≡ resize n start = c.in_ok-state.ensures ∙ ap (resize n) c.parts.ensures.value in
+    let state : c.in_ok-state.state ≡ resize n start = c.in_ok-state.ensures in
     let w = ap (weighed n f) c.new-table.ensures.empty in
     let x = ap (at_state n f) state ∙ at_whole n f (resize n start) (length-resize n start) in
     agree_then _ _ _ (c.in_ok-add.ensures n f) (agree_same _ _ (omega arith))

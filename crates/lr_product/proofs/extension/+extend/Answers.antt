@@ -1,44 +1,72 @@
-use Rattle.std.proofs.Common.{◌≡◌, ℕ, ◌+◌, ◌-◌, ◌*◌, ◌<◌, ◌≤◌, Bool, List, ◌∷◌, [], ◌++◌, length, take, drop, get_or, sym, ap, ap₂, ◌∙◌, subst, arith}
-use Rattle.std.specs.Prelude.{OnOk}
+use Rattle.std.proofs.Common.{◌≡◌, ℕ, ◌+◌, ◌-◌, ◌*◌, ◌<◌, ◌≤◌, ◌==◌, ◌||◌, Bool, true, false, List, ◌++◌, length, take, drop, get_or, sym, ap, ap₂, ◌∙◌, subst, arith}
+use Rattle.sym_model.specs.GoodTableau.{is_falling}
 use Rattle.sym_model.specs.Partition.{size}
 use Rattle.lr_product.specs.Capped.{Agree}
 use Rattle.lr_product.specs.WeighedSum.{sum_over, weighed}
-use Rattle.lr_product.specs.Extension.{numbers_from, raised, extended}
+use Rattle.lr_product.specs.Extension.{numbers_from, raised, mark, can_rise, extended}
 use Rattle.lr_product.proofs.Raising.{index-size, size-raised, length-placed}
-use Rattle.lr_product.proofs.LetterSums.{agree_step, agree_end}
+use Rattle.lr_product.proofs.LetterSums.{agree_step, agree_end, agree_without}
 use Rattle.lr_product.proofs.Agreeing.{agree_then, agree_same}
-use Rattle.lr_product.proofs.Lines.{no_line, on_ok}
+use Rattle.lr_product.proofs.Pruned.{no_room, falls-placed, fewer_letters}
 use Rattle.lr_product.proofs.extension.+extend.Goals as goal
 
-pub returns-in_default-clause-adds : goal.returns-in_default-clause-adds
-returns-in_default-clause-adds t c =
-    let ended = no_line c.args.line.now c.in_default.ensures.cases in
-    subst (λ (line : List Bool). OnOk c.finish.result ((f : List ℕ → List ℕ → ℕ) → Agree (weighed c.args.count.letters f c.finish.new.table.entries)
-    (weighed c.args.count.letters f c.args.table.now.entries + c.args.count.ways * extended c.args.count.letters line c.args.right.now c.args.above f c.args.state.now)))
-    (sym ended) (on_ok c.finish.result (λ adds f. adds c.args.right.now c.args.above f) c.finish.ensures)
+pub loop-letter-preserved-then-not-has_room : goal.loop-letter-preserved-then-not-has_room
+loop-letter-preserved-then-not-has_room t c =
+    let b = c.loop-letter.letter in
+    let n = c.args.column.letters in
+    let s = c.args.state.now in
+    let kept = c.args.column.is_kept in
+    let state : c.numbers.result.now ≡ s = c.numbers.ensures ∙ c.loop-letter.invariant.same in
+    let refused : c.has_room.result ≡ false = cc in
+    let none : ((b == 0) || can_rise c.args.bound.now (b - 1) s) ≡ false = ap (λ x. (b == 0) || can_rise c.args.bound.now (b - 1) x) (sym state) ∙ sym c.has_room.ensures ∙ refused in
+    record {
+      same = c.loop-letter.invariant.same;
+      adds = λ f v.
+          agree_step (weighed n f c.loop-letter.table.entries) (weighed n f c.loop-letter.table.entries) _ c.args.column.ways
+          (λ x. extended kept n c.in-Some.rest.now (drop 1 c.args.right.now) x f (raised x s ++ mark kept x))
+          b c.end_of_letters-end.result c.loop-letter-test.true (c.loop-letter.invariant.adds f v)
+          (agree_without (weighed n f c.loop-letter.table.entries) c.args.column.ways _
+          (no_room kept n c.in-Some.rest.now (drop 1 c.args.right.now) f c.args.bound.now b s v (omega (arith, c.end_of_letters-end.ensures.within, c.loop-letter-test.true)) c.requires.long c.requires.bound none));
+      reached = c.loop-letter.invariant.reached;
+    }
 
 pub place-requires-clause-room : goal.place-requires-clause-room
 place-requires-clause-room t c = λ h.
-    let n = c.args.count.letters in
+    let n = c.args.column.letters in
     let below = index-size n (c.loop-letter.letter - 1) c.args.state.now (omega (arith, c.end_of_letters-end.ensures.within, c.loop-letter-test.true)) in
-    subst (λ s. get_or s (c.loop-letter.letter - 1) 0 < 65535) (sym c.loop-letter.invariant.0) (omega (arith, c.requires.size))
+    subst (λ s. get_or s (c.loop-letter.letter - 1) 0 < 65535) (sym c.loop-letter.invariant.same) (omega (arith, c.requires.size))
 
 pub extend-requires : goal.extend-requires
 extend-requires t c =
-    let n = c.args.count.letters in
+    let n = c.args.column.letters in
     let b = c.loop-letter.letter in
+    let s = c.args.state.now in
+    let kept = c.args.column.is_kept in
     let one = c.in-Some.ensures.cases.1 in
-    let state : c.place.new.state ≡ raised b c.args.state.now ++ b ∷ [] = c.in_ok-len.ensures.state ∙ ap (λ s. raised b s ++ b ∷ []) c.loop-letter.invariant.0 in
-    let long = length-placed b c.args.state.now in
-    let more = size-raised n b c.args.state.now (b ∷ []) c.requires.long in (
+    let within : b ≤ n = omega (arith, c.end_of_letters-end.ensures.within, c.loop-letter-test.true) in
+    let before : c.numbers.result.now ≡ s = c.numbers.ensures ∙ c.loop-letter.invariant.same in
+    let taken : c.has_room.result ≡ true = cc in
+    let room : ((b == 0) || can_rise c.args.bound.now (b - 1) s) ≡ true = ap (λ x. (b == 0) || can_rise c.args.bound.now (b - 1) x) (sym before) ∙ sym c.has_room.ensures ∙ taken in
+    let state : c.place.new.state ≡ raised b s ++ mark kept b = c.in_ok-len.ensures.state ∙ ap (λ x. raised b x ++ mark kept b) c.loop-letter.invariant.same in
+    let long = length-placed b s (mark kept b) in
+    let more = size-raised n b s (mark kept b) c.requires.long in (
       omega arith,
       (
         c.requires.ways,
         (
           c.requires.letters,
           (
-            omega (arith, c.end_of_letters-end.ensures.within, c.loop-letter-test.true),
-            (subst (λ s. n ≤ length s) (sym state) (omega (arith, c.requires.long)), subst (λ s. size (take n s) + length c.in-Some.rest.now ≤ 4096) (sym state) (omega (arith, c.requires.size))),
+            c.requires.bound,
+            (
+              within,
+              (
+                subst (λ x. n ≤ length x) (sym state) (omega (arith, c.requires.long)),
+                (
+                  subst (λ x. is_falling (take n x) ≡ true) (sym state) (falls-placed n c.args.bound.now b s (mark kept b) within c.requires.long room c.requires.falls),
+                  subst (λ x. size (take n x) + length c.in-Some.rest.now ≤ 4096) (sym state) (omega (arith, c.requires.size)),
+                ),
+              ),
+            ),
           ),
         ),
       ),
@@ -47,34 +75,47 @@ extend-requires t c =
 pub take_back-requires : goal.take_back-requires
 take_back-requires t c =
     let b = c.loop-letter.letter in
-    let state : c.extend.new.state ≡ raised b c.args.state.now ++ b ∷ [] = c.in_ok-extend.ensures.same ∙ c.in_ok-len.ensures.state ∙ ap (λ s. raised b s ++ b ∷ []) c.loop-letter.invariant.0 in
-    let long = length-placed b c.args.state.now in
+    let kept = c.args.column.is_kept in
+    let state : c.extend.new.state ≡ raised b c.args.state.now ++ mark kept b = c.in_ok-extend.ensures.same ∙ c.in_ok-len.ensures.state ∙ ap (λ s. raised b s ++ mark kept b) c.loop-letter.invariant.same in
+    let long = length-placed b c.args.state.now (mark kept b) in
     record { within = subst (λ s. b ≤ length s) (sym state) (omega (arith, c.requires.long, c.end_of_letters-end.ensures.within, c.loop-letter-test.true)) }
 
 pub loop-letter-preserved : goal.loop-letter-preserved
 loop-letter-preserved t c =
     let b = c.loop-letter.letter in
-    let n = c.args.count.letters in
-    let same = c.loop-letter.invariant.0 in
-    let placed : c.place.new.state ≡ raised b c.args.state.now ++ b ∷ [] = c.in_ok-len.ensures.state ∙ ap (λ s. raised b s ++ b ∷ []) same in
-    let len : length c.args.state.now ≡ c.in_ok-len.len = sym (c.in_ok-len.ensures.length ∙ ap length same) in (
-      c.take_back.ensures c.args.state.now (c.in_ok-extend.ensures.same ∙ placed) len (omega (arith, c.requires.long, c.end_of_letters-end.ensures.within, c.loop-letter-test.true)),
-      λ f. agree_step (weighed n f c.loop-letter.table.entries) (weighed n f c.extend.new.table.entries) _ c.args.count.ways
-          (λ x. extended n c.in-Some.rest.now (drop 1 c.args.right.now) x f (raised x c.args.state.now ++ (x ∷ [])))
-          b c.end_of_letters-end.result c.loop-letter-test.true (c.loop-letter.invariant.1 f)
-          (subst (λ (r : List ℕ). Agree (weighed n f c.extend.new.table.entries) (weighed n f c.loop-letter.table.entries + c.args.count.ways * extended n c.in-Some.rest.now r b f (raised b c.args.state.now ++ (b ∷ []))))
+    let n = c.args.column.letters in
+    let s = c.args.state.now in
+    let kept = c.args.column.is_kept in
+    let same = c.loop-letter.invariant.same in
+    let one = c.in-Some.ensures.cases.1 in
+    let placed : c.place.new.state ≡ raised b s ++ mark kept b = c.in_ok-len.ensures.state ∙ ap (λ x. raised b x ++ mark kept b) same in
+    let len : length s ≡ c.in_ok-len.len = sym (c.in_ok-len.ensures.length ∙ ap length same) in
+    let more = size-raised n b s (mark kept b) c.requires.long in
+    record {
+      same = c.take_back.ensures s (mark kept b) (c.in_ok-extend.ensures.same ∙ placed) len (omega (arith, c.requires.long, c.end_of_letters-end.ensures.within, c.loop-letter-test.true));
+      adds = λ f v.
+          agree_step (weighed n f c.loop-letter.table.entries) (weighed n f c.extend.new.table.entries) _ c.args.column.ways
+          (λ x. extended kept n c.in-Some.rest.now (drop 1 c.args.right.now) x f (raised x s ++ mark kept x))
+          b c.end_of_letters-end.result c.loop-letter-test.true (c.loop-letter.invariant.adds f v)
+          (subst (λ (r : List ℕ). Agree (weighed n f c.extend.new.table.entries) (weighed n f c.loop-letter.table.entries + c.args.column.ways * extended kept n c.in-Some.rest.now r b f (raised b s ++ mark kept b)))
           c.rest_of.ensures
-          (subst (λ s. Agree (weighed n f c.extend.new.table.entries) (weighed n f c.loop-letter.table.entries + c.args.count.ways * extended n c.in-Some.rest.now c.rest_of.result.now b f s)) placed (c.in_ok-extend.ensures.adds f))),
-    )
+          (subst (λ x. Agree (weighed n f c.extend.new.table.entries) (weighed n f c.loop-letter.table.entries + c.args.column.ways * extended kept n c.in-Some.rest.now c.rest_of.result.now b f x)) placed (c.in_ok-extend.ensures.adds f v)));
+      reached = λ m h z.
+          c.in_ok-extend.ensures.reached m (subst (λ x. size (take n x) + length c.in-Some.rest.now ≤ m) (sym placed) (omega arith)) (c.loop-letter.invariant.reached m h z);
+    }
 
 pub returns-clause-adds : goal.returns-clause-adds
-returns-clause-adds t c f =
-    let n = c.args.count.letters in
-    let X : ℕ → ℕ = λ x. extended n c.in-Some.rest.now (drop 1 c.args.right.now) x f (raised x c.args.state.now ++ (x ∷ [])) in
+returns-clause-adds t c f v =
+    let n = c.args.column.letters in
+    let s = c.args.state.now in
+    let kept = c.args.column.is_kept in
+    let X : ℕ → ℕ = λ x. extended kept n c.in-Some.rest.now (drop 1 c.args.right.now) x f (raised x s ++ mark kept x) in
     let low = c.least_letter-low.ensures in
     let end = c.end_of_letters-end.ensures.value in
     let line = c.in-Some.ensures.cases.0 in
     agree_then _ _ _
-    (agree_end (weighed n f c.loop-letter.table.entries) _ c.args.count.ways X c.loop-letter.letter c.end_of_letters-end.result c.loop-letter-test.false (c.loop-letter.invariant.1 f))
-    (agree_same _ _ (ap (λ s. weighed n f c.args.table.now.entries + c.args.count.ways * s)
-    (ap₂ (λ a z. sum_over X (numbers_from a (z - a))) low end ∙ ap (λ (l : List Bool). extended n l c.args.right.now c.args.above f c.args.state.now) (sym line))))
+    (agree_end (weighed n f c.loop-letter.table.entries) _ c.args.column.ways X c.loop-letter.letter c.end_of_letters-end.result c.loop-letter-test.false (c.loop-letter.invariant.adds f v))
+    (agree_same _ _ (ap (λ x. weighed n f c.args.table.now.entries + c.args.column.ways * x)
+    (ap₂ (λ a z. sum_over X (numbers_from a (z - a))) low end
+    ∙ fewer_letters kept n c.in-Some.cell.now c.in-Some.rest.now c.args.right.now c.args.above f s
+    ∙ ap (λ (l : List Bool). extended kept n l c.args.right.now c.args.above f s) (sym line))))

@@ -1,5 +1,5 @@
 use Rattle.std.proofs.Common.{◌+◌, ◌-◌, ◌<◌, length, take, drop, arith}
-use Rattle.lr_product.specs.WeighedSum.{at_state, weighed, next_states, unreached}
+use Rattle.lr_product.specs.WeighedSum.{at_state, weighed, next_states, seen, unreached}
 use Rattle.lr_product.proofs.Steps.{weighed-drop, weighed-none, reached-tells, agree_entry, agree_past, agree_positive, weighed-past, length_taken}
 use Rattle.lr_product.proofs.step.with_column.Goals as goal
 
@@ -10,7 +10,16 @@ add_columns-requires-clause-long c h =
     let some : 0 < c.entry_at-ways.result.1 = agree_positive c.capped.result c.entry_at-ways.result.1 c.capped.ensures.capped h in
     let r = reached-tells n (4096 - length c.args.line.now) (take n key) (drop n key)
     (weighed-none n (unreached n (4096 - length c.args.line.now)) c.args.table.now.entries c.loop-at.at key c.entry_at-ways.result.1 c.requires.reached c.entry_at-ways.ensures some) in
-    length_taken n key r.0
+    length_taken n key r.long
+
+pub add_columns-requires-clause-falls : goal.add_columns-requires-clause-falls
+add_columns-requires-clause-falls c h =
+    let n = c.args.letters in
+    let key = c.entry_at-ways.result.0.now in
+    let some : 0 < c.entry_at-ways.result.1 = agree_positive c.capped.result c.entry_at-ways.result.1 c.capped.ensures.capped h in
+    let r = reached-tells n (4096 - length c.args.line.now) (take n key) (drop n key)
+    (weighed-none n (unreached n (4096 - length c.args.line.now)) c.args.table.now.entries c.loop-at.at key c.entry_at-ways.result.1 c.requires.reached c.entry_at-ways.ensures some) in
+    r.falls
 
 pub add_columns-requires-clause-size : goal.add_columns-requires-clause-size
 add_columns-requires-clause-size c h =
@@ -19,24 +28,37 @@ add_columns-requires-clause-size c h =
     let some : 0 < c.entry_at-ways.result.1 = agree_positive c.capped.result c.entry_at-ways.result.1 c.capped.ensures.capped h in
     let r = reached-tells n (4096 - length c.args.line.now) (take n key) (drop n key)
     (weighed-none n (unreached n (4096 - length c.args.line.now)) c.args.table.now.entries c.loop-at.at key c.entry_at-ways.result.1 c.requires.reached c.entry_at-ways.ensures some) in
-    let bound = r.1 in
+    let bound = r.small in
     omega (arith, c.requires.short)
 
 pub loop-at-preserved : goal.loop-at-preserved
-loop-at-preserved c = (
-  c.loop-at.invariant.0,
-  λ f.
-      let n = c.args.letters in
-      let g = next_states n c.args.line.now f in
-      let key = c.entry_at-ways.result.0.now in
-      agree_entry (weighed n f c.loop-at.next.entries) (weighed n f c.add_columns.new.next.entries) (weighed n g (drop c.loop-at.at c.args.table.now.entries))
-      (weighed n g c.args.table.now.entries) (weighed n g (drop (c.loop-at.at + 1) c.args.table.now.entries)) c.entry_at-ways.result.1 c.capped.result (at_state n g key)
-      (c.loop-at.invariant.1 f) (weighed-drop n g c.args.table.now.entries c.loop-at.at (key, c.entry_at-ways.result.1) c.entry_at-ways.ensures) c.capped.ensures.capped (c.in_ok-add_columns.ensures f),
-)
-
-pub returns : goal.returns
-returns c f =
+loop-at-preserved c =
     let n = c.args.letters in
-    let g = next_states n c.args.line.now f in
+    let key = c.entry_at-ways.result.0.now in
+    let es = c.args.table.now.entries in
+    record {
+      end = c.loop-at.invariant.end;
+      counts = λ f v.
+          let g = next_states n c.args.line.now (seen c.args.is_kept f) in
+          agree_entry (weighed n f c.loop-at.next.entries) (weighed n f c.add_columns.new.next.entries) (weighed n g (drop c.loop-at.at es))
+          (weighed n g es) (weighed n g (drop (c.loop-at.at + 1) es)) c.entry_at-ways.result.1 c.capped.result (at_state n g key)
+          (c.loop-at.invariant.counts f v) (weighed-drop n g es c.loop-at.at (key, c.entry_at-ways.result.1) c.entry_at-ways.ensures) c.capped.ensures.capped (c.in_ok-add_columns.ensures.adds f v);
+      reached = λ m z.
+          c.in_ok-add_columns.ensures.reached (m + length c.args.line.now)
+          (λ h.
+          let some : 0 < c.entry_at-ways.result.1 = agree_positive c.capped.result c.entry_at-ways.result.1 c.capped.ensures.capped h in
+          let r = reached-tells n m (take n key) (drop n key) (weighed-none n (unreached n m) es c.loop-at.at key c.entry_at-ways.result.1 z c.entry_at-ways.ensures some) in
+          let bound = r.small in
+          omega arith)
+          (c.loop-at.invariant.reached m z);
+    }
+
+pub returns-clause-counts : goal.returns-clause-counts
+returns-clause-counts c f v =
+    let n = c.args.letters in
+    let g = next_states n c.args.line.now (seen c.args.is_kept f) in
     agree_past (weighed n f c.loop-at.next.entries) (weighed n g (drop c.loop-at.at c.args.table.now.entries)) (weighed n g c.args.table.now.entries)
-    (weighed-past n g c.args.table.now.entries c.loop-at.at (omega (arith, c.loop-at.invariant.0))) (c.loop-at.invariant.1 f)
+    (weighed-past n g c.args.table.now.entries c.loop-at.at (omega (arith, c.loop-at.invariant.end))) (c.loop-at.invariant.counts f v)
+
+pub returns-clause-reached : goal.returns-clause-reached
+returns-clause-reached c m z = c.loop-at.invariant.reached m z

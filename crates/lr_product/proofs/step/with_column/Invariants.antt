@@ -1,9 +1,18 @@
 use Rattle.std.proofs.Common.{◌≡◌, ℕ, ◌+◌, List, length, drop}
-use Rattle.lr_product.specs.WeighedSum.{weighed, next_states}
+use Rattle.lr_product.specs.WeighedSum.{weighed, next_states, seen, unreached, VanishesOutside}
 use Rattle.lr_product.specs.Capped.{Agree}
 use Rattle.lr_product.proofs.step.with_column.Given as goal
 
 abbrev pub invariant-loop-at : goal.invariant-loop-at
-invariant-loop-at l = (l.at-end ≡ length l.table.entries) × ((f : List ℕ → List ℕ → ℕ)
-    → Agree (weighed l.letters f l.next.entries + weighed l.letters (next_states l.letters l.line f) (drop l.at l.table.entries))
-    (weighed l.letters (next_states l.letters l.line f) l.table.entries))
+invariant-loop-at l = record {
+  end : l.at-end ≡ length l.table.entries;
+  counts :
+      (f : List ℕ → List ℕ → ℕ)
+      → VanishesOutside l.bound f
+      → Agree (weighed l.letters f l.next.entries + weighed l.letters (next_states l.letters l.line (seen l.is_kept f)) (drop l.at l.table.entries))
+      (weighed l.letters (next_states l.letters l.line (seen l.is_kept f)) l.table.entries);
+  reached :
+      (m : ℕ)
+      → weighed l.letters (unreached l.letters m) l.table.entries ≡ 0
+      → weighed l.letters (unreached l.letters (m + length l.line)) l.next.entries ≡ 0;
+}

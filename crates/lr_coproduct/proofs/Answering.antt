@@ -1,0 +1,109 @@
+-- What a coproduct answers.
+use Rattle.std.proofs.Common.{◌≡◌, ℕ, ◌+◌, List, [], ◌∷◌, ◌++◌, map, refl, sym, ap, ◌∙◌, subst, arith, ℤ, pos, ◌+ℤ◌, ◌*ℤ◌}
+use Rattle.std.specs.Prelude.{None}
+use Rattle.std.proofs.lemmas.Int.{ints}
+use Rattle.sym_model.specs.Sum.{total, each, Among}
+use Rattle.sym_model.specs.Partition.{IsPartition, columns, without_last_zeros}
+use Rattle.sym_model.specs.Polynomial.{Poly, Same, pair, plus, scale, coefficient as coefficient_of}
+use Rattle.sym_model.specs.Schur.{schur, skew_schur}
+use Rattle.sym_model.specs.Expansion.{Terms, Represents, beside, pair_polynomial, denominators}
+use Rattle.sym_model.specs.LabelLimits.{is_pair_label}
+use Rattle.sym_model.specs.WholeTerms.{AreWhole, combined, numerators}
+use Rattle.sym_model.specs.Kind.{pairs}
+use Rattle.sym_model.specs.Answer.{answer}
+use Rattle.sym_model.specs.Command.{skew, coprod}
+use Rattle.sym_model.specs.Target.{Meets}
+use Rattle.sym_model.specs.LargeAnswer.{HasPastCoefficient}
+use Rattle.sym_model.proofs.Polynomials.{coefficient_plus, coefficient_scale, pair_ext, pair_total, pair_factor, pair_determined, same_from_pair}
+use Rattle.sym_model.proofs.Ring.{one-product}
+use Rattle.sym_model.proofs.Sums.{total_ext}
+use Rattle.sym_model.proofs.WholeTerms.{pair_of_combined, denominators_of_whole, value_by-whole, represents-whole}
+use Rattle.sparse_polys.specs.Combination.{IsCombination, HasSameCoefficients}
+use Rattle.sparse_polys.specs.Labels.{same_pair}
+use Rattle.sparse_polys.proofs.Values.{represents-same_coefficients}
+use Rattle.coproduct_laws.specs.InnerShapes.{shapes_inside}
+use Rattle.coproduct_laws.proofs.Coproducts.{coproduct, pair_beside}
+use Rattle.lr_coproduct.specs.PairTerms.{equal_pairs, pair_sum, second_sum}
+use Rattle.lr_coproduct.proofs.InnerLists.{partitions_inside, part_among, among_part}
+use Rattle.lr_coproduct.proofs.PairLists.{pair_laws}
+
+-- ---- one partition inside
+
+-- a list of whole terms that is a polynomial, as a sum
+sum_of_terms : (P : List ℕ → Poly) (list : Terms (List ℕ)) (f : Poly) → AreWhole list → Represents P list f 1 → Same (combined P (numerators list)) f
+sum_of_terms P list f w r α =
+    let one : denominators list ≡ 1 = denominators_of_whole list w in
+    let e = r.equal α in
+    sym (one-product (coefficient_of (combined P (numerators list)) α))
+    ∙ sym (coefficient_scale (pos 1) (combined P (numerators list)) α)
+    ∙ sym (ap (λ (g : Poly). coefficient_of (scale (pos 1) g) α) (value_by-whole P list w))
+    ∙ e
+    ∙ ap (λ d. coefficient_of (scale (pos d) f) α) one
+    ∙ coefficient_scale (pos 1) f α ∙ one-product (coefficient_of f α)
+
+pub second_is : (n k : ℕ) (first : List ℕ) (f : Poly) (list : Terms (List ℕ)) → AreWhole list → Represents (λ (label : List ℕ). schur label k) list f 1 → Same (second_sum n k first list) (beside (schur first n) f)
+second_is n k first f list w r =
+    let g = schur first n in
+    let ws = numerators list in
+    same_from_pair (second_sum n k first list) (beside g f) (λ φ.
+    pair_of_combined (λ (second : List ℕ). pair_polynomial n k (first, second)) ws φ
+    ∙ total_ext (λ (t : List ℕ × ℤ). t.1 *ℤ pair (beside g (schur t.0 k)) φ) (λ (t : List ℕ × ℤ). pair g (λ α. t.1 *ℤ pair (schur t.0 k) (λ β. φ (α ++ β))))
+    (λ t. ap (λ z. t.1 *ℤ z) (pair_beside g (schur t.0 k) φ) ∙ sym (pair_factor t.1 g (λ α. pair (schur t.0 k) (λ β. φ (α ++ β))))) ws
+    ∙ sym (pair_total g (λ (t : List ℕ × ℤ) (α : List ℕ). t.1 *ℤ pair (schur t.0 k) (λ β. φ (α ++ β))) ws)
+    ∙ pair_ext g (λ α. total (λ (t : List ℕ × ℤ). t.1 *ℤ pair (schur t.0 k) (λ β. φ (α ++ β))) ws) (λ α. pair f (λ β. φ (α ++ β)))
+    (λ α. sym (pair_of_combined (λ (label : List ℕ). schur label k) ws (λ β. φ (α ++ β)))
+    ∙ pair_determined (combined (λ (label : List ℕ). schur label k) ws) f (λ β. φ (α ++ β)) (sum_of_terms (λ (label : List ℕ). schur label k) list f w r))
+    ∙ sym (pair_beside g f φ))
+
+pub plus_same : (new old f g : Poly) → Same f g → Same new (plus old f) → Same new (plus old g)
+plus_same new old f g e h α =
+    let p = coefficient_plus old f α in
+    let q = coefficient_plus old g α in
+    let i = h α in
+    let j = e α in
+    omega (arith, ints)
+
+-- ---- all of them
+
+each_next : (f : List ℕ → Poly) (xs : List (List ℕ)) (x : List ℕ) (α : List ℕ) → coefficient_of (each f (xs ++ (x ∷ []))) α ≡ coefficient_of (each f xs) α +ℤ coefficient_of (f x) α
+each_next f [] x α = let p = coefficient_plus (f x) [] α in omega (arith, ints)
+each_next f (y ∷ xs) x α =
+    let p = coefficient_plus (f y) (each f (xs ++ (x ∷ []))) α in
+    let q = coefficient_plus (f y) (each f xs) α in
+    let r = each_next f xs x α in
+    omega (arith, ints)
+
+pub sum_next : (f : List ℕ → Poly) (xs next : List (List ℕ)) (x : List ℕ) (old new : Poly) → next ≡ xs ++ (x ∷ []) → Same old (each f xs) → Same new (plus old (f x)) → Same new (each f next)
+sum_next f xs next x old new e h k α =
+    let p = k α in
+    let q = coefficient_plus old (f x) α in
+    let r = h α in
+    let s = each_next f xs x α in
+    let t : coefficient_of (each f next) α ≡ coefficient_of (each f (xs ++ (x ∷ []))) α = ap (λ l. coefficient_of (each f l) α) e in
+    omega (arith, ints)
+
+each-map : (f : List ℕ → Poly) (g : List ℕ → List ℕ) (xs : List (List ℕ)) → each f (map g xs) ≡ each (λ x. f (g x)) xs
+each-map f g [] = refl
+each-map f g (x ∷ xs) = ap (λ l. f (g x) ++ l) (each-map f g xs)
+
+pub coproduct_meets : (shape : List ℕ) (inners : List (List ℕ)) (table terms : Terms (List ℕ × List ℕ)) → IsPartition shape → inners ≡ partitions_inside shape
+    → AreWhole table → IsCombination equal_pairs is_pair_label table → IsCombination equal_pairs is_pair_label terms → HasSameCoefficients equal_pairs table terms
+    → ((n k : ℕ) → Same (pair_sum n k table) (each (λ inner. beside (schur inner n) (skew_schur shape inner k)) inners))
+    → Meets (coprod shape) (answer pairs terms)
+coproduct_meets shape inners table terms p e w is also same_ones sums n k =
+    represents-same_coefficients pair_laws same_pair table terms is also same_ones (pair_polynomial n k) (schur shape (n + k)) 1
+    (represents-whole (pair_polynomial n k) table (schur shape (n + k)) w (λ α.
+    sums n k α
+    ∙ ap (λ l. coefficient_of (each (λ inner. beside (schur inner n) (skew_schur shape inner k)) l) α) e
+    ∙ ap (λ (f : Poly). coefficient_of f α) (each-map (λ inner. beside (schur inner n) (skew_schur shape inner k)) without_last_zeros (shapes_inside shape (columns shape)))
+    ∙ sym (coproduct n k shape p α)))
+
+-- ---- coefficients past the limit
+
+pub past_of_inner : (shape inner : List ℕ) (inners : List (List ℕ)) → inners ≡ partitions_inside shape → Among inner inners → HasPastCoefficient (skew None shape inner) → HasPastCoefficient (coprod shape)
+past_of_inner shape inner inners e m (c, s, past) =
+    let r = part_among shape inner (subst (λ l. Among inner l) e m) in
+    (c, record { part = inner; partition = r.partition; inside = r.inside; is = s }, past)
+
+pub none_past : (shape : List ℕ) (inners : List (List ℕ)) → inners ≡ partitions_inside shape → ((inner : List ℕ) → Among inner inners → HasPastCoefficient (skew None shape inner) → ⊥) → HasPastCoefficient (coprod shape) → ⊥
+none_past shape inners e fits (c, d, past) = fits d.part (subst (λ l. Among d.part l) (sym e) (among_part shape d.part d.partition d.inside)) (c, d.is, past)

@@ -1,0 +1,4 @@
+mod Lists
+mod InnerLists
+mod PairLists
+mod Answering

@@ -1,0 +1,52 @@
+//! The partitions inside a partition.
+ghost use Rattle.std.specs.Prelude.{◌≡◌, ◌+◌, ◌≤◌, List, [], ◌∷◌, ◌++◌, map, length, IfOk, OnOk};
+ghost use Rattle.sym_model.specs.Partition.{Falls, IsPartition, columns, size, without_last_zeros};
+ghost use Rattle.coproduct_laws.specs.InnerShapes.{shapes_inside};
+
+use calc_base::NoMemory;
+use partitions::Partition;
+use std::alloc::Global;
+
+/// The partitions inside a partition, each once.
+pub(crate) fn inner_shapes(alloc: Global, shape: &Partition) -> Result<Vec<Partition>, NoMemory>
+    ensures listed { IfOk result (λ shapes. shapes.items ≡ map without_last_zeros (shapes_inside shape.now (columns shape.now))) }
+    ensures shape { OnOk result (IsPartition shape.now) }
+{
+    let mut shapes = Vec::new(alloc);
+    add_shapes(alloc, &mut shapes, &[], shape.parts(), shape.part(1))?;
+    Ok(shapes)
+}
+
+/// Adds the partitions that begin with these numbers, go on with one that is at most `most`, and stay inside these rows.
+fn add_shapes(
+    alloc: Global,
+    shapes: &mut Vec<Partition>,
+    front: &[u16],
+    rows: &[u16],
+    most: u16,
+) -> Result<(), NoMemory>
+    requires falls { Falls (front.now ++ most ∷ []) }
+    requires few { length front.now + length rows.now ≤ 512 }
+    requires small { size front.now + size rows.now ≤ 4096 }
+    ensures { OnOk result (shapes.new.items
+        ≡ shapes.old.items ++ map (λ inner. without_last_zeros (front.now ++ inner)) (shapes_inside rows.now most)) }
+{
+    let Some((row, below)) = rows.split_first() else {
+        shapes.push(Partition::from_valid_numbers(alloc, front)?)?;
+        return Ok(());
+    };
+    for part in 0..most.min(*row) + 1 {
+        let next = with_part(alloc, front, part)?;
+        add_shapes(alloc, shapes, &next, below, part)?;
+    }
+    Ok(())
+}
+
+/// The numbers with one more at their end.
+fn with_part(alloc: Global, numbers: &[u16], part: u16) -> Result<Vec<u16>, NoMemory>
+    ensures { IfOk result (λ next. next.items ≡ numbers.now ++ part ∷ []) }
+{
+    let mut next = Vec::from_slice(alloc, numbers)?;
+    next.push(part)?;
+    Ok(next)
+}

@@ -1,0 +1,342 @@
+-- Counts of good tableaux and Schur coefficients.
+use Rattle.std.proofs.Common.{◌≡◌, ℕ, zero, suc, ◌+◌, ◌-◌, ◌^◌, ◌<◌, ◌≤◌, ◌==◌, ◌⊎◌, inl, inr, min, nat_le, nat_abs, Bool, true, false, cond, List, [], ◌∷◌, map, length, get_or, refl, sym, ap, ◌∙◌, subst, arith, ℤ, pos, negsuc, ◌+ℤ◌, ◌≤ℤ◌}
+use Rattle.std.specs.Prelude.{Result, Ok, Err, Option, Some, None, IfOk, OnOk, IfSome, IsTrue}
+use Rattle.std.specs.Option.{unwrap_or}
+use Rattle.std.proofs.lemmas.Bool.{cases_lt, cases_Bool, le-leb, leb-true, eq-eqb, eqb-true, and_parts, and_from, false_from_ne_true, both_ways}
+use Rattle.std.proofs.lemmas.Int.{ints}
+use Rattle.sym_model.specs.Sum.{select, Among}
+use Rattle.sym_model.specs.Partition.{IsPartition, Holds, rows, size, without_last_zeros}
+use Rattle.sym_model.specs.Polynomial.{Poly, Term, Same, same, coefficient, join, resize, times}
+use Rattle.sym_model.specs.Schur.{contains, semistandard, fillings_of, row_lengths, content, letters_of, schur, skew_schur}
+use Rattle.sym_model.specs.GoodTableau.{good_tableaux, product_count, skew_count}
+use Rattle.sym_model.specs.Alternant.{alternant, staircase, schur_coefficient}
+use Rattle.sym_model.specs.LabelLimits.{is_partition}
+use Rattle.sym_model.specs.Expansion.{Fraction, Terms}
+use Rattle.sym_model.specs.WholeTerms.{WholeTerms, numerators, absolute_total}
+use Rattle.sym_model.specs.Kind.{product}
+use Rattle.sym_model.specs.Answer.{answer}
+use Rattle.sym_model.specs.Command.{mult, skew, coef}
+use Rattle.sym_model.specs.Target.{Meets, schur_product, classical_product}
+use Rattle.sym_model.specs.LargeAnswer.{IsSchurCoefficientOf, HasPastCoefficient, variables_or, is_past, classical_weight}
+use Rattle.sym_model.proofs.Exponents.{same_apart, size-join}
+use Rattle.sym_model.proofs.Polynomials.{at_only, coefficient_pair, pair_times, pair_zero, times_respects, Same_refl}
+use Rattle.sym_model.proofs.WholeTerms.{represents-whole}
+use Rattle.sym_model.proofs.Orders.{is_partition-tells, is_partition-from}
+use Rattle.sym_model.proofs.SortedParts.{IsPartition-none}
+use Rattle.sym_model.proofs.Sums.{total_none, total_map, Among_from_map}
+use Rattle.tableau_laws.specs.ColumnFold.{column_lines, is_sum}
+use Rattle.tableau_laws.proofs.ColumnCounts.{contains_nothing, total_readings_by_columns}
+use Rattle.tableau_laws.proofs.GoodReadings.{total_good_contents}
+use Rattle.alternant_laws.specs.GoodSums.{ListsCounts, start_plus_content}
+use Rattle.alternant_laws.proofs.CountedTerms.{good_terms, coefficient_counts, no_long_labels, product_coefficients, skew_coefficients, nothing_times, mult_meets, skew_meets}
+use Rattle.alternant_laws.proofs.Degrees.{coefficient-other_degree, times-of_degree, alternant-of_degree, schur-of_degree}
+use Rattle.alternant_laws.proofs.ClassicalProducts.{classical_product-coefficient, classical_product-term}
+use Rattle.lr_product.specs.WeighedSum.{comes_to, VanishesOutside}
+use Rattle.lr_product.specs.Capped.{Agree}
+use Rattle.lr_product.specs.Counts.{good_count, IsPastSomewhere}
+use Rattle.lr_product.proofs.Sums.{pos_comes}
+use Rattle.lr_product.proofs.ColumnsOfCounts.{over-states, over-ext}
+
+-- ---- counts that agree up to the limit
+
+-- where there is no bound, nothing lies outside
+pub no_bound : (f : List ℕ → List ℕ → ℕ) → VanishesOutside [] f
+no_bound f [] right h = absurd (cc)
+no_bound f (a ∷ ν) right h = absurd (cc)
+
+pub counts_agree : {E : Type 0} (n : ℕ) (w g : List ℕ → ℕ) (r : Result (Terms (List ℕ)) E) → ((parts : List ℕ) → Agree (w parts) (g parts)) → IfOk r (ListsCounts n w) → OnOk r ((parts : List ℕ) → w parts < 2 ^ 127) → IfOk r (ListsCounts n g)
+counts_agree n w g (Ok terms) a c f = record { whole = c.whole; labels = c.labels; counts = λ parts p h. c.counts parts p h ∙ ap pos ((a parts).below (f parts)) }
+counts_agree n w g (Err e) a c f = tt
+
+pub fits_agree : {T E : Type 0} (w g : List ℕ → ℕ) (r : Result T E) → ((parts : List ℕ) → Agree (w parts) (g parts)) → OnOk r ((parts : List ℕ) → w parts < 2 ^ 127) → OnOk r ((parts : List ℕ) → g parts < 2 ^ 127)
+fits_agree w g (Ok x) a f = λ parts. let e = (a parts).below (f parts) in let l = f parts in omega arith
+fits_agree w g (Err e) a f = tt
+
+pub past_agree : (n : ℕ) (w g : List ℕ → ℕ) → ((parts : List ℕ) → Agree (w parts) (g parts)) → IsPastSomewhere n w → IsPastSomewhere n g
+past_agree n w g a p = record { parts = p.parts; partition = p.partition; within = p.within; past = (a p.parts).past p.past }
+
+-- ---- the counts are Schur coefficients
+
+pub good_count-terms : (n : ℕ) (start outer inner ν : List ℕ) → IsPartition start → IsPartition outer → IsPartition inner → contains outer inner ≡ true → rows start ≤ n
+    → pos (good_count n start outer inner ν) ≡ coefficient (good_terms n start outer inner) ν
+good_count-terms n start outer inner ν p o i holds h =
+    let f : List ℕ → ℤ = λ κ. cond (same (without_last_zeros κ) ν) (pos 1) (pos 0) in
+    over-states n (column_lines outer inner) (comes_to ν) (resize n start) []
+    ∙ over-ext n (column_lines outer inner) (λ s r. pos (comes_to ν s r)) (is_sum ν) (pos_comes ν) (resize n start) []
+    ∙ sym (total_readings_by_columns n start outer inner f p o i holds h)
+    ∙ total_good_contents n start outer inner (λ κ. f (join start κ)) o.falls holds
+    ∙ sym (total_map (λ (t : Term). cond (same t.0 ν) t.1 (pos 0)) (λ (T : List (List ℕ)). (start_plus_content n start T, pos 1)) (good_tableaux n start outer inner))
+
+pub schur-good_count : (n m : ℕ) (start outer inner ν : List ℕ) → n ≤ m → IsPartition start → IsPartition outer → IsPartition inner → contains outer inner ≡ true → rows start ≤ n → IsPartition ν → rows ν ≤ n
+    → schur_coefficient m ν (times (schur start m) (skew_schur outer inner m)) ≡ pos (good_count n start outer inner ν)
+schur-good_count n m start outer inner ν h p o i holds s q l =
+    coefficient_counts m m start outer inner ν (omega arith) p o i q (omega arith)
+    ∙ sym (coefficient_counts n m start outer inner ν h p o i q l)
+    ∙ coefficient_counts n n start outer inner ν (omega arith) p o i q l
+    ∙ sym (good_count-terms n start outer inner ν p o i holds s)
+
+schur-too_long : (m : ℕ) (start outer inner ν : List ℕ) → IsPartition start → IsPartition outer → IsPartition inner → contains outer inner ≡ true → rows start ≤ m → IsPartition ν → rows ν ≤ m → rows start + rows outer < rows ν
+    → schur_coefficient m ν (times (schur start m) (skew_schur outer inner m)) ≡ pos 0
+schur-too_long m start outer inner ν p o i holds s q l k =
+    coefficient_counts m m start outer inner ν (omega arith) p o i q l ∙ no_long_labels m start outer inner ν p o i holds s k
+
+-- at each partition with at most m rows the count is the good count in n letters, and 0 where it has more than n rows
+pub record SameCounts (n m : ℕ) (good count : List ℕ → ℕ) : Type 0 where
+  pub fewer : n ≤ m
+  pub same_within : (ν : List ℕ) → IsPartition ν → rows ν ≤ n → count ν ≡ good ν
+  pub none_past : (ν : List ℕ) → IsPartition ν → rows ν ≤ m → n < rows ν → count ν ≡ 0
+
+-- the count is the Schur coefficient of f in m variables
+abbrev pub Counts : ℕ → Poly → (List ℕ → ℕ) → Type 0
+Counts m f count = (ν : List ℕ) → IsPartition ν → rows ν ≤ m → schur_coefficient m ν f ≡ pos (count ν)
+
+-- as many letters as there are variables, or as labels can have rows, are enough
+pub same_counts : (n m : ℕ) (start outer inner : List ℕ) (count : List ℕ → ℕ) → n ≡ min m (rows start + rows outer) → IsPartition start → IsPartition outer → IsPartition inner → contains outer inner ≡ true → rows start ≤ n
+    → Counts m (times (schur start m) (skew_schur outer inner m)) count → SameCounts n m (good_count n start outer inner) count
+same_counts n m start outer inner count e p o i holds s c = record {
+  fewer = omega arith;
+  same_within = λ ν q l.
+      let a : pos (count ν) ≡ pos (good_count n start outer inner ν) = sym (c ν q (omega arith)) ∙ schur-good_count n m start outer inner ν (omega arith) p o i holds s q l in
+      omega (arith, ints);
+  none_past = λ ν q l k.
+      let a : pos (count ν) ≡ pos 0 = sym (c ν q l) ∙ schur-too_long m start outer inner ν p o i holds (omega arith) q l (omega arith) in
+      omega (arith, ints);
+}
+
+-- no term has this label
+no_label : (terms : WholeTerms) (ν : List ℕ) → ((t : List ℕ × ℤ) → Among t terms → t.0 ≡ ν → ⊥) → coefficient terms ν ≡ pos 0
+no_label terms ν h = total_none (λ (t : Term). cond (same t.0 ν) t.1 (pos 0)) terms (λ t m. ap (λ (b : Bool). cond b t.1 (pos 0)) (same_apart t.0 ν (h t m)))
+
+-- the labels of a list of counts
+label_of_counts : (k : ℕ) (count : List ℕ → ℕ) (terms : Terms (List ℕ)) → ListsCounts k count terms → (t : List ℕ × ℤ) → Among t (numerators terms) → IsPartition t.0 × (rows t.0 ≤ k)
+label_of_counts k count terms c t m =
+    let u = Among_from_map (λ (v : List ℕ × Fraction). (v.0, v.1.0)) t terms m in
+    subst (λ (l : List ℕ). IsPartition l × (rows l ≤ k)) (sym (ap (λ (v : List ℕ × ℤ). v.0) u.2)) (c.labels u.0 u.1)
+
+pub lists_in : (n m : ℕ) (good count : List ℕ → ℕ) (terms : Terms (List ℕ)) → SameCounts n m good count → ListsCounts n good terms → ListsCounts m count terms
+lists_in n m good count terms same_ones c = record {
+  whole = c.whole;
+  labels = λ t k. let l = c.labels t k in (l.0, let a = l.1 in let b = same_ones.fewer in omega arith);
+  counts = λ ν q l. by ν q l (cases_lt n (rows ν));
+}
+  where
+    by : (ν : List ℕ) → IsPartition ν → rows ν ≤ m → (n < rows ν) ⊎ (rows ν ≤ n) → coefficient (numerators terms) ν ≡ pos (count ν)
+    by ν q l (inl k) =
+        no_label (numerators terms) ν (λ t g e. let r = label_of_counts n good terms c t g in let a = r.1 in let d = ap length e in absurd (omega arith))
+        ∙ sym (ap pos (same_ones.none_past ν q l k))
+    by ν q l (inr k) = c.counts ν q k ∙ sym (ap pos (same_ones.same_within ν q k))
+
+pub fits_in : (n m : ℕ) (good count : List ℕ → ℕ) → SameCounts n m good count → ((ν : List ℕ) → good ν < 2 ^ 127) → (ν : List ℕ) → IsPartition ν → rows ν ≤ m → count ν < 2 ^ 127
+fits_in n m good count same_ones f ν q l = by (cases_lt n (rows ν))
+  where
+    by : (n < rows ν) ⊎ (rows ν ≤ n) → count ν < 2 ^ 127
+    by (inl k) = let z = same_ones.none_past ν q l k in omega arith
+    by (inr k) = let z = same_ones.same_within ν q k in let s = f ν in omega arith
+
+pub past_in : (n m : ℕ) (good count : List ℕ → ℕ) → SameCounts n m good count → IsPastSomewhere n good → IsPastSomewhere m count
+past_in n m good count same_ones p = record {
+  parts = p.parts;
+  partition = p.partition;
+  within = let a = p.within in let b = same_ones.fewer in omega arith;
+  past = let z = same_ones.same_within p.parts p.partition p.within in let s = p.past in omega arith;
+}
+
+-- the empty list, where nothing is counted
+pub none_counted : (m : ℕ) (count : List ℕ → ℕ) → ((ν : List ℕ) → count ν ≡ 0) → ListsCounts m count []
+none_counted m count e = record { whole = tt; labels = λ t k. absurd k; counts = λ ν q l. sym (ap pos (e ν)) }
+
+-- ---- coefficients past the limit
+
+-- some Schur coefficient of f in m variables is past it
+abbrev pub HasPast : ℕ → Poly → Type 0
+HasPast m f = (c : ℤ) × IsSchurCoefficientOf f m c × IsTrue (is_past c)
+
+pub has_past : (m : ℕ) (f : Poly) (count : List ℕ → ℕ) → Counts m f count → IsPastSomewhere m count → HasPast m f
+has_past m f count e p = (
+  pos (count p.parts),
+  record { parts = p.parts; partition = p.partition; within = p.within; is = sym (e p.parts p.partition p.within) },
+  le-leb (2 ^ 127) (count p.parts) p.past,
+)
+
+pub has_none_past : (m : ℕ) (f : Poly) (count : List ℕ → ℕ) → Counts m f count → ((ν : List ℕ) → IsPartition ν → rows ν ≤ m → count ν < 2 ^ 127) → HasPast m f → ⊥
+has_none_past m f count e small (c, d, past) =
+    let is : c ≡ pos (count d.parts) = d.is ∙ e d.parts d.partition d.within in
+    let l = leb-true (2 ^ 127) (count d.parts) (sym (ap is_past is) ∙ past) in
+    let s = small d.parts d.partition d.within in
+    absurd (omega arith)
+
+-- ---- products
+
+product_counts : (m : ℕ) (left right : List ℕ) → IsPartition left → IsPartition right → Counts m (schur_product (left ∷ right ∷ []) m) (product_count m left right)
+product_counts m left right p q ν r l = product_coefficients m left right ν p q r l
+
+pub same_product : (n m : ℕ) (left right : List ℕ) → n ≡ min m (rows left + rows right) → IsPartition left → IsPartition right → rows left ≤ n
+    → SameCounts n m (good_count n left right []) (product_count m left right)
+same_product n m left right e p q h = same_counts n m left right [] (product_count m left right) e p q IsPartition-none (contains_nothing right) h (product_counts m left right p q)
+
+variables_same : (rows_given : Option ℕ) (k : ℕ) → unwrap_or rows_given k ≡ variables_or rows_given k
+variables_same None k = refl
+variables_same (Some n) k = refl
+
+pub mult_answers : (variables : Option ℕ) (m : ℕ) (left right : List ℕ) (terms : Terms (List ℕ)) → m ≡ unwrap_or variables (rows left + rows right) → IsPartition left → IsPartition right
+    → ListsCounts m (product_count m left right) terms → Meets (mult variables left right) (answer product terms)
+mult_answers variables m left right terms e p q c =
+    mult_meets variables left right terms p q (subst (λ k. ListsCounts k (product_count k left right) terms) (e ∙ variables_same variables (rows left + rows right)) c)
+
+pub mult_past : (variables : Option ℕ) (m : ℕ) (left right : List ℕ) → m ≡ unwrap_or variables (rows left + rows right) → IsPartition left → IsPartition right
+    → IsPastSomewhere m (product_count m left right) → HasPastCoefficient (mult variables left right)
+mult_past variables m left right e p q past =
+    subst (λ k. HasPast k (schur_product (left ∷ right ∷ []) k)) (e ∙ variables_same variables (rows left + rows right)) (has_past m (schur_product (left ∷ right ∷ []) m) (product_count m left right) (product_counts m left right p q) past)
+
+pub mult_fits : (variables : Option ℕ) (m : ℕ) (left right : List ℕ) → m ≡ unwrap_or variables (rows left + rows right) → IsPartition left → IsPartition right
+    → ((ν : List ℕ) → IsPartition ν → rows ν ≤ m → product_count m left right ν < 2 ^ 127) → HasPastCoefficient (mult variables left right) → ⊥
+mult_fits variables m left right e p q small past =
+    has_none_past m (schur_product (left ∷ right ∷ []) m) (product_count m left right) (product_counts m left right p q) small
+    (subst (λ k. HasPast k (schur_product (left ∷ right ∷ []) k)) (sym (e ∙ variables_same variables (rows left + rows right))) past)
+
+-- the list is the classical product
+pub classical_answer : (k : ℕ) (left right : List ℕ) (terms : Terms (List ℕ)) → IsPartition left → IsPartition right → ListsCounts k (product_count k left right) terms
+    → Same (numerators terms) (classical_product k (left ∷ right ∷ []))
+classical_answer k left right terms p q c α = by (cases_Bool (is_partition α)) (cases_lt k (rows α))
+  where
+    both : ((t : List ℕ × ℤ) → Among t (numerators terms) → t.0 ≡ α → ⊥) → ((t : List ℕ × ℤ) → Among t (classical_product k (left ∷ right ∷ [])) → t.0 ≡ α → ⊥)
+        → coefficient (numerators terms) α ≡ coefficient (classical_product k (left ∷ right ∷ [])) α
+    both g h = no_label (numerators terms) α g ∙ sym (no_label (classical_product k (left ∷ right ∷ [])) α h)
+
+    by : (is_partition α ≡ true) ⊎ (is_partition α ≡ false) → (k < rows α) ⊎ (rows α ≤ k) → coefficient (numerators terms) α ≡ coefficient (classical_product k (left ∷ right ∷ [])) α
+    by (inl e) (inr l) =
+        let r = is_partition-tells α e in
+        c.counts α r l ∙ sym (product_counts k left right p q α r l) ∙ sym (classical_product-coefficient k (left ∷ right ∷ []) α r l)
+    by (inl e) (inl l) =
+        both (λ t m d. let r = label_of_counts k (product_count k left right) terms c t m in let a = r.1 in let b = ap length d in absurd (omega arith))
+        (λ t m d. let r = classical_product-term k (left ∷ right ∷ []) t m in let a = r.few in let b = ap length d in absurd (omega arith))
+    by (inr e) l =
+        both (λ t m d. let r = label_of_counts k (product_count k left right) terms c t m in both_ways (is_partition α) e (is_partition-from α (subst IsPartition d r.0)))
+        (λ t m d. let r = classical_product-term k (left ∷ right ∷ []) t m in both_ways (is_partition α) e (is_partition-from α (subst IsPartition d r.partition)))
+
+-- a coefficient is at most the sum of the absolute values of all
+coefficient_at_most : (terms : WholeTerms) (α : List ℕ) → coefficient terms α ≤ℤ pos (absolute_total terms)
+coefficient_at_most [] α = omega (arith, ints)
+coefficient_at_most (t ∷ terms) α = by (same t.0 α) (at_most t.1) (coefficient_at_most terms α)
+  where
+    at_most : (z : ℤ) → z ≤ℤ pos (nat_abs z)
+    at_most (pos n) = omega (arith, ints)
+    at_most (negsuc n) = omega (arith, ints)
+
+    by : (b : Bool) → t.1 ≤ℤ pos (nat_abs t.1) → coefficient terms α ≤ℤ pos (absolute_total terms) → (cond b t.1 (pos 0) +ℤ coefficient terms α) ≤ℤ pos (nat_abs t.1 + absolute_total terms)
+    by true one r = omega (arith, ints)
+    by false one r = omega (arith, ints)
+
+pub heavy_answer : (k : ℕ) (left right : List ℕ) → IsPartition left → IsPartition right → IsPastSomewhere k (product_count k left right) → 2 ^ 127 ≤ classical_weight k (left ∷ right ∷ [])
+heavy_answer k left right p q past =
+    let most = coefficient_at_most (classical_product k (left ∷ right ∷ [])) past.parts in
+    let is : coefficient (classical_product k (left ∷ right ∷ [])) past.parts ≡ pos (product_count k left right past.parts) =
+    classical_product-coefficient k (left ∷ right ∷ []) past.parts past.partition past.within ∙ product_counts k left right p q past.parts past.partition past.within in
+    let l = past.past in
+    omega (arith, ints)
+
+pub classical_if : (variables : Option ℕ) (m : ℕ) (left right : List ℕ) (terms : Terms (List ℕ)) → m ≡ unwrap_or variables (rows left + rows right) → IsPartition left → IsPartition right
+    → ListsCounts m (product_count m left right) terms → IfSome variables (λ k. Same (numerators terms) (classical_product k (left ∷ right ∷ [])))
+classical_if None m left right terms e p q c = tt
+classical_if (Some k) m left right terms e p q c = classical_answer k left right terms p q (subst (λ j. ListsCounts j (product_count j left right) terms) e c)
+
+pub heavy_if : (variables : Option ℕ) (m : ℕ) (left right : List ℕ) → m ≡ unwrap_or variables (rows left + rows right) → IsPartition left → IsPartition right
+    → IsPastSomewhere m (product_count m left right) → IfSome variables (λ k. 2 ^ 127 ≤ classical_weight k (left ∷ right ∷ []))
+heavy_if None m left right e p q past = tt
+heavy_if (Some k) m left right e p q past = heavy_answer k left right p q (subst (λ j. IsPastSomewhere j (product_count j left right)) e past)
+
+-- ---- skews
+
+skew_counts : (m : ℕ) (outer inner : List ℕ) → IsPartition outer → IsPartition inner → contains outer inner ≡ true → Counts m (skew_schur outer inner m) (skew_count outer inner)
+skew_counts m outer inner o i holds ν r l = skew_coefficients m outer inner ν o i holds r l
+
+pub same_skew : (n m : ℕ) (outer inner : List ℕ) → n ≡ min m (rows outer) → IsPartition outer → IsPartition inner → contains outer inner ≡ true
+    → SameCounts n m (good_count n [] outer inner) (skew_count outer inner)
+same_skew n m outer inner e o i holds =
+    same_counts n m [] outer inner (skew_count outer inner) (e ∙ ap (min m) (let z : rows outer ≡ rows [] + rows outer = omega arith in z)) IsPartition-none o i holds (omega arith)
+    (λ ν r l. times_respects (alternant (staircase m)) (alternant (staircase m)) (times (schur [] m) (skew_schur outer inner m)) (skew_schur outer inner m) (Same_refl (alternant (staircase m))) (nothing_times m outer inner o i) (join ν (staircase m))
+    ∙ skew_counts m outer inner o i holds ν r l)
+
+pub skew_answers : (variables : Option ℕ) (m : ℕ) (outer inner : List ℕ) (terms : Terms (List ℕ)) → m ≡ unwrap_or variables (rows outer) → IsPartition outer → IsPartition inner → contains outer inner ≡ true
+    → ListsCounts m (skew_count outer inner) terms → Meets (skew variables outer inner) (answer product terms)
+skew_answers variables m outer inner terms e o i holds c =
+    skew_meets variables outer inner terms o i holds (subst (λ k. ListsCounts k (skew_count outer inner) terms) (e ∙ variables_same variables (rows outer)) c)
+
+pub skew_past : (variables : Option ℕ) (m : ℕ) (outer inner : List ℕ) → m ≡ unwrap_or variables (rows outer) → IsPartition outer → IsPartition inner → contains outer inner ≡ true
+    → IsPastSomewhere m (skew_count outer inner) → HasPastCoefficient (skew variables outer inner)
+skew_past variables m outer inner e o i holds past =
+    subst (λ k. HasPast k (skew_schur outer inner k)) (e ∙ variables_same variables (rows outer)) (has_past m (skew_schur outer inner m) (skew_count outer inner) (skew_counts m outer inner o i holds) past)
+
+pub skew_fits : (variables : Option ℕ) (m : ℕ) (outer inner : List ℕ) → m ≡ unwrap_or variables (rows outer) → IsPartition outer → IsPartition inner → contains outer inner ≡ true
+    → ((ν : List ℕ) → IsPartition ν → rows ν ≤ m → skew_count outer inner ν < 2 ^ 127) → HasPastCoefficient (skew variables outer inner) → ⊥
+skew_fits variables m outer inner e o i holds small past =
+    has_none_past m (skew_schur outer inner m) (skew_count outer inner) (skew_counts m outer inner o i holds) small (subst (λ k. HasPast k (skew_schur outer inner k)) (sym (e ∙ variables_same variables (rows outer))) past)
+
+-- one shape inside another, by its test
+pub contains-tells : (outer inner : List ℕ) → contains outer inner ≡ true → Holds outer inner
+contains-tells outer inner h i = by outer inner (i - 1) h
+  where
+    by : (o n : List ℕ) (j : ℕ) → contains o n ≡ true → get_or n j 0 ≤ get_or o j 0
+    by o [] j e = omega arith
+    by [] (b ∷ n) zero e = let p = eqb-true b 0 (and_parts (b == 0) (contains [] n) e).0 in omega arith
+    by [] (b ∷ n) (suc j) e = by [] n j (and_parts (b == 0) (contains [] n) e).1
+    by (a ∷ o) (b ∷ n) zero e = leb-true b a (and_parts (nat_le b a) (contains o n) e).0
+    by (a ∷ o) (b ∷ n) (suc j) e = by o n j (and_parts (nat_le b a) (contains o n) e).1
+
+pub contains-from : (outer inner : List ℕ) → Holds outer inner → contains outer inner ≡ true
+contains-from outer inner h = by outer inner (λ j. let e : j + 1 - 1 ≡ j = omega arith in let k = h (j + 1) in subst (λ i. get_or inner i 0 ≤ get_or outer i 0) e k)
+  where
+    by : (o n : List ℕ) → ((j : ℕ) → get_or n j 0 ≤ get_or o j 0) → contains o n ≡ true
+    by o [] k = contains_nothing o
+    by [] (b ∷ n) k = and_from (b == 0) (contains [] n) (eq-eqb b 0 (let p = k 0 in omega arith)) (by [] n (λ j. let p = k (suc j) in none j p))
+      where
+        none : (j : ℕ) → get_or n j 0 ≤ 0 → get_or n j 0 ≤ get_or {A = ℕ} [] j 0
+        none zero p = p
+        none (suc j) p = p
+    by (a ∷ o) (b ∷ n) k = and_from (nat_le b a) (contains o n) (le-leb b a (k 0)) (by o n (λ j. k (suc j)))
+
+pub contains-false : (outer inner : List ℕ) → (Holds outer inner → ⊥) → contains outer inner ≡ false
+contains-false outer inner h = false_from_ne_true (contains outer inner) (λ e. h (contains-tells outer inner e))
+
+-- where the inner partition does not lie inside, the polynomial is 0
+skew_none : (outer inner : List ℕ) (n : ℕ) → contains outer inner ≡ false → skew_schur outer inner n ≡ []
+skew_none outer inner n h = ap (λ (b : Bool). map (λ (T : List (List ℕ)). (content n (letters_of T), pos 1)) (cond b (select (semistandard inner) (fillings_of n (row_lengths outer inner))) [])) h
+
+pub outside_answers : (variables : Option ℕ) (outer inner : List ℕ) → contains outer inner ≡ false → Meets (skew variables outer inner) (answer product [])
+outside_answers None outer inner h = λ n. represents-whole (λ label. schur label n) [] (skew_schur outer inner n) tt (λ α. ap (λ (f : Poly). coefficient f α) (sym (skew_none outer inner n h)))
+outside_answers (Some k) outer inner h = (represents-whole (λ label. schur label k) [] (skew_schur outer inner k) tt (λ α. ap (λ (f : Poly). coefficient f α) (sym (skew_none outer inner k h))), λ t m. absurd m)
+
+pub outside_fits : (variables : Option ℕ) (outer inner : List ℕ) → contains outer inner ≡ false → HasPastCoefficient (skew variables outer inner) → ⊥
+outside_fits variables outer inner h past =
+    let m = variables_or variables (rows outer) in
+    has_none_past m [] (λ ν. 0) (λ ν q l. coefficient_pair (times (alternant (staircase m)) []) (join ν (staircase m)) ∙ pair_times (alternant (staircase m)) [] (at_only (join ν (staircase m))) ∙ pair_zero (alternant (staircase m)))
+    (λ ν q l. omega arith) (subst (λ (f : Poly). HasPast m f) (skew_none outer inner m h) past)
+
+-- ---- one coefficient
+
+-- a product has the size of both factors together
+pub product_count-other_size : (outer left right : List ℕ) → IsPartition outer → IsPartition left → IsPartition right → (size left + size right ≡ size outer → ⊥) → product_count (rows outer) left right outer ≡ 0
+product_count-other_size outer left right o p q other =
+    let n = rows outer in
+    let ρ = staircase n in
+    let s = size-join outer ρ in
+    let zero : pos (product_count n left right outer) ≡ pos 0 =
+    sym (product_counts n left right p q outer o (omega arith))
+    ∙ coefficient-other_degree (size ρ + (size left + size right)) (times (alternant ρ) (times (schur left n) (schur right n))) (join outer ρ)
+    (times-of_degree (size ρ) (size left + size right) (alternant ρ) (times (schur left n) (schur right n)) (alternant-of_degree ρ)
+    (times-of_degree (size left) (size right) (schur left n) (schur right n) (schur-of_degree left n) (schur-of_degree right n)))
+    (λ e. other (omega arith)) in
+    omega (arith, ints)
+
+pub coef_past : (outer left right : List ℕ) → IsPartition outer → IsPartition left → IsPartition right → 2 ^ 127 ≤ product_count (rows outer) left right outer → HasPastCoefficient (coef outer left right)
+coef_past outer left right o p q h = (
+  pos (product_count (rows outer) left right outer),
+  sym (product_counts (rows outer) left right p q outer o (omega arith)),
+  le-leb (2 ^ 127) (product_count (rows outer) left right outer) h,
+)
+
+pub coef_fits : (outer left right : List ℕ) → IsPartition outer → IsPartition left → IsPartition right → product_count (rows outer) left right outer < 2 ^ 127 → HasPastCoefficient (coef outer left right) → ⊥
+coef_fits outer left right o p q h (c, d, past) =
+    let is : c ≡ pos (product_count (rows outer) left right outer) = d ∙ product_counts (rows outer) left right p q outer o (omega arith) in
+    let l = leb-true (2 ^ 127) (product_count (rows outer) left right outer) (sym (ap is_past is) ∙ past) in
+    absurd (omega arith)

@@ -1,0 +1,45 @@
+use Rattle.std.proofs.Common.{◌≡◌, true, subst, sym, ap, ◌∙◌}
+use Rattle.std.specs.Option.{unwrap_or}
+use Rattle.sym_model.specs.Partition.{rows}
+use Rattle.sym_model.specs.Command.{skew}
+use Rattle.sym_model.specs.Kind.{product}
+use Rattle.sym_model.specs.Answer.{answer}
+use Rattle.sym_model.specs.Target.{Meets}
+use Rattle.lr_product.proofs.GoodCounts.{contains-from, contains-false, outside_answers, outside_fits, skew_answers, skew_past, skew_fits}
+use Rattle.lr_product.proofs.Results.{if_answered, on_answered, on_any}
+use Rattle.lr_product.proofs.skew_expansion.skew.Goals as goal
+
+pub returns-then-not-contains-clause-meets : goal.returns-then-not-contains-clause-meets
+returns-then-not-contains-clause-meets c =
+    let outside = contains-false c.args.outer.now c.args.inner.now (λ h. let yes : c.contains.result ≡ true = c.contains.ensures.1 h in absurd (cc)) in
+    if_answered c.no_terms.result c.no_terms.ensures.none (λ terms e. subst (λ ts. Meets (skew c.args.rows c.args.outer.now c.args.inner.now) (answer product ts)) (sym e) (outside_answers c.args.rows c.args.outer.now c.args.inner.now outside))
+
+pub returns-then-not-contains-clause-fits : goal.returns-then-not-contains-clause-fits
+returns-then-not-contains-clause-fits c =
+    let outside = contains-false c.args.outer.now c.args.inner.now (λ h. let yes : c.contains.result ≡ true = c.contains.ensures.1 h in absurd (cc)) in
+    on_any c.no_terms.result (outside_fits c.args.rows c.args.outer.now c.args.inner.now outside)
+
+pub counts_in-requires-clause-inside : goal.counts_in-requires-clause-inside
+counts_in-requires-clause-inside c =
+    contains-from c.args.outer.now c.args.inner.now (c.contains.ensures.0 (cc))
+
+pub returns-clause-meets : goal.returns-clause-meets
+returns-clause-meets c =
+    let m : c.unwrap_or-variables.result ≡ unwrap_or c.args.rows (rows c.args.outer.now) = c.unwrap_or-variables.ensures ∙ ap (unwrap_or c.args.rows) c.rows.ensures.value in
+    let yes : c.contains.result ≡ true = cc in
+    let inside = contains-from c.args.outer.now c.args.inner.now (c.contains.ensures.0 yes) in
+    if_answered c.counts_in.result c.counts_in.ensures.counts (λ terms l. skew_answers c.args.rows c.unwrap_or-variables.result c.args.outer.now c.args.inner.now terms m c.counts_in.ensures.shape.0 c.counts_in.ensures.shape.1 inside l)
+
+pub returns-clause-large : goal.returns-clause-large
+returns-clause-large c = λ e.
+    let m : c.unwrap_or-variables.result ≡ unwrap_or c.args.rows (rows c.args.outer.now) = c.unwrap_or-variables.ensures ∙ ap (unwrap_or c.args.rows) c.rows.ensures.value in
+    let yes : c.contains.result ≡ true = cc in
+    let inside = contains-from c.args.outer.now c.args.inner.now (c.contains.ensures.0 yes) in
+    skew_past c.args.rows c.unwrap_or-variables.result c.args.outer.now c.args.inner.now m c.counts_in.ensures.shape.0 c.counts_in.ensures.shape.1 inside (c.counts_in.ensures.large e)
+
+pub returns-clause-fits : goal.returns-clause-fits
+returns-clause-fits c =
+    let m : c.unwrap_or-variables.result ≡ unwrap_or c.args.rows (rows c.args.outer.now) = c.unwrap_or-variables.ensures ∙ ap (unwrap_or c.args.rows) c.rows.ensures.value in
+    let yes : c.contains.result ≡ true = cc in
+    let inside = contains-from c.args.outer.now c.args.inner.now (c.contains.ensures.0 yes) in
+    on_answered c.counts_in.result c.counts_in.ensures.fits (skew_fits c.args.rows c.unwrap_or-variables.result c.args.outer.now c.args.inner.now m c.counts_in.ensures.shape.0 c.counts_in.ensures.shape.1 inside)

@@ -1,0 +1,113 @@
+//! Counts of good tableaux as lists of terms.
+ghost use Rattle.std.specs.Prelude.{◌≡◌, ℕ, ◌+◌, ◌^◌, ◌<◌, ◌≤◌, List, [], true, pos, length, nat_eq, IfOk, OnOk, IsErrOf};
+ghost use Rattle.std.specs.Cmp.Lexicographic.{pointwise};
+ghost use Rattle.sym_model.specs.Partition.{IsPartition, size, rows, without_last_zeros};
+ghost use Rattle.sym_model.specs.Schur.{contains};
+ghost use Rattle.partitions.specs.Limits.{IsWithinLimits};
+ghost use Rattle.coeff_rings.specs.Fractions.{whole};
+ghost use Rattle.sparse_polys.specs.Combination.{coefficient, HasMoreAt};
+ghost use Rattle.alternant_laws.specs.GoodSums.{ListsCounts};
+ghost use Rattle.lr_product.specs.WeighedSum.{weighed, unreached, comes_to};
+ghost use Rattle.lr_product.specs.Counts.{good_count, IsPastSomewhere};
+
+use crate::columns::ways_by_columns;
+use crate::state::State;
+use crate::step::entry_at;
+use crate::table::CAP;
+use calc_base::{NoMemory, SumFault};
+use coeff_rings::Int;
+use indexmap::IndexMap;
+use partitions::Partition;
+use sparse_polys::{Lin, Terms};
+use std::alloc::Global;
+
+/// For each partition the number of good tableaux of a skew shape for a start, in `letters` letters, that come to it.
+///
+/// It is refused as `Large` exactly where such a number is past 2^127 - 1.
+pub(crate) fn good_counts(
+    alloc: Global,
+    start: &[u16],
+    outer: &Partition,
+    inner: &[u16],
+    letters: u16,
+) -> Result<Terms<Partition, Int>, SumFault>
+    requires letters { letters ≤ 512 }
+    requires start { IsPartition start.now }
+    requires rows { rows start.now ≤ letters }
+    requires inside { contains outer.now inner.now ≡ true }
+    requires size { size start.now + size outer.now ≤ 4096 }
+    ensures counts { IfOk result (ListsCounts letters (good_count letters start.now outer.now inner.now)) }
+    ensures fits { OnOk result ((parts : List ℕ) → good_count letters start.now outer.now inner.now parts < 2 ^ 127) }
+    ensures large { IsErrOf result SumFault.Large → IsPastSomewhere letters (good_count letters start.now outer.now inner.now) }
+{
+    let table = match ways_by_columns(alloc, start, outer, inner, letters, &[]) {
+        Ok(table) => table,
+        Err(NoMemory) => return Err(SumFault::NoMemory),
+    };
+    terms_of_table(alloc, &table, letters)
+}
+
+/// The list with no terms.
+pub(crate) fn no_terms(alloc: Global) -> Result<Terms<Partition, Int>, SumFault>
+    ensures none { IfOk result (λ terms. terms ≡ []) }
+    ensures small { ¬ IsErrOf result SumFault.Large }
+{
+    let terms: Lin<Partition, Int> = Lin::new(alloc);
+    match terms.sorted_terms() {
+        Ok(terms) => Ok(terms),
+        Err(NoMemory) => Err(SumFault::NoMemory),
+    }
+}
+
+/// The numbers of ways to come to each sum, by the partition that the sum is.
+fn terms_of_table(
+    alloc: Global,
+    table: &IndexMap<State, u128>,
+    letters: u16,
+) -> Result<Terms<Partition, Int>, SumFault>
+    requires letters { letters ≤ 512 }
+    requires reached { weighed letters (unreached letters 4096) table.now.entries ≡ 0 }
+    ensures counts { IfOk result (ListsCounts letters (λ parts. weighed letters (comes_to parts) table.now.entries)) }
+    ensures fits { OnOk result ((parts : List ℕ) → weighed letters (comes_to parts) table.now.entries < 2 ^ 127) }
+    ensures large { IsErrOf result SumFault.Large → IsPastSomewhere letters (λ parts. weighed letters (comes_to parts) table.now.entries) }
+{
+    let mut terms: Lin<Partition, Int> = Lin::new(alloc);
+    for at in 0..table.len() {
+        let (state, ways) = entry_at(table, at);
+        if ways == 0 {
+            continue;
+        }
+        let sum = &state.numbers()[..usize::from(letters)];
+        if let Err(fault) = add_sum(alloc, &mut terms, sum, ways) {
+            return Err(fault);
+        }
+    }
+    match terms.sorted_terms() {
+        Ok(terms) => Ok(terms),
+        Err(NoMemory) => Err(SumFault::NoMemory),
+    }
+}
+
+/// Adds a count to the coefficient of the partition that a sum is.
+fn add_sum(
+    alloc: Global,
+    terms: &mut Lin<Partition, Int>,
+    sum: &[u16],
+    ways: u128,
+) -> Result<(), SumFault>
+    requires { IsWithinLimits (without_last_zeros sum.now) }
+    ensures more { OnOk result (HasMoreAt (pointwise nat_eq) terms.old (without_last_zeros sum.now) (whole (pos ways)) terms.new) }
+    ensures fits { OnOk result ((n : ℕ) → coefficient (pointwise nat_eq) terms.old (without_last_zeros sum.now) ≡ whole (pos n)
+        → n < 2 ^ 127 → n + ways < 2 ^ 127) }
+    ensures large { IsErrOf result SumFault.Large
+        → (n : ℕ) → coefficient (pointwise nat_eq) terms.old (without_last_zeros sum.now) ≡ whole (pos n) → 2 ^ 127 ≤ n + ways }
+{
+    if ways >= CAP {
+        return Err(SumFault::Large);
+    }
+    let label = match Partition::from_valid_numbers(alloc, sum) {
+        Ok(label) => label,
+        Err(NoMemory) => return Err(SumFault::NoMemory),
+    };
+    terms.add_term(label, Int::new(ways as i128))
+}

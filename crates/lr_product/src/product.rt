@@ -1,0 +1,71 @@
+//! Products of two Schur polynomials.
+ghost use Rattle.std.specs.Prelude.{◌≡◌, ◌+◌, ◌^◌, ◌<◌, ◌≤◌, ℕ, List, [], ◌∷◌, IfOk, OnOk, IfSome, IsErrOf};
+ghost use Rattle.std.specs.Option.{ForSome};
+ghost use Rattle.sym_model.specs.Partition.{IsPartition, size, rows as number_of_rows};
+ghost use Rattle.sym_model.specs.Polynomial.{Same};
+ghost use Rattle.sym_model.specs.WholeTerms.{numerators};
+ghost use Rattle.sym_model.specs.GoodTableau.{product_count};
+ghost use Rattle.sym_model.specs.Kind as kinds;
+ghost use Rattle.sym_model.specs.Answer.{answer};
+ghost use Rattle.sym_model.specs.Command as commands;
+ghost use Rattle.sym_model.specs.Target.{Meets, classical_product};
+ghost use Rattle.sym_model.specs.LargeAnswer.{HasPastCoefficient, classical_weight};
+ghost use Rattle.alternant_laws.specs.GoodSums.{ListsCounts};
+ghost use Rattle.lr_product.specs.Counts.{IsPastSomewhere};
+
+use crate::counts::{good_counts, no_terms};
+use calc_base::SumFault;
+use coeff_rings::Int;
+use partitions::Partition;
+use sparse_polys::Terms;
+use std::alloc::Global;
+
+/// The product of the Schur polynomials of `left` and `right` in Schur polynomials: in every number of variables, or,
+/// where `rows` is given, in so many, with the labels of at most so many rows alone.
+///
+/// It is refused as `Large` exactly where a coefficient is past 2^127 - 1.
+pub fn mult(
+    alloc: Global,
+    left: &Partition,
+    right: &Partition,
+    rows: Option<u16>,
+) -> Result<Terms<Partition, Int>, SumFault>
+    requires sizes { size left.now + size right.now ≤ 4096 }
+    requires lengths { number_of_rows left.now + number_of_rows right.now ≤ 512 }
+    requires variables { ForSome rows (λ k. (1 ≤ k) × (k ≤ 512)) }
+    ensures meets { IfOk result (λ terms. Meets (commands.mult rows left.now right.now) (answer kinds.product terms)) }
+    ensures large { IsErrOf result SumFault.Large → HasPastCoefficient (commands.mult rows left.now right.now) }
+    ensures fits { OnOk result (HasPastCoefficient (commands.mult rows left.now right.now) → ⊥) }
+
+    // In a number of variables it is the classical product, and a coefficient that is too large makes the sum of all so.
+    ensures classical { IfOk result (λ terms. IfSome rows (λ k.
+        Same (numerators terms) (classical_product k (left.now ∷ right.now ∷ [])))) }
+    ensures heavy { IsErrOf result SumFault.Large → IfSome rows (λ k.
+        2 ^ 127 ≤ classical_weight k (left.now ∷ right.now ∷ [])) }
+{
+    let variables = rows.unwrap_or(left.rows() + right.rows());
+    counts_in(alloc, left, right, variables)
+}
+
+/// The counts of good tableaux of the shape `right` for the start `left`, for the partitions with at most so many rows as
+/// there are variables. With more letters than both factors have rows there are no more tableaux.
+fn counts_in(
+    alloc: Global,
+    left: &Partition,
+    right: &Partition,
+    variables: u16,
+) -> Result<Terms<Partition, Int>, SumFault>
+    requires sizes { size left.now + size right.now ≤ 4096 }
+    requires variables { variables ≤ 512 }
+    ensures counts { IfOk result (ListsCounts variables (product_count variables left.now right.now)) }
+    ensures fits { OnOk result ((parts : List ℕ) → IsPartition parts → number_of_rows parts ≤ variables
+        → product_count variables left.now right.now parts < 2 ^ 127) }
+    ensures large { IsErrOf result SumFault.Large → IsPastSomewhere variables (product_count variables left.now right.now) }
+    ensures factors { IsPartition left.now × IsPartition right.now }
+{
+    let letters = variables.min(left.rows() + right.rows());
+    if left.rows() > letters {
+        return no_terms(alloc);
+    }
+    good_counts(alloc, left.parts(), right, &[], letters)
+}

@@ -1,0 +1,62 @@
+//! Skew Schur polynomials in Schur polynomials.
+ghost use Rattle.std.specs.Prelude.{◌≡◌, ◌^◌, ◌<◌, ◌≤◌, ℕ, List, true, IfOk, OnOk, IsErrOf};
+ghost use Rattle.std.specs.Option.{ForSome};
+ghost use Rattle.sym_model.specs.Partition.{IsPartition, rows as number_of_rows};
+ghost use Rattle.sym_model.specs.Schur.{contains};
+ghost use Rattle.sym_model.specs.GoodTableau.{skew_count};
+ghost use Rattle.sym_model.specs.Kind as kinds;
+ghost use Rattle.sym_model.specs.Answer.{answer};
+ghost use Rattle.sym_model.specs.Command as commands;
+ghost use Rattle.sym_model.specs.Target.{Meets};
+ghost use Rattle.sym_model.specs.LargeAnswer.{HasPastCoefficient};
+ghost use Rattle.alternant_laws.specs.GoodSums.{ListsCounts};
+ghost use Rattle.lr_product.specs.Counts.{IsPastSomewhere};
+
+use crate::counts::{good_counts, no_terms};
+use calc_base::SumFault;
+use coeff_rings::Int;
+use partitions::Partition;
+use sparse_polys::Terms;
+use std::alloc::Global;
+
+/// The skew Schur polynomial of `outer` by `inner` in Schur polynomials: in every number of variables, or, where `rows`
+/// is given, in so many, with the labels of at most so many rows alone. It is 0 where `inner` does not lie inside `outer`.
+///
+/// It is refused as `Large` exactly where a coefficient is past 2^127 - 1.
+pub fn skew(
+    alloc: Global,
+    outer: &Partition,
+    inner: &Partition,
+    rows: Option<u16>,
+) -> Result<Terms<Partition, Int>, SumFault>
+    requires { ForSome rows (λ k. (1 ≤ k) × (k ≤ 512)) }
+    ensures meets { IfOk result (λ terms. Meets (commands.skew rows outer.now inner.now) (answer kinds.product terms)) }
+    ensures large { IsErrOf result SumFault.Large → HasPastCoefficient (commands.skew rows outer.now inner.now) }
+    ensures fits { OnOk result (HasPastCoefficient (commands.skew rows outer.now inner.now) → ⊥) }
+{
+    if !outer.contains(inner) {
+        return no_terms(alloc);
+    }
+    let variables = rows.unwrap_or(outer.rows());
+    counts_in(alloc, outer, inner, variables)
+}
+
+/// The counts of lattice tableaux of the shape, for the partitions with at most so many rows as there are variables. With more
+/// letters than `outer` has rows there are no more tableaux.
+fn counts_in(
+    alloc: Global,
+    outer: &Partition,
+    inner: &Partition,
+    variables: u16,
+) -> Result<Terms<Partition, Int>, SumFault>
+    requires inside { contains outer.now inner.now ≡ true }
+    requires variables { variables ≤ 512 }
+    ensures counts { IfOk result (ListsCounts variables (skew_count outer.now inner.now)) }
+    ensures fits { OnOk result ((parts : List ℕ) → IsPartition parts → number_of_rows parts ≤ variables
+        → skew_count outer.now inner.now parts < 2 ^ 127) }
+    ensures large { IsErrOf result SumFault.Large → IsPastSomewhere variables (skew_count outer.now inner.now) }
+    ensures shape { IsPartition outer.now × IsPartition inner.now }
+{
+    let letters = variables.min(outer.rows());
+    good_counts(alloc, &[], outer, inner.parts(), letters)
+}
