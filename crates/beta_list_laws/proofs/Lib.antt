@@ -2,3 +2,4 @@ pub mod NeighbourExchanges
 pub mod BetaLists
 pub mod SortedLists
 pub mod BetaRemovals
+pub mod BetaLowerings

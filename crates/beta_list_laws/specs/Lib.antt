@@ -1,1 +1,2 @@
 pub mod StrictFall
+pub mod FullBetaList

@@ -1,11 +1,12 @@
 //! Beta lists and partitions determine each other.
 
-ghost use Rattle.std.specs.Prelude.{◌≡◌, ℕ, ◌+◌, ◌≤◌, List, ◌∷◌, ◌++◌, length};
+ghost use Rattle.std.specs.Prelude.{◌≡◌, ℕ, ◌+◌, ◌≤◌, ◌↔◌, List, ◌∷◌, ◌++◌, length};
 ghost use Rattle.sym_model.specs.Partition.{Falls, IsPartition, size, rows};
 ghost use Rattle.sym_model.specs.Alternant.{staircase};
 ghost use Rattle.sym_model.specs.BetaList.{beta, from_beta};
 ghost use Rattle.sym_model.specs.Strip.{height};
-ghost use Rattle.sym_model.specs.RimHookReduction.{IsRemoval};
+ghost use Rattle.sym_model.specs.RimHookReduction.{IsRemoval, HasNoRemoval};
+ghost use Rattle.beta_list_laws.specs.FullBetaList.{IsFull};
 ghost use Rattle.beta_list_laws.specs.StrictFall.{FallsStrictly};
 
 /// The beta list of a partition with at most k rows has k entries and falls strictly, and the
@@ -35,4 +36,17 @@ pub fn beta_removal_law()
         → FallsStrictly (left ++ ((y + n) ∷ (middle ++ right))) → FallsStrictly (left ++ (middle ++ (y ∷ right)))
         → height (from_beta (left ++ ((y + n) ∷ (middle ++ right)))) (from_beta (left ++ (middle ++ (y ∷ right))))
         ≡ length middle + 1 }
+{}
+
+/// Each removal of a rim hook of n cells lowers an entry of the beta list by n, past one entry less
+/// than the rim hook has rows, and leaves no row more. There is none exactly where the list is full.
+pub fn beta_lowering_law()
+    ensures lowered { (k n : ℕ) (shape left : List ℕ) → IsPartition shape → rows shape ≤ k → IsRemoval n shape left
+        → (y : ℕ) × (front : List ℕ) × (middle : List ℕ) × (back : List ℕ)
+        × (beta k shape ≡ front ++ ((y + n) ∷ (middle ++ back)))
+        × (beta k left ≡ front ++ (middle ++ (y ∷ back)))
+        × (height shape left ≡ length middle + 1) }
+    ensures rows { (n : ℕ) (shape left : List ℕ) → IsRemoval n shape left → rows left ≤ rows shape }
+    ensures full { (k n : ℕ) (shape : List ℕ) → 1 ≤ n → IsPartition shape → rows shape ≤ k
+        → (HasNoRemoval n shape ↔ IsFull n (beta k shape)) }
 {}

@@ -7,5 +7,5 @@
 mod beta_lists;
 mod sorting;
 
-pub use beta_lists::{beta_list_law, beta_removal_law};
+pub use beta_lists::{beta_list_law, beta_lowering_law, beta_removal_law};
 pub use sorting::sorting_law;

@@ -1,0 +1,292 @@
+-- Each removal of a rim hook lowers an entry of the beta list, and no entry can be lowered where the list is full.
+--     removal_lowers      the entry that a removal lowers, and the entries that it passes
+--     fewer_rows          a removal leaves no row more
+--     lowers_or_full      a strictly falling list has an entry that can be lowered, or is full
+--     full_none           nothing can be lowered in a full list
+use Rattle.std.proofs.Common.{◌≡◌, ℕ, zero, suc, ◌+◌, ◌-◌, ◌<◌, ◌≤◌, ◌⊎◌, ◌↔◌, inl, inr, true, false, List, [], ◌∷◌, ◌++◌, map, length, get_or, refl, sym, ◌∙◌, ap, ap₂, subst, arith}
+use Rattle.std.proofs.lemmas.Bool.{cases_lt, cases_eq, cases_Bool}
+use Rattle.sym_model.specs.Partition.{ArePositive, IsPartition, rows, part, after}
+use Rattle.sym_model.specs.Bases.{has}
+use Rattle.sym_model.specs.BetaList.{beta, from_beta}
+use Rattle.sym_model.specs.Strip.{height}
+use Rattle.sym_model.specs.RimHookReduction.{IsRemoval, HasNoRemoval}
+use Rattle.sym_model.proofs.AfterLists.{length_after}
+use Rattle.sym_model.proofs.SortedParts.{has_here, has_past}
+use Rattle.std.proofs.lemmas.List.{length-map}
+use Rattle.strip_laws.specs.HookRows.{IsHookRows}
+use Rattle.strip_laws.proofs.RimHooks.{hook_rows, height_of_rows, past_end}
+use Rattle.strip_laws.proofs.HookSizes.{hook_size}
+use Rattle.beta_list_laws.specs.StrictFall.{FallsStrictly}
+use Rattle.beta_list_laws.specs.FullBetaList.{IsFull}
+use Rattle.beta_list_laws.proofs.BetaLists.{beta_strict, from_beta-beta, strict_tail}
+use Rattle.beta_list_laws.proofs.BetaRemovals.{before, lowered, shown_removal}
+
+-- b with an entry lowered by n, past the entries of middle, is c
+pub record Lowers (n : ℕ) (b c : List ℕ) (passed : ℕ) : Type 0 where
+  pub front : List ℕ
+  pub entry : ℕ
+  pub middle : List ℕ
+  pub back : List ℕ
+  pub from : b ≡ before n entry front middle back
+  pub to : c ≡ lowered entry front middle back
+  pub passes : passed ≡ length middle
+
+-- ---- from a removal to the lowered entry
+
+positive_at : (parts : List ℕ) → ArePositive parts → (i : ℕ) → i < length parts → 1 ≤ get_or parts i 0
+positive_at [] p i h = absurd (omega arith)
+positive_at (a ∷ parts) p zero h = p.0
+positive_at (a ∷ parts) p (suc i) h = positive_at parts p.1 i (omega arith)
+
+part_of : (parts : List ℕ) (i : ℕ) → part parts (i + 1) ≡ get_or parts i 0
+part_of parts i = let e : i + 1 - 1 ≡ i = omega arith in ap (λ k. get_or parts k 0) e
+
+pub fewer_rows : (n : ℕ) (shape left : List ℕ) → IsRemoval n shape left → rows left ≤ rows shape
+fewer_rows n shape left r = elim (cases_lt (length shape) (length left)) [
+  | inr h ↦ h
+  | inl h ↦ (
+      let a = positive_at left r.partition.positive (length shape) h in
+      let b = past_end shape (length shape) (omega arith) in
+      let c = r.hook.holds (length shape + 1) in
+      let d = part_of left (length shape) in
+      let e = part_of shape (length shape) in
+      absurd (omega (arith, a, b, c, d, e)))
+]
+
+after_append : (a m k : ℕ) → after a (m + k) ≡ after a m ++ after (a + m) k
+after_append a zero k = let e : zero + k ≡ k = omega arith in let d : a ≡ a + 0 = omega arith in ap (after a) e ∙ ap (λ c. after c k) d
+after_append a (suc m) k =
+    let e : suc m + k ≡ suc (m + k) = omega arith in
+    let d : a + 1 + m ≡ a + suc m = omega arith in
+    ap (after a) e ∙ ap (λ l. (a + 1) ∷ l) (after_append (a + 1) m k) ∙ ap (λ c. (a + 1) ∷ (after (a + 1) m ++ after c k)) d
+
+map_append : (f : ℕ → ℕ) (s t : List ℕ) → map f (s ++ t) ≡ map f s ++ map f t
+map_append f [] t = refl
+map_append f (x ∷ s) t = ap (λ l. f x ∷ l) (map_append f s t)
+
+map_after_same : (f g : ℕ → ℕ) (a k : ℕ) → ((i : ℕ) → a < i → i ≤ a + k → f i ≡ g i) → map f (after a k) ≡ map g (after a k)
+map_after_same f g a zero e = refl
+map_after_same f g a (suc k) e = ap₂ ◌∷◌ (e (a + 1) (omega arith) (omega arith)) (map_after_same f g (a + 1) k (λ i h l. e i (omega arith) (omega arith)))
+
+map_after_next : (f g : ℕ → ℕ) (a k : ℕ) → ((i : ℕ) → a < i → i ≤ a + k → f (i + 1) ≡ g i) → map f (after (a + 1) k) ≡ map g (after a k)
+map_after_next f g a zero e = refl
+map_after_next f g a (suc k) e = ap₂ ◌∷◌ (e (a + 1) (omega arith) (omega arith)) (map_after_next f g (a + 1) k (λ i h l. e i (omega arith) (omega arith)))
+
+-- the values at the places 1, .., k, split before and after the place a + 1
+split_at : (f : ℕ → ℕ) (k a d c : ℕ) → k ≡ a + suc (d + c) → map f (after 0 k) ≡ map f (after 0 a) ++ (f (a + 1) ∷ (map f (after (a + 1) d) ++ map f (after (a + 1 + d) c)))
+split_at f k a d c e =
+    ap (λ m. map f (after 0 m)) e
+    ∙ ap (map f) (after_append 0 a (suc (d + c)))
+    ∙ map_append f (after 0 a) (after (0 + a) (suc (d + c)))
+    ∙ ap (λ z. map f (after 0 a) ++ map f (after z (suc (d + c)))) zero_plus
+    ∙ ap (λ l. map f (after 0 a) ++ (f (a + 1) ∷ map f l)) (after_append (a + 1) d c)
+    ∙ ap (λ l. map f (after 0 a) ++ (f (a + 1) ∷ l)) (map_append f (after (a + 1) d) (after (a + 1 + d) c))
+  where
+    zero_plus : 0 + a ≡ a
+    zero_plus = omega arith
+
+-- and before and after the place a + d + 1
+split_later : (f : ℕ → ℕ) (k a d c : ℕ) → k ≡ a + suc (d + c) → map f (after 0 k) ≡ map f (after 0 a) ++ (map f (after a d) ++ (f (a + d + 1) ∷ map f (after (a + 1 + d) c)))
+split_later f k a d c e =
+    ap (λ m. map f (after 0 m)) length_is
+    ∙ ap (map f) (after_append 0 a (d + suc c))
+    ∙ map_append f (after 0 a) (after (0 + a) (d + suc c))
+    ∙ ap (λ z. map f (after 0 a) ++ map f (after z (d + suc c))) zero_plus
+    ∙ ap (λ l. map f (after 0 a) ++ map f l) (after_append a d (suc c))
+    ∙ ap (λ l. map f (after 0 a) ++ l) (map_append f (after a d) (after (a + d) (suc c)))
+    ∙ ap (λ z. map f (after 0 a) ++ (map f (after a d) ++ (f (a + d + 1) ∷ map f (after z c)))) place
+  where
+    length_is : k ≡ a + (d + suc c)
+    length_is = omega (arith, e)
+
+    zero_plus : 0 + a ≡ a
+    zero_plus = omega arith
+
+    place : a + d + 1 ≡ a + 1 + d
+    place = omega arith
+
+-- the values f at the places and the values g, where f at the place a + 1 is y + n and g at the place a + d + 1 is y, the
+-- places between are chained, and the others agree
+lowered_values : (f g : ℕ → ℕ) (n y k a d c : ℕ) → k ≡ a + suc (d + c) → f (a + 1) ≡ y + n → g (a + d + 1) ≡ y
+    → ((i : ℕ) → 0 < i → i ≤ a → f i ≡ g i) → ((i : ℕ) → a < i → i ≤ a + d → f (i + 1) ≡ g i) → ((i : ℕ) → a + 1 + d < i → i ≤ a + 1 + d + c → f i ≡ g i)
+    → Lowers n (map f (after 0 k)) (map g (after 0 k)) d
+lowered_values f g n y k a d c e top low above between below =
+    let fronts = map_after_same f g 0 a (λ i h l. above i h (omega arith)) in
+    let middles = map_after_next f g a d between in
+    let backs = map_after_same f g (a + 1 + d) c below in
+    record {
+      front = map f (after 0 a);
+      entry = y;
+      middle = map f (after (a + 1) d);
+      back = map f (after (a + 1 + d) c);
+      from = split_at f k a d c e ∙ ap (λ x. map f (after 0 a) ++ (x ∷ (map f (after (a + 1) d) ++ map f (after (a + 1 + d) c)))) top;
+      to =
+          split_later g k a d c e
+          ∙ ap (λ x. map g (after 0 a) ++ (map g (after a d) ++ (x ∷ map g (after (a + 1 + d) c)))) low
+          ∙ ap (λ l. l ++ (map g (after a d) ++ (y ∷ map g (after (a + 1 + d) c)))) (sym fronts)
+          ∙ ap (λ l. map f (after 0 a) ++ (l ++ (y ∷ map g (after (a + 1 + d) c)))) (sym middles)
+          ∙ ap (λ l. map f (after 0 a) ++ (map f (after (a + 1) d) ++ (y ∷ l))) (sym backs);
+      passes = sym (length-map (after (a + 1) d) f ∙ length_after (a + 1) d);
+    }
+
+last_within : (outer inner : List ℕ) (last : ℕ) → 1 ≤ last → part inner last < part outer last → last ≤ length outer
+last_within outer inner last c h = elim (cases_lt (length outer) last) [ inl l ↦ absurd (let e = past_end outer (last - 1) (omega arith) in omega (arith, e, h)) | inr l ↦ l ]
+
+rows_lower : (k n : ℕ) (shape left : List ℕ) (first last : ℕ) → rows shape ≤ k → IsRemoval n shape left → IsHookRows shape left first last
+    → Lowers n (beta k shape) (beta k left) (last - first)
+rows_lower k n shape left first last l r h =
+    let p = h.counts in
+    let q = h.ordered in
+    let w = last_within shape left last (omega arith) h.end in
+    let s = hook_size shape left first last h in
+    let t = r.cells in
+    let a = first - 1 in
+    let place : a + 1 ≡ first = omega arith in
+    let place_last : a + (last - first) + 1 ≡ last = omega arith in
+    lowered_values (λ i. part shape i + (k - i)) (λ i. part left i + (k - i)) n (part left last + (k - last)) k a (last - first) (k - last)
+    (omega arith)
+    (ap (λ i. part shape i + (k - i)) place ∙ omega (arith, s, t))
+    (ap (λ i. part left i + (k - i)) place_last)
+    (λ i u v. ap (λ m. m + (k - i)) (h.above i u (omega arith)))
+    (λ i u v. let e = h.chained i (omega arith) (omega arith) in omega arith)
+    (λ i u v. ap (λ m. m + (k - i)) (h.below i (omega arith)))
+
+-- a removal lowers an entry of the beta list, past one entry less than its rim hook has rows
+pub removal_lowers : (k n : ℕ) (shape left : List ℕ) → IsPartition shape → rows shape ≤ k → IsRemoval n shape left
+    → (passed : ℕ) × Lowers n (beta k shape) (beta k left) passed × (height shape left ≡ passed + 1)
+removal_lowers k n shape left p l r =
+    let h = hook_rows shape left p.falls r.partition.falls r.hook in
+    by h.0 h.1 h.2
+  where
+    by : (first last : ℕ) → IsHookRows shape left first last → (passed : ℕ) × Lowers n (beta k shape) (beta k left) passed × (height shape left ≡ passed + 1)
+    by first last h =
+        let e = height_of_rows shape left first last p.falls h in
+        let o = h.ordered in
+        (last - first, rows_lower k n shape left first last l r h, omega arith)
+
+-- ---- full lists
+
+place_for : (y : ℕ) (b : List ℕ) → FallsStrictly b → has y b ≡ false → (middle : List ℕ) × (back : List ℕ) × (b ≡ middle ++ back) × FallsStrictly (middle ++ (y ∷ back))
+place_for y [] f h = ([], [], refl, tt)
+place_for y (x ∷ b) f h = by (cases_lt y x) (cases_eq x y) (place_for y b (strict_tail x b f))
+  where
+    not_first : x ≡ y → ⊥
+    not_first e = let t : has y (x ∷ b) ≡ true = has_here y x b e in let u = sym t ∙ h in cc
+
+    front_strict : (m back : List ℕ) → b ≡ m ++ back → y < x → FallsStrictly (m ++ (y ∷ back)) → FallsStrictly (x ∷ (m ++ (y ∷ back)))
+    front_strict [] back e l g = (l, g)
+    front_strict (z ∷ m) back e l g = (first (subst (λ c. FallsStrictly (x ∷ c)) e f), g)
+      where
+        first : FallsStrictly (x ∷ (z ∷ (m ++ back))) → z < x
+        first k = k.0
+
+    by : (y < x) ⊎ (x ≤ y) → (x ≡ y) ⊎ (x ≡ y → ⊥) → (has y b ≡ false → (middle : List ℕ) × (back : List ℕ) × (b ≡ middle ++ back) × FallsStrictly (middle ++ (y ∷ back)))
+        → (middle : List ℕ) × (back : List ℕ) × (x ∷ b ≡ middle ++ back) × FallsStrictly (middle ++ (y ∷ back))
+    by a (inl e) later = absurd (not_first e)
+    by (inr l) (inr d) later = ([], x ∷ b, refl, (omega (arith, l, d), f))
+    by (inl l) (inr d) later =
+        let r = later (sym (has_past y x b d) ∙ h) in
+        (x ∷ r.0, r.1, ap (λ c. x ∷ c) r.2, front_strict r.0 r.1 r.2 l r.3)
+
+-- an entry of a strictly falling list can be lowered
+pub record CanLower (n : ℕ) (b : List ℕ) : Type 0 where
+  pub front : List ℕ
+  pub entry : ℕ
+  pub middle : List ℕ
+  pub back : List ℕ
+  pub from : b ≡ before n entry front middle back
+  pub strict : FallsStrictly (lowered entry front middle back)
+
+-- a strict list under a greater first entry, when an entry was lowered
+under_first : (n x : ℕ) (b : List ℕ) (l : CanLower n b) → FallsStrictly (x ∷ b) → CanLower n (x ∷ b)
+under_first n x b l f = record {
+  front = x ∷ l.front;
+  entry = l.entry;
+  middle = l.middle;
+  back = l.back;
+  from = ap (λ c. x ∷ c) l.from;
+  strict = by l.front l.middle (subst (λ c. FallsStrictly (x ∷ c)) l.from f) l.strict;
+}
+  where
+    by : (front middle : List ℕ) → FallsStrictly (x ∷ before n l.entry front middle l.back) → FallsStrictly (lowered l.entry front middle l.back) → FallsStrictly (x ∷ lowered l.entry front middle l.back)
+    by (z ∷ front) middle g h = (g.0, h)
+    by [] [] g h = (let a = g.0 in omega (arith, a), h)
+    by [] (z ∷ middle) g h = (let a = g.0 in let c = g.1.0 in omega (arith, a, c), h)
+
+pub lowers_or_full : (n : ℕ) (b : List ℕ) → FallsStrictly b → CanLower n b ⊎ IsFull n b
+lowers_or_full n [] f = inr tt
+lowers_or_full n (x ∷ b) f = by (lowers_or_full n b (strict_tail x b f)) (cases_lt x n) (cases_Bool (has (x - n) b))
+  where
+    here : n ≤ x → has (x - n) b ≡ false → CanLower n (x ∷ b)
+    here l e =
+        let r = place_for (x - n) b (strict_tail x b f) e in
+        let sum : x ≡ x - n + n = omega arith in
+        record {
+          front = [];
+          entry = x - n;
+          middle = r.0;
+          back = r.1;
+          from = ap₂ ◌∷◌ sum r.2;
+          strict = r.3;
+        }
+
+    by : CanLower n b ⊎ IsFull n b → (x < n) ⊎ (n ≤ x) → (has (x - n) b ≡ true) ⊎ (has (x - n) b ≡ false) → CanLower n (x ∷ b) ⊎ IsFull n (x ∷ b)
+    by (inl l) c d = inl (under_first n x b l f)
+    by (inr g) (inl l) d = inr (λ h. absurd (omega (arith, h, l)), g)
+    by (inr g) (inr l) (inl e) = inr (λ h. e, g)
+    by (inr g) (inr l) (inr e) = inl (here l e)
+
+-- an entry of a list whose first entry is smaller does not stand in it
+not_below : (y z : ℕ) (b : List ℕ) → FallsStrictly (y ∷ b) → y ≤ z → has z b ≡ false
+not_below y z [] f l = refl
+not_below y z (x ∷ b) f l = let h = f.0 in has_past z x b (λ e. omega (arith, e, h, l)) ∙ not_below x z b f.1 (omega (arith, h, l))
+
+absent : (y : ℕ) (middle back : List ℕ) → FallsStrictly (middle ++ (y ∷ back)) → has y (middle ++ back) ≡ false
+absent y [] back f = not_below y y back f (omega arith)
+absent y (x ∷ middle) back f =
+    has_past y x (middle ++ back) (λ e. let l = above x middle f in omega (arith, e, l)) ∙ absent y middle back (strict_tail x (middle ++ (y ∷ back)) f)
+  where
+    above : (z : ℕ) (m : List ℕ) → FallsStrictly (z ∷ (m ++ (y ∷ back))) → y < z
+    above z [] g = g.0
+    above z (w ∷ m) g = let a = g.0 in let c = above w m g.1 in omega (arith, a, c)
+
+pub full_none : (n y : ℕ) (front middle back : List ℕ) → IsFull n (before n y front middle back) → FallsStrictly (lowered y front middle back) → ⊥
+full_none n y [] middle back g f =
+    let e : y + n - n ≡ y = omega arith in
+    let t = ap (λ z. has z (middle ++ back)) (sym e) ∙ g.0 (omega arith) in
+    let u = sym t ∙ absent y middle back f in
+    cc
+full_none n y (x ∷ front) middle back g f = full_none n y front middle back g.1 (strict_tail x (lowered y front middle back) f)
+
+-- nothing can be removed exactly where the beta list is full
+pub full_stays : (k n : ℕ) (shape : List ℕ) → IsPartition shape → rows shape ≤ k → IsFull n (beta k shape) → HasNoRemoval n shape
+full_stays k n shape p l g left r =
+    let h = removal_lowers k n shape left p l r in
+    let w = h.1 in
+    full_none n w.entry w.front w.middle w.back (subst (IsFull n) w.from g) (subst FallsStrictly w.to (beta_strict k left r.partition.falls))
+
+-- where an entry can be lowered, the partition of the lowered list is left by a removal
+pub lowering_removes : (k n : ℕ) (shape : List ℕ) → 1 ≤ n → IsPartition shape → rows shape ≤ k → (l : CanLower n (beta k shape))
+    → IsRemoval n shape (from_beta (lowered l.entry l.front l.middle l.back))
+lowering_removes k n shape h p r l =
+    let e = sym (ap from_beta l.from) ∙ from_beta-beta k shape p r in
+    subst (λ s. IsRemoval n s (from_beta (lowered l.entry l.front l.middle l.back))) e
+    (shown_removal n l.entry l.front l.middle l.back h (subst FallsStrictly l.from (beta_strict k shape p.falls)) l.strict)
+
+pub stays_full : (k n : ℕ) (shape : List ℕ) → 1 ≤ n → IsPartition shape → rows shape ≤ k → HasNoRemoval n shape → IsFull n (beta k shape)
+stays_full k n shape h p r none = elim (lowers_or_full n (beta k shape) (beta_strict k shape p.falls)) [
+  | inl l ↦ absurd (none (from_beta (lowered l.entry l.front l.middle l.back)) (lowering_removes k n shape h p r l))
+  | inr g ↦ g
+]
+
+-- ---- as the laws say it
+
+pub removal_as_lowered : (k n : ℕ) (shape left : List ℕ) → IsPartition shape → rows shape ≤ k → IsRemoval n shape left
+    → (y : ℕ) × (front : List ℕ) × (middle : List ℕ) × (back : List ℕ) × (beta k shape ≡ before n y front middle back) × (beta k left ≡ lowered y front middle back) × (height shape left ≡ length middle + 1)
+removal_as_lowered k n shape left p l r =
+    let h = removal_lowers k n shape left p l r in
+    let w = h.1 in
+    (w.entry, w.front, w.middle, w.back, w.from, w.to, h.2 ∙ ap (λ m. m + 1) w.passes)
+
+pub none_where_full : (k n : ℕ) (shape : List ℕ) → 1 ≤ n → IsPartition shape → rows shape ≤ k → HasNoRemoval n shape ↔ IsFull n (beta k shape)
+none_where_full k n shape h p r = (stays_full k n shape h p r, full_stays k n shape p r)

@@ -1,0 +1,8 @@
+-- Beta lists in which no entry can be lowered (James and Kerber, 2.7: the beta list of a core).
+use Rattle.std.specs.Prelude.{◌≡◌, ℕ, ◌-◌, ◌≤◌, true, List, [], ◌∷◌}
+use Rattle.sym_model.specs.Bases.{has}
+
+-- with each entry of at least n stands, further right, that entry less n
+abbrev pub IsFull : ℕ → List ℕ → Type 0
+IsFull n [] = Unit {0}
+IsFull n (x ∷ b) = (n ≤ x → has (x - n) b ≡ true) × IsFull n b

@@ -1,0 +1,3 @@
+pub mod LowestList
+pub mod AlcoveEnd
+pub mod ReductionLists

@@ -1,0 +1,34 @@
+-- The end of all removals of rim hooks from a partition, by the remainders of its beta list (James and Kerber, 2.7).
+use Rattle.std.specs.Prelude.{ℕ, ◌+◌, ◌-◌, ◌*◌, ◌/◌, ◌%◌, ◌==◌, nat_le, cond, ℤ, List, [], ◌∷◌, Option, Some, None}
+use Rattle.sym_model.specs.Partition.{size, columns}
+use Rattle.sym_model.specs.PlaceOrders.{minus_one_to}
+use Rattle.sym_model.specs.BetaList.{beta, from_beta, sorted_falling, rising_pairs}
+
+-- how many entries of the list leave the same remainder modulo n as x
+abbrev pub alike : ℕ → ℕ → List ℕ → ℕ
+alike n x [] = 0
+alike n x (y ∷ b) = cond (y % n == x % n) 1 0 + alike n x b
+
+-- each entry lowered by multiples of n as far as the entries after it, lowered before, leave room
+abbrev pub lowest : ℕ → List ℕ → List ℕ
+lowest n [] = []
+lowest n (x ∷ b) = (x % n + alike n x b * n) ∷ lowest n b
+
+-- the partition where all removals of n-cell rim hooks from a partition with at most k rows end
+abbrev pub end_of : ℕ → ℕ → List ℕ → List ℕ
+end_of k n shape = from_beta (sorted_falling (lowest n (beta k shape)))
+
+-- the number of removals
+abbrev pub power_of : ℕ → ℕ → List ℕ → ℕ
+power_of k n shape = (size shape - size (end_of k n shape)) / n
+
+-- the product of their signs
+abbrev pub end_sign : ℕ → ℕ → List ℕ → ℤ
+end_sign k n shape = minus_one_to (power_of k n shape * (k + 1) + rising_pairs (lowest n (beta k shape)))
+
+-- the end with its sign and power, or nothing where it has more than n - k columns
+abbrev pub reduction_by_remainders : ℕ → ℕ → List ℕ → Option (List ℕ × ℤ × ℕ)
+reduction_by_remainders k n shape =
+    cond (nat_le (k + columns (end_of k n shape)) n)
+    (Some (end_of k n shape, end_sign k n shape, power_of k n shape))
+    None

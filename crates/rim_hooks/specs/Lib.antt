@@ -1,0 +1,8 @@
+pub mod Signs
+pub mod Sorting
+pub mod Counts
+pub mod Reduced
+pub mod Turns
+pub mod AlcoveOf
+pub mod Collected
+pub mod ReducedLists

@@ -1,0 +1,18 @@
+-- Lists with different remainders, and their sums.
+use Rattle.std.specs.Prelude.{◌≡◌, ℕ, ◌+◌, ◌*◌, ◌≤◌, false, List, length}
+use Rattle.sym_model.specs.Partition.{size}
+use Rattle.sym_model.specs.BetaList.{has_equal_entries}
+use Rattle.reduction_laws.specs.AlcoveEnd.{remainders}
+use Rattle.rim_hooks.specs.Counts.{Counts}
+use Rattle.rim_hooks.specs.declared.reflections.Turns.{Turns}
+
+-- the remainders differ and are counted, and with so many times n they make the sum of the list
+pub record AreTurned (n : ℕ) (counts list : List ℕ) (turns : ℕ) : Type 0 where
+  pub differ : has_equal_entries (remainders n list) ≡ false
+  pub counted : Counts n counts list
+  pub sum : size list ≡ size (remainders n list) + turns * n
+  pub bound : turns ≤ 65535 * length list
+
+-- the same of the record
+abbrev pub IsTurned : ℕ → List ℕ → Turns → Type 0
+IsTurned n list t = AreTurned n t.counts list t.turns

@@ -1,0 +1,71 @@
+//! The reduction of partitions by rim hooks.
+ghost use Rattle.std.specs.Prelude.{◌≡◌, ◌+◌, ◌<◌, ◌≤◌, length, IfOk};
+ghost use Rattle.sym_model.specs.Partition.{rows};
+ghost use Rattle.sym_model.specs.RimHookReduction.{ReducesTo};
+ghost use Rattle.sym_model.specs.Target.{Reduction};
+ghost use Rattle.beta_list_laws.specs.StrictFall.{FallsStrictly};
+ghost use Rattle.reduction_laws.specs.LowestList.{lowest, reduction_by_remainders};
+ghost use Rattle.rim_hooks.specs.Reduced.{reduction};
+ghost use Rattle.rim_hooks.specs.Sorting.{Sorts};
+
+use crate::sorted::{Sorted, is_odd, is_one_odd, sign};
+use crate::table::no_counts;
+use calc_base::NoMemory;
+use partitions::Partition;
+use std::alloc::Global;
+
+/// The end of the removals of rim hooks from a partition.
+#[derive(Debug, Drop)]
+pub struct Core {
+    /// The partition that is left.
+    pub shape: Partition,
+    /// The product of the signs, 1 or -1.
+    pub sign: i8,
+    /// The number of removals.
+    pub power: u32,
+}
+
+/// The partition with at most `k` rows where removing rim hooks of `n` cells from `shape` ends, with its sign and the
+/// number of removals; `None` exactly where it has more than `n - k` columns. The order of the removals plays no part.
+pub fn core_of(alloc: Global, shape: &Partition, k: u16, n: u16) -> Result<Option<Core>, NoMemory>
+    requires rows { (rows shape.now ≤ k) × (1 ≤ k) }
+    requires cells { (k < n) × (n ≤ 512) }
+    ensures reduces { IfOk result (λ core. ReducesTo k n shape.now (reduction core)) }
+
+    // No other order of the removals gives another answer.
+    ensures only { IfOk result (λ core. (other : Reduction) → ReducesTo k n shape.now other → other ≡ reduction core) }
+    ensures remainders { IfOk result (λ core. reduction core ≡ reduction_by_remainders k n shape.now) }
+{
+    let cells = shape.size();
+    let entries = shape.beta(k)?;
+    let lowest = lowest_entries(alloc, entries.as_slice(), n)?;
+    let end = Partition::from_beta(alloc, lowest.numbers.as_slice())?;
+    if u32::from(k) + u32::from(end.part(1)) > u32::from(n) {
+        return Ok(None);
+    }
+    let power = (cells - end.size()) / n;
+    let turns = usize::from(power) * (usize::from(k) + 1);
+    Ok(Some(Core {
+        shape: end,
+        sign: sign(is_one_odd(is_odd(turns), lowest.is_odd)),
+        power: u32::from(power),
+    }))
+}
+
+/// The entries, each lowered by multiples of `n` as far as there is room, in falling order.
+fn lowest_entries(alloc: Global, entries: &[u16], n: u16) -> Result<Sorted, NoMemory>
+    requires strict { FallsStrictly entries.now }
+    requires cells { (2 ≤ n) × (n ≤ 512) }
+    ensures { IfOk result (λ sorted. Sorts sorted (lowest n entries.now)) }
+{
+    let mut counts = no_counts();
+    let mut sorted = Sorted::new(alloc);
+    for at in (0..entries.len()).rev() {
+        let remainder = entries[at] % n;
+        let place = usize::from(remainder);
+        let below = counts[place];
+        sorted.put(remainder + below * n)?;
+        counts[place] = below + 1;
+    }
+    Ok(sorted)
+}
