@@ -1,0 +1,2 @@
+pub mod Monk
+pub mod Pending

@@ -1,0 +1,18 @@
+-- Lists of permutations with whole coefficients, and Monk's rule on them.
+use Rattle.std.specs.Prelude.{ℕ, ◌+◌, ◌≤◌, ◌-ℤ◌, ℤ, nat_abs, List, [], ◌∷◌, length}
+use Rattle.sym_model.specs.Sum.{total, Among}
+use Rattle.sym_model.specs.Expansion.{Fraction, Terms}
+use Rattle.sym_model.specs.Permutation.{covers_up, covers_down}
+
+-- the sum of the absolute values of the coefficients
+abbrev pub mass : Terms (List ℕ) → ℕ
+mass [] = 0
+mass (t ∷ terms) = nat_abs t.1.0 + mass terms
+
+-- each label has at most so many letters
+abbrev pub AreShort : ℕ → Terms (List ℕ) → Type 0
+AreShort most terms = (t : List ℕ × Fraction) → Among t terms → length t.0 ≤ most
+
+-- the sum of a test function over the covers with the other place greater less that over those with it smaller
+abbrev pub over_covers : ℕ → (List ℕ → ℤ) → List ℕ → ℤ
+over_covers r φ w = total φ (covers_up r w) -ℤ total φ (covers_down r w)

@@ -1,0 +1,38 @@
+-- Monomials that are still to act on lists of Schubert polynomials.
+use Rattle.std.specs.Prelude.{◌≡◌, ℕ, ◌+◌, ◌*◌, ◌^◌, ◌≤◌, ℤ, List, [], ◌∷◌, length, slice_index_or}
+use Rattle.sym_model.specs.Sum.{total, Among}
+use Rattle.sym_model.specs.Partition.{size}
+use Rattle.schubert_transition.specs.TermLists.{over}
+use Rattle.schubert_transition.specs.Transitions.{acted}
+use Rattle.monk_product.specs.declared.pending.Pending.{Pending}
+use Rattle.monk_product.specs.Monk.{mass, AreShort}
+
+-- the sum of the products, paired with a test function, in n variables
+abbrev pub value_of : ℕ → (List ℕ → ℤ) → List Pending → ℤ
+value_of n φ todo = total (λ (p : Pending). over (λ w. acted n φ w p.monomial) p.list) todo
+
+-- the sum of a number for each element of a list
+abbrev pub weigh : {A : Type 0} → (A → ℕ) → List A → ℕ
+weigh f [] = 0
+weigh f (x ∷ xs) = f x + weigh f xs
+
+-- what the masses can grow to, where each variable makes up to `base` terms of one
+abbrev pub growth : ℕ → List Pending → ℕ
+growth base todo = weigh (λ (p : Pending). mass p.list * base ^ size p.monomial) todo
+
+-- how many steps there are at most
+abbrev pub steps : List Pending → ℕ
+steps todo = weigh (λ (p : Pending). size p.monomial + 1) todo
+
+-- a monomial in at most n variables and of degree d at most, the letters and the degree together at most `most`
+pub record IsPending (n d most : ℕ) (p : Pending) : Type 0 where
+  pub few : length p.monomial ≤ n
+  pub small : size p.monomial ≤ d
+  pub short : (k : ℕ) → k + size p.monomial ≡ most → AreShort k p.list
+
+abbrev pub ArePending : ℕ → ℕ → ℕ → List Pending → Type 0
+ArePending n d most todo = (p : Pending) → Among p todo → IsPending n d most p
+
+-- the entry at an index, counted from 0, has this monomial
+abbrev pub HasMonomial : List ℕ → List Pending → ℕ → Type 0
+HasMonomial monomial todo at = (p : Pending) → p ≡ slice_index_or todo at p → p.monomial ≡ monomial

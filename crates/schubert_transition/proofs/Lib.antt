@@ -1,0 +1,13 @@
+pub mod Ranks
+pub mod Members
+pub mod Monomials
+pub mod Acted
+pub mod TermSums
+pub mod SumSteps
+pub mod Descents
+pub mod TodoLists
+pub mod WaitingSums
+pub mod CoverSums
+pub mod CoverSteps
+pub mod FinalSums
+pub mod LoopSteps

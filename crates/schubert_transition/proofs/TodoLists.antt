@@ -1,0 +1,93 @@
+-- Lists of permutations that wait: what one entry more, or another factor of an entry, changes (specs/Todo).
+use Rattle.std.proofs.Common.{◌≡◌, ◌⊎◌, ℕ, zero, suc, ◌+◌, ◌<◌, ◌≤◌, List, [], ◌∷◌, ◌++◌, length, get_or, set, take, drop, refl, sym, ap, ◌∙◌, subst, inl, inr, arith, ℤ, pos, ◌+ℤ◌, ◌≤ℤ◌}
+use Rattle.std.specs.List.{insert}
+use Rattle.std.proofs.lemmas.Int.{ints}
+use Rattle.std.proofs.lemmas.List.{take-append-drop}
+use Rattle.sym_model.specs.Sum.{total, Among}
+use Rattle.sym_model.proofs.Sums.{total_append, Among_from_append, Among-append_left, Among-append_right}
+use Rattle.schubert_transition.specs.declared.todo.Waiting.{Waiting}
+use Rattle.schubert_transition.specs.Transitions.{weight}
+use Rattle.schubert_transition.specs.Todo.{load}
+
+-- ---- one entry more
+
+pub total_insert : {A : Type 0} (f : A → ℤ) (todo : List A) (i : ℕ) (w : A) → total f (insert todo i w) ≡ total f todo +ℤ f w
+total_insert f todo i w =
+    let a = total_append f (take i todo) (w ∷ drop i todo) in
+    let b = ap (total f) (take-append-drop i todo) in
+    let c = total_append f (take i todo) (drop i todo) in
+    omega (arith, ints)
+
+pub load_append : (xs ys : List Waiting) → load (xs ++ ys) ≡ load xs + load ys
+load_append [] ys = omega arith
+load_append (x ∷ xs) ys = let h = load_append xs ys in omega arith
+
+pub load_insert : (todo : List Waiting) (i : ℕ) (w : Waiting) → load (insert todo i w) ≡ load todo + weight w.perm
+load_insert todo i w =
+    let a = load_append (take i todo) (w ∷ drop i todo) in
+    let b = ap load (take-append-drop i todo) in
+    let c = load_append (take i todo) (drop i todo) in
+    omega arith
+
+pub among_insert : {A : Type 0} (todo : List A) (i : ℕ) (w x : A) → Among x (insert todo i w) → (x ≡ w) ⊎ Among x todo
+among_insert todo i w x m = elim (Among_from_append x (take i todo) (w ∷ drop i todo) m) [
+  | inl l ↦ inr (subst (Among x) (take-append-drop i todo) (Among-append_left x (take i todo) (drop i todo) l))
+  | inr r ↦ elim r [
+    | inl e ↦ inl e
+    | inr k ↦ inr (subst (Among x) (take-append-drop i todo) (Among-append_right x (take i todo) (drop i todo) k))
+  ]
+]
+
+-- the entry put in stands at its index
+pub inserted_at : {A : Type 0} (todo : List A) (i : ℕ) (w x : A) → i ≤ length todo → x ≡ get_or (insert todo i w) i x → x ≡ w
+inserted_at [] zero w x h e = e
+inserted_at [] (suc i) w x h e = absurd (omega arith)
+inserted_at (y ∷ todo) zero w x h e = e
+inserted_at (y ∷ todo) (suc i) w x h e = inserted_at todo i w x (omega arith) e
+
+pub length_insert : {A : Type 0} (todo : List A) (i : ℕ) (w : A) → i ≤ length todo → length (insert todo i w) ≡ length todo + 1
+length_insert [] zero w h = refl
+length_insert [] (suc i) w h = absurd (omega arith)
+length_insert (y ∷ todo) zero w h = omega arith
+length_insert (y ∷ todo) (suc i) w h = let r = length_insert todo i w (omega arith) in omega arith
+
+-- ---- another entry in the place of one
+
+pub same_at : {A : Type 0} (todo : List A) (i : ℕ) (w v : A) → i < length todo → w ≡ get_or todo i w → v ≡ get_or todo i v → v ≡ w
+same_at [] i w v h e f = absurd (omega arith)
+same_at (x ∷ todo) zero w v h e f = f ∙ sym e
+same_at (x ∷ todo) (suc i) w v h e f = same_at todo i w v (omega arith) e f
+
+pub among_at : {A : Type 0} (todo : List A) (i : ℕ) (w : A) → i < length todo → w ≡ get_or todo i w → Among w todo
+among_at [] i w h e = absurd (omega arith)
+among_at (x ∷ todo) zero w h e = inl e
+among_at (x ∷ todo) (suc i) w h e = inr (among_at todo i w (omega arith) e)
+
+pub total_set : {A : Type 0} (f : A → ℤ) (todo : List A) (i : ℕ) (w v : A) → i < length todo → w ≡ get_or todo i w
+    → total f (set todo i v) +ℤ f w ≡ total f todo +ℤ f v
+total_set f [] i w v h e = absurd (omega arith)
+total_set f (x ∷ todo) zero w v h e = let p = ap f e in omega (arith, ints)
+total_set f (x ∷ todo) (suc i) w v h e = let r = total_set f todo i w v (omega arith) e in omega (arith, ints)
+
+pub load_set : (todo : List Waiting) (i : ℕ) (w v : Waiting) → i < length todo → w ≡ get_or todo i w → v.perm ≡ w.perm → load (set todo i v) ≡ load todo
+load_set [] i w v h e p = absurd (omega arith)
+load_set (x ∷ todo) zero w v h e p = let q = ap weight (p ∙ ap (λ (y : Waiting). y.perm) e) in omega arith
+load_set (x ∷ todo) (suc i) w v h e p = ap (λ n. weight x.perm + n) (load_set todo i w v (omega arith) e p)
+
+pub among_set : {A : Type 0} (todo : List A) (i : ℕ) (v x : A) → Among x (set todo i v) → (x ≡ v) ⊎ Among x todo
+among_set [] i v x m = absurd m
+among_set (y ∷ todo) zero v x (inl e) = inl e
+among_set (y ∷ todo) zero v x (inr m) = inr (inr m)
+among_set (y ∷ todo) (suc i) v x (inl e) = inr (inl e)
+among_set (y ∷ todo) (suc i) v x (inr m) = elim (among_set todo i v x m) [ inl e ↦ inl e | inr k ↦ inr (inr k) ]
+
+-- ---- entries without negative values
+
+pub total_at_least : {A : Type 0} (f : A → ℤ) (todo : List A) → ((x : A) → Among x todo → pos 0 ≤ℤ f x) → pos 0 ≤ℤ total f todo
+total_at_least f [] h = omega (arith, ints)
+total_at_least f (x ∷ todo) h = let a = h x (inl refl) in let b = total_at_least f todo (λ y m. h y (inr m)) in omega (arith, ints)
+
+pub one_at_most : {A : Type 0} (f : A → ℤ) (todo : List A) (w : A) → Among w todo → ((x : A) → Among x todo → pos 0 ≤ℤ f x) → f w ≤ℤ total f todo
+one_at_most f [] w m h = absurd m
+one_at_most f (x ∷ todo) w (inl e) h = let a = total_at_least f todo (λ y k. h y (inr k)) in let b = ap f e in omega (arith, ints)
+one_at_most f (x ∷ todo) w (inr m) h = let a = h x (inl refl) in let b = one_at_most f todo w m (λ y k. h y (inr k)) in omega (arith, ints)

@@ -1,0 +1,33 @@
+-- Permutations that wait for the transition rule, each with the polynomial that its Schubert polynomial is multiplied by.
+use Rattle.std.specs.Prelude.{◌≡◌, ℕ, ◌+◌, ◌-◌, ◌^◌, ◌≤◌, ◌≤ℤ◌, ℤ, pos, List, [], ◌∷◌, slice_index_or}
+use Rattle.sym_model.specs.Sum.{total, Among}
+use Rattle.sym_model.specs.PlaceOrders.{inversions}
+use Rattle.schubert_transition.specs.declared.todo.Waiting.{Waiting}
+use Rattle.schubert_transition.specs.TermLists.{over, only, AreTerms}
+use Rattle.schubert_transition.specs.Transitions.{IsShort, acted, weight}
+
+-- the sum of the products, paired with a test function, in n variables
+abbrev pub value_of : ℕ → (List ℕ → ℤ) → List Waiting → ℤ
+value_of n φ todo = total (λ (w : Waiting). over (acted n φ w.perm) w.factor) todo
+
+-- the sum of the weights of the permutations: it falls with each step
+abbrev pub load : List Waiting → ℕ
+load [] = 0
+load (w ∷ todo) = weight w.perm + load todo
+
+-- in n variables and with products of degree d at most: the permutation and the terms of the polynomial
+pub record IsWaiting (n d : ℕ) (w : Waiting) : Type 0 where
+  pub short : IsShort n w.perm
+  pub inside : inversions w.perm ≤ d
+  pub terms : AreTerms n (d - inversions w.perm) w.factor
+
+abbrev pub AreWaiting : ℕ → ℕ → List Waiting → Type 0
+AreWaiting n d todo = (w : Waiting) → Among w todo → IsWaiting n d w
+
+-- some coefficient of a polynomial, given by its pairings, is 2^127 or more
+abbrev pub HasLargeValue : ((List ℕ → ℤ) → ℤ) → Type 0
+HasLargeValue sum = (γ : List ℕ) × (pos (2 ^ 127) ≤ℤ sum (only γ))
+
+-- the entry at an index, counted from 0, has this permutation
+abbrev pub HasPermutation : List ℕ → List Waiting → ℕ → Type 0
+HasPermutation perm todo at = (w : Waiting) → w ≡ slice_index_or todo at w → w.perm ≡ perm

@@ -1,0 +1,10 @@
+//! Schubert polynomials by the transition rule.
+#![tactic(auto)]
+
+mod expand;
+mod places;
+mod sums;
+mod todo;
+mod top;
+
+pub use top::{schubert, schubert_terms};

@@ -1,0 +1,33 @@
+//! The places of the transition rule.
+ghost use Rattle.std.specs.Prelude.{◌≡◌, Some, IfSome, IfNone};
+ghost use Rattle.sym_model.specs.Permutation.{IsTransition, last_descent};
+ghost use Rattle.schubert_transition.specs.Transitions.{IsShort};
+
+use perm_codes::Perm;
+
+/// The last descent of a permutation, and the last place whose letter is smaller than the one there. None exactly for the
+/// identity.
+pub(crate) fn transition_places(w: &Perm) -> Option<(u16, u16)>
+    ensures places { IfSome result (λ p. IsTransition w.now p.0 p.1) }
+    ensures short { IsShort 255 w.now }
+    ensures none { IfNone result (last_descent w.now ≡ None) }
+{
+    let r = w.last_descent()?;
+    Some((r, last_smaller(w, r)))
+}
+
+/// The last place whose letter is smaller than the one at the last descent.
+fn last_smaller(w: &Perm, r: u16) -> u16
+    requires { last_descent w.now ≡ Some r }
+    ensures { IsTransition w.now r result }
+{
+    let bound = w.letter(r);
+    let mut s = w.len();
+    while s > r + 1 {
+        if w.letter(s) < bound {
+            return s;
+        }
+        s -= 1;
+    }
+    s
+}

@@ -1,0 +1,64 @@
+//! What is still to do: permutations that wait for the transition rule.
+ghost use Rattle.std.specs.Prelude.{◌≡◌, ◌+◌, ◌<◌, ◌≤◌, ℕ, ℤ, List, length, MatchResult, IfOk, OnOk};
+ghost use Rattle.sym_model.specs.PlaceOrders.{inversions};
+ghost use Rattle.schubert_transition.specs.Transitions.{IsShort, weight};
+ghost use Rattle.schubert_transition.specs.Todo.{value_of, load, AreWaiting, HasPermutation};
+
+use calc_base::NoMemory;
+use coeff_rings::Int;
+use monomial_polys::Poly;
+use perm_codes::Perm;
+use sparse_polys::Lin;
+use std::alloc::Global;
+use std::cmp::Ordering;
+
+/// A permutation whose Schubert polynomial is still to be expanded, and the polynomial that it is multiplied by.
+#[derive(Drop)]
+pub(crate) struct Waiting {
+    pub(crate) perm: Perm,
+    pub(crate) factor: Poly<Int>,
+}
+
+/// An order that the transition rule lowers: by inversions and then by falling order of the letters.
+fn compare(first: &Perm, second: &Perm) -> Ordering {
+    first
+        .inversions()
+        .cmp(&second.inversions())
+        .then(second.letters().cmp(first.letters()))
+}
+
+/// The place of a permutation in the list, or the place where it is to be put in.
+fn place_of(todo: &[Waiting], perm: &Perm) -> Result<usize, usize>
+    ensures { MatchResult result
+        (λ at. (at < length todo.now) × HasPermutation perm.now todo.now at)
+        (λ at. at ≤ length todo.now) }
+{
+    let place = todo.binary_search_by(|waiting| compare(&waiting.perm, perm));
+    match place {
+        Ok(at) if todo[at].perm == *perm => Ok(at),
+        Ok(at) => Err(at),
+        Err(at) => Err(at),
+    }
+}
+
+/// The index of a permutation in the list, which is put in with the polynomial 0 where it is not there.
+pub(crate) fn index_of(
+    alloc: Global,
+    todo: &mut Vec<Waiting>,
+    perm: Perm,
+) -> Result<usize, NoMemory>
+    ensures found { IfOk result (λ at. (at < length todo.new.items) × HasPermutation perm todo.new.items at) }
+    ensures value { OnOk result ((n : ℕ) (φ : List ℕ → ℤ) → value_of n φ todo.new.items ≡ value_of n φ todo.old.items) }
+    ensures waiting { OnOk result ((n d : ℕ) → IsShort n perm → inversions perm ≤ d
+        → AreWaiting n d todo.old.items → AreWaiting n d todo.new.items) }
+    ensures load { OnOk result (load todo.new.items ≤ load todo.old.items + weight perm) }
+{
+    match place_of(todo.as_slice(), &perm) {
+        Ok(at) => Ok(at),
+        Err(at) => {
+            let factor = Lin::new(alloc);
+            todo.insert(at, Waiting { perm, factor })?;
+            Ok(at)
+        }
+    }
+}
