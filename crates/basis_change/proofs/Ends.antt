@@ -1,0 +1,205 @@
+-- What the list and the answer stand for.
+--     expansion-changed     from the list in m to the answer in the family
+use Rattle.std.proofs.Common.{◌≡◌, ◌⊎◌, ℕ, ◌*◌, ◌/◌, ◌<◌, ◌≤◌, List, [], ◌∷◌, length, refl, sym, ap, ap₂, ◌∙◌, inl, inr, arith, ℤ, pos, ◌+ℤ◌, ◌*ℤ◌}
+use Rattle.std.proofs.lemmas.Int.{ints}
+use Rattle.std.proofs.Math.Nat.{div-mul_cancel}
+use Rattle.std.proofs.lemmas.Nat.Gcd.{dvd_of_mod-eq-zero}
+use Rattle.coeff_rings.specs.Proved.Fractions.{product_cancel}
+use Rattle.sym_model.specs.Sum.{total, Among}
+use Rattle.sym_model.specs.Polynomial.{Poly, coefficient, pair, times, one, scale, plus}
+use Rattle.sym_model.specs.Bases.{monomial, product_over}
+use Rattle.sym_model.specs.Expansion.{Basis, basis_polynomial, Fraction, Terms, denominators, cleared, value_by, IsExpansionOf}
+use Rattle.sym_model.specs.ListWeight.{IsBounded}
+use Rattle.sym_model.specs.Weight.{factorial}
+use Rattle.sym_model.specs.WholeTerms.{WholeTerms, combined}
+use Rattle.sym_model.proofs.Ring.{ring, product_assoc}
+use Rattle.sym_model.proofs.Sums.{total_map}
+use Rattle.sym_model.proofs.Polynomials.{pair_scale, pair_determined, coefficient_scale, at_only, coefficient_pair}
+use Rattle.sym_model.proofs.PolynomialLaws.{one-times}
+use Rattle.sym_model.proofs.WholeTerms.{pair_of_combined, coefficient-combined}
+use Rattle.monomial_laws.specs.ExpressionTerms.{in_monomials, over}
+use Rattle.monomial_laws.proofs.DividedTerms.{labels_of, over-there, over-missing, among_or_not, divides-denominators, IsDivided}
+use Rattle.basis_change_laws.specs.AugmentedMonomial.{augmented, multiplicity_factorials}
+use Rattle.basis_expand.specs.Tables.{IsTable}
+use Rattle.basis_expand.specs.LabelSizes.{AreWithin}
+use Rattle.basis_expand.proofs.WholeLists.{Once-keys}
+use Rattle.basis_expand.proofs.Quotients.{Quotients, IsDivided-quotients}
+use Rattle.basis_change.specs.declared.mixed.MixedLabel.{MixedLabel}
+use Rattle.basis_change.specs.declared.factors.Family.{Family}
+use Rattle.basis_change.specs.declared.factors.Family.TheVariants.{Elementary, Complete, PowerSum}
+use Rattle.basis_change.specs.Mixed.{Mixed, mixed, weighed, unready, AreReady, converted_terms}
+use Rattle.basis_change.specs.Clearing.{cleared_number, cleared_terms}
+use Rattle.basis_change.specs.Factors.{polynomial_of, basis_in, product_value}
+use Rattle.basis_change.proofs.Walks.{ready_label}
+use Rattle.basis_change.proofs.Values.{In-augmented, weighed-agree}
+use Rattle.basis_change.proofs.Newton.{label_value, label_value-is}
+use Rattle.basis_change.proofs.CostTable.{divides-at, label_partition}
+use native.Mathlib.Nat.{mul-pos}
+use lib.IntN.{*ℤ_comm, *ℤ-zero}
+
+-- ---- the start
+
+start-term : (family : Family) (n D q : ℕ) (φ : List ℕ → ℤ) (t : List ℕ × Fraction) → (q / multiplicity_factorials t.0) * multiplicity_factorials t.0 ≡ q
+    → cleared_number D q t.0 t.1 *ℤ product_value family n φ (mixed [] t.0) ≡ pos q *ℤ ((t.1.0 *ℤ pos (D / t.1.1)) *ℤ pair (monomial t.0 n) φ)
+start-term family n D q φ t e =
+    let m = multiplicity_factorials t.0 in
+    let k = q / multiplicity_factorials t.0 in
+    let w = t.1.0 *ℤ pos (D / t.1.1) in
+    let x = pair (monomial t.0 n) φ in
+    let v : product_value family n φ (mixed [] t.0) ≡ pos m *ℤ x =
+    pair_determined (times (one n) (augmented t.0 n)) (augmented t.0 n) φ (one-times n (augmented t.0 n) (In-augmented t.0 n)) ∙ pair_scale (pos m) (monomial t.0 n) φ in
+    ap (λ z. (w *ℤ pos k) *ℤ z) v ∙ regroup w (pos k) (pos m) x ∙ ap (λ z. pos z *ℤ (w *ℤ x)) e
+  where
+    regroup : (w k m x : ℤ) → (w *ℤ k) *ℤ (m *ℤ x) ≡ (k *ℤ m) *ℤ (w *ℤ x)
+    regroup w k m x = simp ring (omega (arith, ints))
+
+start-value : (family : Family) (n D q : ℕ) (φ : List ℕ → ℤ) (terms : Terms (List ℕ)) → ((t : List ℕ × Fraction) → Among t terms → (q / multiplicity_factorials t.0) * multiplicity_factorials t.0 ≡ q)
+    → weighed (product_value family n φ) (cleared_terms D q terms) ≡ pos q *ℤ total (λ (t : List ℕ × Fraction). (t.1.0 *ℤ pos (D / t.1.1)) *ℤ pair (monomial t.0 n) φ) terms
+start-value family n D q φ [] h = sym (*ℤ-zero (pos q))
+start-value family n D q φ (t ∷ terms) h =
+    ap₂ ◌+ℤ◌ (start-term family n D q φ t (h t (inl refl))) (start-value family n D q φ terms (λ u m. h u (inr m)))
+    ∙ spread (pos q) ((t.1.0 *ℤ pos (D / t.1.1)) *ℤ pair (monomial t.0 n) φ) (total (λ (t : List ℕ × Fraction). (t.1.0 *ℤ pos (D / t.1.1)) *ℤ pair (monomial t.0 n) φ) terms)
+  where
+    spread : (x y z : ℤ) → x *ℤ y +ℤ x *ℤ z ≡ x *ℤ (y +ℤ z)
+    spread x y z = simp ring (omega (arith, ints))
+
+pair-over : (n D : ℕ) (φ : List ℕ → ℤ) (terms : Terms (List ℕ)) → pair (in_monomials (over D terms) n) φ ≡ total (λ (t : List ℕ × Fraction). (t.1.0 *ℤ pos (D / t.1.1)) *ℤ pair (monomial t.0 n) φ) terms
+pair-over n D φ terms =
+    pair_of_combined (λ label. monomial label n) (over D terms) φ
+    ∙ total_map (λ (t : List ℕ × ℤ). t.1 *ℤ pair (monomial t.0 n) φ) (λ (t : List ℕ × Fraction). (t.0, t.1.0 *ℤ pos (D / t.1.1))) terms
+
+-- ---- the end
+
+end-value : (family : Family) (n d : ℕ) (φ : List ℕ → ℤ) (es : Mixed) → AreReady d 0 es → weighed (product_value family n φ) es ≡ pair (combined (λ label. product_over (polynomial_of family) label n) (converted_terms es)) φ
+end-value family n d φ es ready =
+    weighed-agree (product_value family n φ) (label_value family n φ) (unready d 0) es
+    (λ l z. let r = ready_label d 0 l z in let f = r.few in none l.augmented l refl (omega arith)) ready
+    ∙ sym (pair_of_combined (λ label. product_over (polynomial_of family) label n) (converted_terms es) φ
+    ∙ total_map (λ (t : List ℕ × ℤ). t.1 *ℤ pair (product_over (polynomial_of family) t.0 n) φ) (λ (t : MixedLabel × ℤ). (t.0.converted, t.1)) es)
+  where
+    none : (aug : List ℕ) (l : MixedLabel) → l.augmented ≡ aug → length l.augmented ≤ 0 → product_value family n φ l ≡ label_value family n φ l
+    none [] l e h = ap (λ a. product_value family n φ (mixed l.converted a)) e ∙ sym (label_value-is family n φ l)
+    none (a ∷ rest) l e h = absurd (let s = ap length e in omega arith)
+
+-- ---- a list and its whole multiple
+
+scaled-over : (D : ℕ) (W : WholeTerms) (terms : Terms (List ℕ)) → IsDivided D W terms → (label : List ℕ)
+    → pos D *ℤ coefficient (over (denominators terms) terms) label ≡ pos (denominators terms) *ℤ coefficient W label
+scaled-over D W terms d label = by (among_or_not label terms)
+  where
+    by : ((t : List ℕ × Fraction) × Among t terms × (t.0 ≡ label)) ⊎ (Among label (labels_of terms) → ⊥) → pos D *ℤ coefficient (over (denominators terms) terms) label ≡ pos (denominators terms) *ℤ coefficient W label
+    by (inl (t, m, e)) =
+        ap (λ l. pos D *ℤ coefficient (over (denominators terms) terms) l) (sym e)
+        ∙ ap (λ z. pos D *ℤ z) (over-there (denominators terms) terms d.once t m)
+        ∙ sum (t.1.0) (coefficient W t.0) D t.1.1 (denominators terms / t.1.1) (denominators terms) (d.there t m) (div-mul_cancel t.1.1 (divides-denominators terms t m))
+        ∙ ap (λ l. pos (denominators terms) *ℤ coefficient W l) e
+      where
+        sum : (n w : ℤ) (D den r q : ℕ) → n *ℤ pos D ≡ w *ℤ pos den → r * den ≡ q → pos D *ℤ (n *ℤ pos r) ≡ pos q *ℤ w
+        sum n w D den r q a b =
+            sym (product_assoc (pos D) n (pos r))
+            ∙ ap (λ z. z *ℤ pos r) (*ℤ_comm (pos D) n ∙ a)
+            ∙ product_assoc w (pos den) (pos r)
+            ∙ ap (λ k. w *ℤ pos k) (let c : den * r ≡ q = omega arith in c)
+            ∙ *ℤ_comm w (pos q)
+    by (inr n) =
+        ap (λ z. pos D *ℤ z) (over-missing (denominators terms) terms label n) ∙ *ℤ-zero (pos D)
+        ∙ sym (ap (λ z. pos (denominators terms) *ℤ z) (d.missing label n) ∙ *ℤ-zero (pos (denominators terms)))
+
+cleared-combined : (polynomial : List ℕ → Poly) (q : ℕ) (terms : Terms (List ℕ)) → cleared polynomial q terms ≡ combined polynomial (over q terms)
+cleared-combined polynomial q [] = refl
+cleared-combined polynomial q (t ∷ terms) = ap (plus (scale (t.1.0 *ℤ pos (q / t.1.1)) (polynomial t.0))) (cleared-combined polynomial q terms)
+
+value-divided : (polynomial : List ℕ → Poly) (D : ℕ) (W : WholeTerms) (terms : Terms (List ℕ)) → IsDivided D W terms → (α : List ℕ)
+    → pos D *ℤ coefficient (value_by polynomial terms) α ≡ pos (denominators terms) *ℤ coefficient (combined polynomial W) α
+value-divided polynomial D W terms d α =
+    let ψ : List ℕ → ℤ = λ l. coefficient (polynomial l) α in
+    let O = over (denominators terms) terms in
+    ap (λ f. pos D *ℤ coefficient f α) (cleared-combined polynomial (denominators terms) terms)
+    ∙ ap (λ z. pos D *ℤ z) (coefficient-combined polynomial O α)
+    ∙ sym (pair_scale (pos D) O ψ)
+    ∙ pair_determined (scale (pos D) O) (scale (pos (denominators terms)) W) ψ
+    (λ l. coefficient_scale (pos D) O l ∙ scaled-over D W terms d l ∙ sym (coefficient_scale (pos (denominators terms)) W l))
+    ∙ pair_scale (pos (denominators terms)) W ψ
+    ∙ ap (λ z. pos (denominators terms) *ℤ z) (sym (coefficient-combined polynomial W α))
+
+-- the list that is changed
+pub IsDivided-list : (N D : ℕ) (terms : Terms (List ℕ)) → 0 < denominators terms → IsTable terms → IsBounded N D terms → IsDivided D (over D terms) terms
+IsDivided-list N D terms positive is b = record {
+  once = Once-keys terms is;
+  positive = positive;
+  there = λ t m.
+      let e = div-mul_cancel t.1.1 (dvd_of_mod-eq-zero t.1.1 (b t m).0) in
+      sym (ap (λ z. z *ℤ pos t.1.1) (over-there D terms (Once-keys terms is) t m)
+      ∙ product_assoc t.1.0 (pos (D / t.1.1)) (pos t.1.1)
+      ∙ ap (λ k. t.1.0 *ℤ pos k) e);
+  missing = λ label n. over-missing D terms label n;
+}
+
+-- ---- both together
+
+crossed : (D q Q R p u v w r f : ℤ) → D *ℤ u ≡ Q *ℤ w → (D *ℤ q) *ℤ v ≡ R *ℤ r → r ≡ q *ℤ w → p *ℤ u ≡ Q *ℤ f
+    → (p *ℤ v) *ℤ ((D *ℤ q) *ℤ Q) ≡ (R *ℤ f) *ℤ ((D *ℤ q) *ℤ Q)
+crossed D q Q R p u v w r f a b c h =
+    one p v D q Q
+    ∙ ap (λ z. (p *ℤ Q) *ℤ z) (b ∙ ap (λ z. R *ℤ z) c)
+    ∙ two p Q R q w
+    ∙ ap (λ z. ((p *ℤ R) *ℤ q) *ℤ z) (sym a)
+    ∙ three p R q D u
+    ∙ ap (λ z. ((R *ℤ q) *ℤ D) *ℤ z) h
+    ∙ four R q D Q f
+  where
+    one : (p v D q Q : ℤ) → (p *ℤ v) *ℤ ((D *ℤ q) *ℤ Q) ≡ (p *ℤ Q) *ℤ ((D *ℤ q) *ℤ v)
+    one p v D q Q = simp ring (omega (arith, ints))
+
+    two : (p Q R q w : ℤ) → (p *ℤ Q) *ℤ (R *ℤ (q *ℤ w)) ≡ ((p *ℤ R) *ℤ q) *ℤ (Q *ℤ w)
+    two p Q R q w = simp ring (omega (arith, ints))
+
+    three : (p R q D u : ℤ) → ((p *ℤ R) *ℤ q) *ℤ (D *ℤ u) ≡ ((R *ℤ q) *ℤ D) *ℤ (p *ℤ u)
+    three p R q D u = simp ring (omega (arith, ints))
+
+    four : (R q D Q f : ℤ) → ((R *ℤ q) *ℤ D) *ℤ (Q *ℤ f) ≡ (R *ℤ f) *ℤ ((D *ℤ q) *ℤ Q)
+    four R q D Q f = simp ring (omega (arith, ints))
+
+pub expansion-changed : (family : Family) (N D d : ℕ) (terms answer : Terms (List ℕ)) (end : Mixed) → 0 < D → d ≤ 15 → IsTable terms → AreWithin d terms → IsBounded N D terms
+    → ((n : ℕ) (φ : List ℕ → ℤ) → weighed (product_value family n φ) end ≡ weighed (product_value family n φ) (cleared_terms D (factorial d) terms))
+    → (e : ℕ) → AreReady e 0 end → IsTable answer → Quotients (D * factorial d) answer (converted_terms end) → 0 < factorial d
+    → (n : ℕ) (f : Poly) (p : ℕ) → IsExpansionOf Basis.monomials terms n f p → IsExpansionOf (basis_in family) answer n f p
+expansion-changed family N D d terms answer end some low is w b same_value e ready js quotients positive n f p h =
+    let W = over D terms in
+    let R = converted_terms end in
+    let q = factorial d in
+    let Dq = mul-pos some positive in
+    let first = IsDivided-list N D terms h.positive is b in
+    let second = IsDivided-quotients (D * q) R answer Dq js quotients in
+    let polynomial = λ (label : List ℕ). product_over (polynomial_of family) label n in
+    record {
+      positive = second.positive;
+      equal = λ α.
+          let u = coefficient (value_by (λ label. monomial label n) terms) α in
+          let v = coefficient (value_by (λ label. basis_polynomial (basis_in family) label n) answer) α in
+          let A = value-divided (λ label. monomial label n) D W terms first α in
+          let B = value-divided (λ label. basis_polynomial (basis_in family) label n) (D * q) R answer second α in
+          let C : coefficient (combined (λ label. basis_polynomial (basis_in family) label n) R) α ≡ pos q *ℤ coefficient (in_monomials W n) α = total-value α in
+          let H = sym (coefficient_scale (pos p) (value_by (λ label. monomial label n) terms) α) ∙ h.equal α ∙ coefficient_scale (pos (denominators terms)) f α in
+          coefficient_scale (pos p) (value_by (λ label. basis_polynomial (basis_in family) label n) answer) α
+          ∙ product_cancel (pos p *ℤ v) (pos (denominators answer) *ℤ coefficient f α) ((D * q) * denominators terms) (mul-pos Dq h.positive)
+          (crossed (pos D) (pos q) (pos (denominators terms)) (pos (denominators answer)) (pos p) u v (coefficient (in_monomials W n) α) (coefficient (combined (λ label. basis_polynomial (basis_in family) label n) R) α) (coefficient f α) A B C H)
+          ∙ sym (coefficient_scale (pos (denominators answer)) f α);
+    }
+  where
+    same_combined : (R : WholeTerms) → combined (λ label. basis_polynomial (basis_in family) label n) R ≡ combined (λ label. product_over (polynomial_of family) label n) R
+    same_combined R = by family
+      where
+        by : (g : Family) → combined (λ label. basis_polynomial (basis_in g) label n) R ≡ combined (λ label. product_over (polynomial_of g) label n) R
+        by Elementary = refl
+        by Complete = refl
+        by PowerSum = refl
+
+    total-value : (α : List ℕ) → coefficient (combined (λ label. basis_polynomial (basis_in family) label n) (converted_terms end)) α ≡ pos (factorial d) *ℤ coefficient (in_monomials (over D terms) n) α
+    total-value α =
+        ap (λ g. coefficient g α) (same_combined (converted_terms end))
+        ∙ coefficient_pair (combined (λ label. product_over (polynomial_of family) label n) (converted_terms end)) α
+        ∙ sym (end-value family n e (at_only α) end ready)
+        ∙ same_value n (at_only α)
+        ∙ start-value family n D (factorial d) (at_only α) terms (λ t m. (divides-at d t.0 low (label_partition terms is t m) (w t m)).multiplicities)
+        ∙ ap (λ z. pos (factorial d) *ℤ z) (sym (pair-over n D (at_only α) terms) ∙ sym (coefficient_pair (in_monomials (over D terms) n) α))

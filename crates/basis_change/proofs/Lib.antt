@@ -1,0 +1,13 @@
+pub mod Tables
+pub mod PartLists
+pub mod Signs
+pub mod Walks
+pub mod Conversions
+pub mod Values
+pub mod Costs
+pub mod Newton
+pub mod Steps
+pub mod Bounds
+pub mod CostTable
+pub mod Ends
+pub mod Starts

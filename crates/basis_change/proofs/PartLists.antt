@@ -1,0 +1,114 @@
+-- Partitions with parts put in, one place after another.
+use Rattle.std.proofs.Common.{◌≡◌, ℕ, zero, suc, ◌+◌, ◌*◌, ◌<◌, ◌≤◌, ◌^◌, Bool, cond, List, [], ◌∷◌, ◌++◌, length, take, drop, get_or, refl, sym, ap, ◌∙◌, subst, arith, append_assoc}
+use Rattle.std.proofs.Math.Seq.{take-suc, drop-cons}
+use Rattle.sym_model.specs.Partition.{IsPartition, ArePositive, size, insert_part}
+use Rattle.sym_model.specs.Weight.{factorial}
+use Rattle.sym_model.proofs.SortedParts.{insert_part_above, insert_part_below, IsPartition-insert_part, size-insert_part}
+use Rattle.std.proofs.Common.{◌-◌, lit<}
+use Rattle.std.proofs.lemmas.Bool.{eq-eqb}
+use Rattle.sym_model.specs.Schur.{times_in}
+use Rattle.sym_model.specs.RaisedPart.{without_one}
+use Rattle.basis_change_laws.specs.AugmentedMonomial.{multiplicity_factorials}
+use Rattle.basis_change_laws.proofs.AugmentedMonomials.{multiplicity_factorials-cons}
+use Rattle.basis_change.specs.Mixed.{merged}
+use native.Mathlib.Nat.{mul-pos, mul-le-mul_left, mul-le-mul_right}
+
+-- a greater part is passed
+pub insert_part-passes : (part : ℕ) (parts : List ℕ) (at : ℕ) → at < length parts → 0 < part → part < get_or parts at 0
+    → insert_part part parts ≡ take at parts ++ insert_part part (drop at parts)
+    → insert_part part parts ≡ take (suc at) parts ++ insert_part part (drop (suc at) parts)
+insert_part-passes zero parts at h p g e = absurd (omega arith)
+insert_part-passes (suc a) parts at h p g e =
+    e ∙ ap (λ l. take at parts ++ insert_part (suc a) l) (drop-cons parts at 0 h)
+    ∙ ap (λ l. take at parts ++ l) (insert_part_below a (get_or parts at 0) (drop (suc at) parts) g)
+    ∙ sym (append_assoc (take at parts) (get_or parts at 0 ∷ []) (insert_part (suc a) (drop (suc at) parts)))
+    ∙ ap (λ l. l ++ insert_part (suc a) (drop (suc at) parts)) (sym (take-suc parts at 0 h))
+
+-- in front of the first that is not
+pub insert_part-stands : (part : ℕ) (parts : List ℕ) (at : ℕ) → at < length parts → 0 < part → get_or parts at 0 ≤ part
+    → insert_part part (drop at parts) ≡ part ∷ drop at parts
+insert_part-stands zero parts at h p g = absurd (omega arith)
+insert_part-stands (suc a) parts at h p g =
+    ap (insert_part (suc a)) (drop-cons parts at 0 h)
+    ∙ insert_part_above a (get_or parts at 0) (drop (suc at) parts) g
+    ∙ ap (λ l. suc a ∷ l) (sym (drop-cons parts at 0 h))
+
+pub insert_part-last : (part : ℕ) → 0 < part → insert_part part [] ≡ part ∷ []
+insert_part-last zero p = absurd (omega arith)
+insert_part-last (suc a) p = refl
+
+pub IsPartition-merged : (more parts : List ℕ) → IsPartition parts → IsPartition (merged more parts)
+IsPartition-merged [] parts p = p
+IsPartition-merged (a ∷ more) parts p = IsPartition-merged more (insert_part a parts) (IsPartition-insert_part a parts p)
+
+pub size-merged : (more parts : List ℕ) → size (merged more parts) ≡ size more + size parts
+size-merged [] parts = omega arith
+size-merged (a ∷ more) parts = omega (arith, size-merged more (insert_part a parts), size-insert_part a parts)
+
+pub positive_at : (parts : List ℕ) (i : ℕ) → ArePositive parts → i < length parts → 0 < get_or parts i 0
+positive_at [] i p h = absurd (omega arith)
+positive_at (a ∷ parts) zero p h = p.0
+positive_at (a ∷ parts) (suc i) p h = positive_at parts i p.1 (omega arith)
+
+-- what is still to come of a copy without one part, which was found already or was not
+abbrev pub rest_of : Bool → ℕ → List ℕ → List ℕ
+rest_of found k xs = cond found xs (without_one k xs)
+
+-- ---- factorials
+
+factorial-more : (i : ℕ) → factorial i ≤ factorial (suc i)
+factorial-more i = let h : 1 * factorial i ≤ suc i * factorial i = mul-le-mul_right (factorial i) (omega arith) in omega arith
+
+factorial-up : (i j : ℕ) → factorial i ≤ factorial (j + i)
+factorial-up i zero = let e : 0 + i ≡ i = omega arith in rw e (omega arith)
+factorial-up i (suc j) = let e : suc j + i ≡ suc (j + i) = omega arith in let h = factorial-up i j in let k = factorial-more (j + i) in rw e (omega arith)
+
+pub factorial-mono : (i j : ℕ) → i ≤ j → factorial i ≤ factorial j
+factorial-mono i j h = let e : (j - i) + i ≡ j = omega arith in subst (λ k. factorial i ≤ factorial k) e (factorial-up i (j - i))
+
+pub factorial-fits : (i n : ℕ) → n ≡ factorial i → i < 20 → n * (i + 1) < 2 ^ 128
+factorial-fits i n e h =
+    let m = factorial-mono (suc i) 20 (omega arith) in
+    let top : factorial 20 < 2 ^ 128 = lit< tt in
+    let same : n * (i + 1) ≡ factorial (suc i) = ap (λ x. x * (i + 1)) e ∙ turned (factorial i) i in
+    omega arith
+  where
+    turned : (x i : ℕ) → x * (i + 1) ≡ suc i * x
+    turned x i = omega arith
+
+pub multiplicity_factorials-positive : (parts : List ℕ) → 0 < multiplicity_factorials parts
+multiplicity_factorials-positive [] = omega arith
+multiplicity_factorials-positive (a ∷ parts) =
+    let e = multiplicity_factorials-cons a parts in
+    let t = times_in_first a parts in
+    subst (λ n. 0 < n) (sym e) (mul-pos (let h : 0 < times_in a (a ∷ parts) = omega arith in h) (multiplicity_factorials-positive parts))
+  where
+    times_in_first : (a : ℕ) (parts : List ℕ) → times_in a (a ∷ parts) ≡ suc (times_in a parts)
+    times_in_first a parts = ap (λ (b : Bool). cond {A = ℕ} b 1 0 + times_in a parts) (eq-eqb a a refl) ∙ omega arith
+
+-- one place more: its number, times the factorials so far
+pub multiplicity-next : (product times whole : ℕ) (parts : List ℕ) (at : ℕ) → at < length parts → product * multiplicity_factorials (drop at parts) ≡ whole
+    → times ≡ times_in (get_or parts at 0) (drop at parts) → (product * times) * multiplicity_factorials (drop (suc at) parts) ≡ whole
+multiplicity-next product times whole parts at h e t =
+    ap (λ n. (product * n) * multiplicity_factorials (drop (suc at) parts)) (t ∙ ap (times_in (get_or parts at 0)) (drop-cons parts at 0 h))
+    ∙ grouped product (times_in (get_or parts at 0) (get_or parts at 0 ∷ drop (suc at) parts)) (multiplicity_factorials (drop (suc at) parts))
+    ∙ ap (λ n. product * n) (sym (multiplicity_factorials-cons (get_or parts at 0) (drop (suc at) parts)) ∙ ap multiplicity_factorials (sym (drop-cons parts at 0 h)))
+    ∙ e
+  where
+    grouped : (x y z : ℕ) → (x * y) * z ≡ x * (y * z)
+    grouped x y z = omega arith
+
+pub multiplicity-fits : (n whole : ℕ) (rest : List ℕ) → n * multiplicity_factorials rest ≡ whole → whole < 2 ^ 127 → n < 2 ^ 128
+multiplicity-fits n whole rest e h =
+    let p = multiplicity_factorials-positive rest in
+    let m : n * 1 ≤ n * multiplicity_factorials rest = mul-le-mul_left n (omega arith) in
+    omega arith
+
+pub whole_rest : (parts : List ℕ) (at : ℕ) → take (length parts - at) (drop at parts) ≡ drop at parts
+whole_rest parts zero = let e : length parts - 0 ≡ length parts = omega arith in ap (λ n. take n parts) e ∙ take_length parts
+  where
+    take_length : (xs : List ℕ) → take (length xs) xs ≡ xs
+    take_length [] = refl
+    take_length (x ∷ xs) = ap (λ l. x ∷ l) (take_length xs)
+whole_rest [] (suc at) = let e : length {A = ℕ} [] - suc at ≡ 0 = omega arith in ap (λ n. take n (drop (suc at) [])) e
+whole_rest (a ∷ parts) (suc at) = let e : length (a ∷ parts) - suc at ≡ length parts - at = omega arith in ap (λ n. take n (drop at parts)) e ∙ whole_rest parts at

@@ -1,0 +1,167 @@
+-- Terms added to a table.
+--     added_put, added_new           one term more
+--     overflow_put, overflow_new     one that is refused
+--     Added-none, Added-then         nothing, and one list after another
+--     Overflows-then, -front         a list that is refused after another, and before others
+use Rattle.std.proofs.Common.{◌≡◌, ℕ, zero, suc, ◌+◌, ◌*◌, ◌<◌, ◌≤◌, ◌^◌, Bool, true, false, List, [], ◌∷◌, ◌++◌, length, get_or, refl, sym, ap, ap₂, ◌∙◌, arith, ℤ, pos, ◌+ℤ◌, ◌*ℤ◌}
+use Rattle.std.specs.Prelude.{Option, Some, None, is_some, slice_get, position, nat_abs}
+use Rattle.std.specs.Map.{keys_of, values_of}
+use Rattle.std.proofs.lemmas.Int.{ints}
+use Rattle.std.proofs.lemmas.List.Quantifiers.{position-Some}
+use Rattle.indexmap.specs.Layout.{set_value_at}
+use Rattle.sym_model.proofs.Ring.{ring}
+use Rattle.basis_change.specs.declared.mixed.MixedLabel.{MixedLabel}
+use Rattle.basis_change.specs.Mixed.{Mixed, weighed, weight, Added, Overflows}
+use native.Mathlib.Nat.{mul-le-mul_right}
+use lib.IntN.{+ℤ_idl, +ℤ_idr, zero-*ℤ}
+use Rattle.std.specs.Prelude.{nat_eq, ◌&&◌, Result, Ok, Err, OnOk}
+use Rattle.std.specs.Cmp.Lexicographic.{pointwise}
+use Rattle.std.proofs.lemmas.Bool.{and_parts}
+use Rattle.std.proofs.lemmas.Slice.Eq.{bytes_eq-Decides}
+use Rattle.coeff_rings.specs.Checked.{checked_i128, where_fits}
+use Rattle.sym_model.specs.Canonical.{fits_128_bits}
+use Rattle.basis_expand.proofs.TableSums.{refused-size}
+use Rattle.basis_change.specs.Mixed.{mixed}
+
+pub abs-sum : (a b : ℤ) → nat_abs (a +ℤ b) ≤ nat_abs a + nat_abs b
+abs-sum a b = omega (arith, ints)
+
+pub weighed-append : (f : MixedLabel → ℤ) (es ds : Mixed) → weighed f (es ++ ds) ≡ weighed f es +ℤ weighed f ds
+weighed-append f [] ds = sym (+ℤ_idl (weighed f ds))
+weighed-append f (e ∷ es) ds = omega (arith, ints, weighed-append f es ds)
+
+pub weight-append : (w : MixedLabel → ℕ) (es ds : Mixed) → weight w (es ++ ds) ≡ weight w es + weight w ds
+weight-append w [] ds = omega arith
+weight-append w (e ∷ es) ds = omega (arith, weight-append w es ds)
+
+-- ---- the entry at an index apart from the others
+
+abbrev SumSplits : (MixedLabel → ℤ) → Mixed → ℕ → MixedLabel × ℤ → Type 0
+SumSplits f es i p = (rest : ℤ) × (weighed f es ≡ p.1 *ℤ f p.0 +ℤ rest) × ((v : ℤ) → weighed f (set_value_at es i v) ≡ v *ℤ f p.0 +ℤ rest)
+
+sum_splits : (f : MixedLabel → ℤ) (es : Mixed) (i : ℕ) (p : MixedLabel × ℤ) → slice_get es i ≡ Some p → SumSplits f es i p
+sum_splits f [] i p h = cc
+sum_splits f (e ∷ es) zero p h =
+    let here : e ≡ p = cc in
+    (weighed f es, ap (λ (x : MixedLabel × ℤ). x.1 *ℤ f x.0 +ℤ weighed f es) here, λ v. ap (λ (x : MixedLabel × ℤ). v *ℤ f x.0 +ℤ weighed f es) here)
+sum_splits f (e ∷ es) (suc i) p h =
+    let later = sum_splits f es i p h in
+    let was = later.1 in
+    (e.1 *ℤ f e.0 +ℤ later.0, omega (arith, ints), λ v. let now = later.2 v in omega (arith, ints))
+
+abbrev WeightSplits : (MixedLabel → ℕ) → Mixed → ℕ → MixedLabel × ℤ → Type 0
+WeightSplits w es i p = (rest : ℕ) × (weight w es ≡ nat_abs p.1 * w p.0 + rest) × ((v : ℤ) → weight w (set_value_at es i v) ≡ nat_abs v * w p.0 + rest)
+
+weight_splits : (w : MixedLabel → ℕ) (es : Mixed) (i : ℕ) (p : MixedLabel × ℤ) → slice_get es i ≡ Some p → WeightSplits w es i p
+weight_splits w [] i p h = cc
+weight_splits w (e ∷ es) zero p h =
+    let here : e ≡ p = cc in
+    (weight w es, ap (λ (x : MixedLabel × ℤ). nat_abs x.1 * w x.0 + weight w es) here, λ v. ap (λ (x : MixedLabel × ℤ). nat_abs v * w x.0 + weight w es) here)
+weight_splits w (e ∷ es) (suc i) p h =
+    let later = weight_splits w es i p h in
+    let was = later.1 in
+    (nat_abs e.1 * w e.0 + later.0, omega arith, λ v. let now = later.2 v in omega arith)
+
+one_more : (a c x r : ℤ) → (a +ℤ c) *ℤ x +ℤ r ≡ (a *ℤ x +ℤ r) +ℤ (c *ℤ x +ℤ pos 0)
+one_more a c x r = simp ring (omega (arith, ints))
+
+weight_more : (a c : ℤ) (x : ℕ) → nat_abs (a +ℤ c) * x ≤ nat_abs a * x + nat_abs c * x
+weight_more a c x = let h = mul-le-mul_right x (abs-sum a c) in omega arith
+
+pub added_put : (es : Mixed) (i : ℕ) (label : MixedLabel) (had c v : ℤ) → slice_get es i ≡ Some (label, had) → v ≡ had +ℤ c → Added ((label, c) ∷ []) es (set_value_at es i v)
+added_put es i label had c v h e = record {
+  sums = λ f.
+      let s = sum_splits f es i (label, had) h in
+      s.2 v ∙ ap (λ z. z *ℤ f label +ℤ s.0) e ∙ one_more had c (f label) s.0 ∙ ap (λ z. z +ℤ (c *ℤ f label +ℤ pos 0)) (sym s.1);
+  weights = λ w.
+      let s = weight_splits w es i (label, had) h in
+      let now = s.2 v in
+      let was = s.1 in
+      let same = ap (λ z. nat_abs z * w label) e in
+      let more = weight_more had c (w label) in
+      omega arith;
+}
+
+pub added_new : (es new : Mixed) (label : MixedLabel) (c : ℤ) → new ≡ es ++ (label, c) ∷ [] → Added ((label, c) ∷ []) es new
+added_new es new label c e = record {
+  sums = λ f. ap (weighed f) e ∙ weighed-append f es ((label, c) ∷ []);
+  weights = λ w. let h = ap (weight w) e ∙ weight-append w es ((label, c) ∷ []) in omega arith;
+}
+
+at_least : (w : MixedLabel → ℕ) (es : Mixed) (c : ℤ) (label : MixedLabel) (x n : ℕ) → n ≤ x → 1 ≤ w label → n ≤ x * w label
+at_least w es c label x n h k = let m = mul-le-mul_right x k in omega arith
+
+pub overflow_put : (es : Mixed) (i : ℕ) (label : MixedLabel) (had c : ℤ) → slice_get es i ≡ Some (label, had) → 2 ^ 127 ≤ nat_abs (had +ℤ c) → Overflows ((label, c) ∷ []) es
+overflow_put es i label had c h large w positive =
+    let s = weight_splits w es i (label, had) h in
+    let was = s.1 in
+    three (2 ^ 127) (nat_abs (had +ℤ c)) (nat_abs (had +ℤ c) * w label) (nat_abs had * w label) (nat_abs c * w label) s.0 (weight w es)
+    large (at_least w es c label (nat_abs (had +ℤ c)) (nat_abs (had +ℤ c)) (omega arith) (positive label)) (weight_more had c (w label)) was
+  where
+    three : (n a b x y r t : ℕ) → n ≤ a → a ≤ b → b ≤ x + y → t ≡ x + r → n ≤ t + (y + 0)
+    three n a b x y r t h k l e = omega arith
+
+-- the label at the place where a test finds one
+pub entry_found : (es : Mixed) (test : MixedLabel → Bool) (i : ℕ) → i < length es → position test (keys_of es) ≡ Some i
+    → (p : MixedLabel × ℤ) × (slice_get es i ≡ Some p) × (test p.0 ≡ true)
+entry_found [] test i l h = absurd (omega arith)
+entry_found (e ∷ es) test i l h = let p = entry (e ∷ es) i l in (p.0, p.1, ap test (sym (p.2 e.0)) ∙ (position-Some test (keys_of (e ∷ es)) i e.0 h).1)
+  where
+    entry : (ds : Mixed) (j : ℕ) → j < length ds → (p : MixedLabel × ℤ) × (slice_get ds j ≡ Some p) × ((d : MixedLabel) → get_or (keys_of ds) j d ≡ p.0)
+    entry [] j k = absurd (omega arith)
+    entry (d ∷ ds) zero k = (d, refl, λ x. refl)
+    entry (d ∷ ds) (suc j) k = entry ds j (omega arith)
+
+pub value_entry : (es : Mixed) (i : ℕ) (p : MixedLabel × ℤ) (v : ℤ) → slice_get es i ≡ Some p → slice_get (values_of es) i ≡ Some v → v ≡ p.1
+value_entry [] i p v h k = cc
+value_entry (e ∷ es) zero p v h k = let here : e ≡ p = cc in let there : e.1 ≡ v = cc in sym there ∙ ap (λ (x : MixedLabel × ℤ). x.1) here
+value_entry (e ∷ es) (suc i) p v h k = value_entry es i p v h k
+
+pub none_found : {A : Type 0} (o : Option A) → false ≡ is_some o → o ≡ None
+none_found None h = refl
+none_found (Some x) h = cc
+
+-- ---- one list after another
+
+pub Added-none : (es : Mixed) → Added [] es es
+Added-none es = record { sums = λ f. sym (+ℤ_idr (weighed f es)); weights = λ w. omega arith }
+
+pub Added-then : (xs ys old mid new : Mixed) → Added xs old mid → Added ys mid new → Added (xs ++ ys) old new
+Added-then xs ys old mid new h k = record {
+  sums = λ f. omega (arith, ints, h.sums f, k.sums f, weighed-append f xs ys);
+  weights = λ w. let a = h.weights w in let b = k.weights w in let c = weight-append w xs ys in omega arith;
+}
+
+pub Overflows-then : (xs ys old mid : Mixed) → Added xs old mid → Overflows ys mid → Overflows (xs ++ ys) old
+Overflows-then xs ys old mid h k w positive = let a = h.weights w in let b = k w positive in let c = weight-append w xs ys in omega arith
+
+pub Overflows-front : (xs ys old : Mixed) → Overflows xs old → Overflows (xs ++ ys) old
+Overflows-front xs ys old k w positive = let b = k w positive in let c = weight-append w xs ys in omega arith
+
+pub same_label : (a b : MixedLabel) → (pointwise nat_eq a.converted b.converted && pointwise nat_eq a.augmented b.augmented) ≡ true → a ≡ b
+same_label a b h =
+    let p = and_parts (pointwise nat_eq a.converted b.converted) (pointwise nat_eq a.augmented b.augmented) h in
+    ap₂ (λ (x y : List ℕ). mixed x y) ((bytes_eq-Decides a.converted b.converted).0 p.0) ((bytes_eq-Decides a.augmented b.augmented).0 p.1)
+
+pub on_ok : {T E : Type 0} {P Q : Type 0} (r : Result T E) → (P → Q) → OnOk r P → OnOk r Q
+on_ok (Ok x) f h = f h
+on_ok (Err e) f h = tt
+
+pub refused_sum : (z : ℤ) (answer : Option ℤ) → answer ≡ checked_i128 z → answer ≡ None → 2 ^ 127 ≤ nat_abs z
+refused_sum z answer h e = refused-size z (sym h ∙ e)
+
+pub answered : (z v : ℤ) (answer : Option ℤ) → answer ≡ checked_i128 z → answer ≡ Some v → v ≡ z
+answered z v answer h e = by (fits_128_bits z) (sym h ∙ e)
+  where
+    by : (t : Bool) → where_fits t z ≡ Some v → v ≡ z
+    by true e = let same : z ≡ v = cc in sym same
+    by false e = cc
+
+pub overflow_term : (es : Mixed) (label : MixedLabel) (z : ℤ) → 2 ^ 127 ≤ nat_abs z → Overflows ((label, z) ∷ []) es
+overflow_term es label z h w positive = let m = at_least w es z label (nat_abs z) (2 ^ 127) h (positive label) in omega arith
+
+pub Added-zero : (es : Mixed) (label : MixedLabel) (z : ℤ) → z ≡ pos 0 → Added ((label, z) ∷ []) es es
+Added-zero es label z e = record {
+  sums = λ f. let h : z *ℤ f label ≡ pos 0 = ap (λ c. c *ℤ f label) e ∙ zero-*ℤ (f label) in omega (arith, ints, h);
+  weights = λ w. omega arith;
+}

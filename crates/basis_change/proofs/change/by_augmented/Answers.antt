@@ -1,0 +1,107 @@
+use Rattle.std.proofs.Common.{◌≡◌, ◌*◌, ◌^◌, ◌<◌, ◌≤◌, ℕ, length, sym, ap, ◌∙◌, subst, Err, arith}
+use Rattle.sym_model.specs.Weight.{factorial}
+use Rattle.sparse_polys.proofs.Steps.{error_is}
+use Rattle.basis_expand.proofs.WholeLists.{if_ok_both}
+use Rattle.basis_expand.proofs.Quotients.{Quotients}
+use Rattle.basis_change.specs.Mixed.{weighed, weight, AreReady, converted_terms}
+use Rattle.basis_change.specs.Clearing.{cleared_terms, HasFactors}
+use Rattle.basis_change.specs.Costs.{cost}
+use Rattle.basis_change.specs.Factors.{product_value}
+use Rattle.basis_change.proofs.Costs.{cost-positive, factorial-positive}
+use Rattle.basis_change.proofs.CostTable.{has-factors}
+use Rattle.basis_change.proofs.Bounds.{large-number, large-denominator, weight-mono}
+use Rattle.basis_change.proofs.Starts.{none-large, start-cost, table-cost, table-ready}
+use Rattle.basis_change.proofs.Ends.{expansion-changed}
+use Rattle.basis_change.proofs.change.by_augmented.Goals as goal
+use native.Mathlib.Nat.{mul-pos, mul-le-mul_left}
+use lib.IntN.{+ℤ_idl}
+
+pub returns-in_default-clause-large : goal.returns-in_default-clause-large
+returns-in_default-clause-large c err d w =
+    let size = c.greatest_size-size.result in
+    let large = none-large (c.args.bound.den * c.factorial-factor.result) c.denominator_product.result c.denominator_product.ensures c.in_default.is in
+    large-denominator c.args.family c.args.bound.num c.args.bound.den size d c.requires.positive.0 (c.greatest_size-size.ensures.least d w)
+    (subst (λ f. 2 ^ 127 ≤ c.args.bound.den * f) c.factorial-factor.ensures large)
+
+pub returns-in_err-start-clause-large : goal.returns-in_err-start-clause-large
+returns-in_err-start-clause-large c err d w =
+    let size = c.greatest_size-size.result in
+    let low = c.greatest_size-size.ensures.least 15 c.requires.sizes in
+    let o = c.in_err-start.ensures.large (ap Err (error_is _ _ _ c.from_residual-in_err-start.ensures.1 err)) cost cost-positive in
+    let s = start-cost c.args.bound.num c.args.bound.den size c.factorial-factor.result c.args.list.now c.factorial-factor.ensures low c.is_table.ensures c.greatest_size-size.ensures.within c.requires.bounded in
+    large-number c.args.family c.args.bound.num c.args.bound.den size d (weight cost (cleared_terms c.args.bound.den c.factorial-factor.result c.args.list.now)) c.requires.positive.1 (c.greatest_size-size.ensures.least d w) (omega arith) s
+
+pub returns-in_err-end-clause-large : goal.returns-in_err-end-clause-large
+returns-in_err-end-clause-large c err d w =
+    let size = c.greatest_size-size.result in
+    let low = c.greatest_size-size.ensures.least 15 c.requires.sizes in
+    let o = c.in_err-end.ensures.large (ap Err (error_is _ _ _ c.from_residual-in_err-end.ensures.1 err)) in
+    let s = table-cost c.args.bound.num c.args.bound.den size c.factorial-factor.result c.args.list.now c.factorial-factor.ensures low c.is_table.ensures c.greatest_size-size.ensures.within c.in_ok-start.start.entries c.requires.bounded c.in_ok-start.ensures.ok in
+    large-number c.args.family c.args.bound.num c.args.bound.den size d (weight cost c.in_ok-start.start.entries) c.requires.positive.1 (c.greatest_size-size.ensures.least d w) o s
+
+pub in_augmented-requires-clause-den : goal.in_augmented-requires-clause-den
+in_augmented-requires-clause-den c =
+    let small = c.in-Some.ensures.0 in
+    let f = factorial-positive c.greatest_size-size.result in
+    let e = c.factorial-factor.ensures in
+    below c.args.bound.den c.factorial-factor.result small (omega arith)
+  where
+    below : (a b : ℕ) → a * b < 2 ^ 127 → 0 < b → a < 2 ^ 127
+    below a b h p = let m : a * 1 ≤ a * b = mul-le-mul_left a p in omega arith
+
+pub in_augmented-requires-clause-multiplicities : goal.in_augmented-requires-clause-multiplicities
+in_augmented-requires-clause-multiplicities c =
+    let low = c.greatest_size-size.ensures.least 15 c.requires.sizes in
+    subst (λ f. HasFactors f c.args.list.now) (sym c.factorial-factor.ensures) (has-factors c.greatest_size-size.result c.args.list.now low c.is_table.ensures c.greatest_size-size.ensures.within)
+
+pub converted-requires-clause-few : goal.converted-requires-clause-few
+converted-requires-clause-few c =
+    let low = c.greatest_size-size.ensures.least 15 c.requires.sizes in
+    let n = c.in_ok-factors.ensures.length in
+    let l = ap length c.as_slice.ensures.value in
+    omega arith
+
+pub converted-requires-clause-ready : goal.converted-requires-clause-ready
+converted-requires-clause-ready c =
+    let size = c.greatest_size-size.result in
+    let low = c.greatest_size-size.ensures.least 15 c.requires.sizes in
+    let n = c.in_ok-factors.ensures.length in
+    let v = ap length c.as_slice.ensures.value in
+    let l : length c.as_slice.result.now ≡ c.greatest_size-size.result = omega arith in
+    subst (λ n. AreReady n c.greatest_size-size.result c.in_ok-start.start.entries) (sym l)
+    (table-ready c.args.bound.num c.args.bound.den size c.factorial-factor.result c.args.list.now c.factorial-factor.ensures low c.is_table.ensures c.greatest_size-size.ensures.within c.in_ok-start.start.entries c.in_ok-start.ensures.ok)
+
+pub divided-requires : goal.divided-requires
+divided-requires c =
+    let small = c.in-Some.ensures.0 in
+    let den = c.in-Some.ensures.1 in
+    let f = factorial-positive c.greatest_size-size.result in
+    let e = c.factorial-factor.ensures in
+    let p : 0 < c.args.bound.den * c.factorial-factor.result = mul-pos c.requires.positive.1 (let q : 0 < c.factorial-factor.result = omega arith in q) in
+    (omega arith, omega arith)
+
+pub returns-clause-value : goal.returns-clause-value
+returns-clause-value c =
+    let size = c.greatest_size-size.result in
+    let D = c.args.bound.den in
+    let low = c.greatest_size-size.ensures.least 15 c.requires.sizes in
+    let den : c.in-Some.den ≡ c.args.bound.den * factorial c.greatest_size-size.result = c.in-Some.ensures.1 ∙ ap (λ f. c.args.bound.den * f) c.factorial-factor.ensures in
+    if_ok_both c.divided.result c.divided.ensures.value c.divided.ensures.table
+    (λ answer quotients table n f q h.
+    expansion-changed c.args.family c.args.bound.num c.args.bound.den c.greatest_size-size.result c.args.list.now answer c.in_ok-end.end.entries c.requires.positive.1 low c.is_table.ensures c.greatest_size-size.ensures.within c.requires.bounded
+    (λ m φ.
+    c.in_ok-end.ensures.value m φ ∙ c.in_ok-start.ensures.ok.sums (product_value c.args.family m φ) ∙ +ℤ_idl (weighed (product_value c.args.family m φ) (cleared_terms c.args.bound.den c.factorial-factor.result c.args.list.now))
+    ∙ ap (λ x. weighed (product_value c.args.family m φ) (cleared_terms c.args.bound.den x c.args.list.now)) c.factorial-factor.ensures)
+    (length c.as_slice.result.now) c.in_ok-end.ensures.ready table
+    (subst (λ d. Quotients d answer (converted_terms c.in_ok-end.end.entries)) den quotients)
+    (factorial-positive c.greatest_size-size.result) n f q h)
+
+pub returns-clause-large : goal.returns-clause-large
+returns-clause-large c err d w =
+    let size = c.greatest_size-size.result in
+    let low = c.greatest_size-size.ensures.least 15 c.requires.sizes in
+    let o = c.divided.ensures.large err in
+    let m = weight-mono (λ l. 1) cost c.in_ok-end.end.entries cost-positive in
+    let k = c.in_ok-end.ensures.cost in
+    let s = table-cost c.args.bound.num c.args.bound.den size c.factorial-factor.result c.args.list.now c.factorial-factor.ensures low c.is_table.ensures c.greatest_size-size.ensures.within c.in_ok-start.start.entries c.requires.bounded c.in_ok-start.ensures.ok in
+    large-number c.args.family c.args.bound.num c.args.bound.den size d (weight cost c.in_ok-start.start.entries) c.requires.positive.1 (c.greatest_size-size.ensures.least d w) (omega arith) s

@@ -1,0 +1,14 @@
+use Rattle.std.proofs.Common.{ap, subst, sym, ◌∙◌, arith}
+use Rattle.partitions.specs.Limits.{IsWithinLimits}
+use Rattle.basis_expand.proofs.PartitionTerms.{IsWithinLimits-low}
+use Rattle.basis_change.specs.Mixed.{merged}
+use Rattle.basis_change.proofs.PartLists.{IsPartition-merged, size-merged}
+use Rattle.basis_change.proofs.products.add_merged.Goals as goal
+
+pub from_valid_parts-requires : goal.from_valid_parts-requires
+from_valid_parts-requires c =
+    let more = c.args.more.now in
+    let converted = c.args.converted.now in
+    let s = size-merged more converted in
+    let low = IsWithinLimits-low (merged more converted) (IsPartition-merged more converted c.requires.converted) (omega (arith, c.requires.sizes)) in
+    subst (λ l. IsWithinLimits l) (sym (c.deref.ensures.value ∙ c.in_ok-insert_parts.ensures ∙ ap (merged c.args.more.now) c.in_ok-parts.ensures)) low

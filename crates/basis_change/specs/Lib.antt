@@ -1,0 +1,5 @@
+pub mod Limits
+pub mod Mixed
+pub mod Factors
+pub mod Costs
+pub mod Clearing

@@ -1,0 +1,41 @@
+//! Converted terms, each divided by one number.
+ghost use Rattle.std.specs.Prelude.{◌≡◌, ℕ, List, ◌<◌, ◌≤◌, ◌^◌, map, IfOk, IsErrOf};
+ghost use Rattle.coeff_rings.specs.Fractions.{lowest_terms};
+ghost use Rattle.sym_model.specs.Polynomial.{coefficient};
+ghost use Rattle.basis_expand.specs.Tables.{found, IsTable};
+ghost use Rattle.basis_change.specs.Mixed.{converted_terms, weight};
+
+use crate::table::{Mixed, entry_at};
+use calc_base::SumFault;
+use coeff_rings::{Frac, Int};
+use partitions::Partition;
+use sparse_polys::Lin;
+use std::alloc::Global;
+
+/// A whole number divided by a positive one, in lowest terms.
+fn quotient_of(num: Int, den: u128) -> Frac
+    requires { (0 < den) × (den < 2 ^ 127) }
+    ensures { result ≡ lowest_terms num den }
+{
+    Frac::new(num.get(), den as i128).unwrap()
+}
+
+/// The converted terms, divided by the number.
+pub(crate) fn divided(
+    alloc: Global,
+    sum: &Mixed,
+    den: u128,
+) -> Result<Lin<Partition, Frac>, SumFault>
+    requires { (0 < den) × (den < 2 ^ 127) }
+    ensures value { IfOk result (λ list. (label : List ℕ)
+        → found list label ≡ lowest_terms (coefficient (converted_terms sum.now.entries) label) den) }
+    ensures table { IfOk result IsTable }
+    ensures large { IsErrOf result SumFault.Large → 2 ^ 127 ≤ weight (λ l. 1) sum.now.entries }
+{
+    let mut list = Lin::new(alloc);
+    for at in 0..sum.len() {
+        let (label, c) = entry_at(sum, at);
+        list.add_term(label.converted.copy()?, quotient_of(c, den))?;
+    }
+    Ok(list)
+}

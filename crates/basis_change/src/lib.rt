@@ -1,0 +1,14 @@
+//! Changes between the bases of symmetric functions.
+#![tactic(auto)]
+
+mod change;
+mod clearing;
+mod division;
+mod factors;
+mod mixed;
+mod parts;
+mod products;
+mod rewriting;
+mod table;
+
+pub use change::to_basis;

@@ -1,0 +1,113 @@
+//! Partitions with parts put in and raised, and numbers that belong to a partition.
+ghost use Rattle.std.specs.Prelude.{◌≡◌, ◌+◌, ◌<◌, ◌≤◌, ◌^◌, length, IfOk, OnOk};
+ghost use Rattle.sym_model.specs.Partition.{insert_part, ArePositive};
+ghost use Rattle.sym_model.specs.RaisedPart.{raise, without_one};
+ghost use Rattle.sym_model.specs.Schur.{times_in};
+ghost use Rattle.sym_model.specs.Weight.{factorial};
+ghost use Rattle.basis_change_laws.specs.AugmentedMonomial.{multiplicity_factorials};
+ghost use Rattle.basis_change.specs.Mixed.{merged};
+
+use std::alloc::{AllocError, Global};
+
+/// A copy of the parts.
+pub(crate) fn copy_of(alloc: Global, parts: &[u16]) -> Result<Vec<u16>, AllocError>
+    ensures { IfOk result (λ copy. copy.items ≡ parts.now) }
+{
+    let mut copy = Vec::new(alloc);
+    copy.extend_from_slice(parts)?;
+    Ok(copy)
+}
+
+/// Puts a part into its place.
+pub(crate) fn insert_part(parts: &mut Vec<u16>, part: u16) -> Result<(), AllocError>
+    requires { 0 < part }
+    ensures { OnOk result (parts.new.items ≡ insert_part part parts.old.items) }
+{
+    let mut at = 0;
+    while at < parts.len() && parts[at] > part {
+        at += 1;
+    }
+    parts.insert(at, part)?;
+    Ok(())
+}
+
+/// Puts more parts into their places.
+pub(crate) fn insert_parts(parts: &mut Vec<u16>, more: &[u16]) -> Result<(), AllocError>
+    requires { ArePositive more.now }
+    ensures { OnOk result (parts.new.items ≡ merged more.now parts.old.items) }
+{
+    for part in more {
+        insert_part(parts, *part)?;
+    }
+    Ok(())
+}
+
+/// The parts with the first one that is `from` made `by` greater.
+pub(crate) fn raised(
+    alloc: Global,
+    parts: &[u16],
+    from: u16,
+    by: u16,
+) -> Result<Vec<u16>, AllocError>
+    requires { (0 < by) × (by + from < 2 ^ 16) }
+    ensures { IfOk result (λ raised. raised.items ≡ raise by from parts.now) }
+{
+    let mut rest = without_part(alloc, parts, from)?;
+    insert_part(&mut rest, by + from)?;
+    Ok(rest)
+}
+
+/// The parts without the first one that is the number.
+fn without_part(alloc: Global, parts: &[u16], part: u16) -> Result<Vec<u16>, AllocError>
+    ensures { IfOk result (λ rest. rest.items ≡ without_one part parts.now) }
+{
+    let mut rest = Vec::new(alloc);
+    let mut found = false;
+    for p in parts {
+        if !found && *p == part {
+            found = true;
+        } else {
+            rest.push(*p)?;
+        }
+    }
+    Ok(rest)
+}
+
+/// How often the number is a part.
+fn times_in(parts: &[u16], part: u16) -> u16
+    requires { length parts.now < 2 ^ 16 }
+    ensures { result ≡ times_in part parts.now }
+{
+    let mut times = 0;
+    for p in parts {
+        if *p == part {
+            times += 1;
+        }
+    }
+    times
+}
+
+/// The product of the factorials of the multiplicities of the parts.
+pub(crate) fn multiplicity_factorials(parts: &[u16]) -> u128
+    requires length { length parts.now < 2 ^ 16 }
+    requires fits { multiplicity_factorials parts.now < 2 ^ 127 }
+    ensures { result ≡ multiplicity_factorials parts.now }
+{
+    let mut product = 1;
+    for at in 0..parts.len() {
+        product *= u128::from(times_in(&parts[at..], parts[at]));
+    }
+    product
+}
+
+/// The product of the numbers up to `d`.
+pub(crate) fn factorial(d: u16) -> u128
+    requires { d ≤ 20 }
+    ensures { result ≡ factorial d }
+{
+    let mut product = 1;
+    for i in 0..d {
+        product *= u128::from(i) + 1;
+    }
+    product
+}

@@ -1,0 +1,147 @@
+//! Products of terms put into a table.
+ghost use Rattle.std.specs.Prelude.{◌≡◌, ◌≢◌, ◌+◌, ◌-◌, ◌*◌, ◌<◌, ◌≤◌, ◌∷◌, [], pos, neg_ℤ, length, OnOk, IsErrOf};
+ghost use Rattle.sym_model.specs.Partition.{IsPartition, ArePositive, size};
+ghost use Rattle.sym_model.specs.RaisedPart.{raise};
+ghost use Rattle.partitions.specs.Limits.{IsWithinLimits};
+ghost use Rattle.basis_change.specs.Mixed.{mixed, Added, Overflows, AreLow, merged, products, raised};
+
+use crate::mixed::MixedLabel;
+use crate::parts::{copy_of, insert_parts, raised};
+use crate::table::{Mixed, add, entry_at};
+use calc_base::SumFault;
+use coeff_rings::{Int, Ring, Scalar};
+use partitions::Partition;
+use std::alloc::Global;
+
+/// Adds a term whose converted partition has the parts of both lists.
+fn add_merged(
+    alloc: Global,
+    sum: &mut Mixed,
+    more: &[u16],
+    converted: &[u16],
+    augmented: &[u16],
+    c: Int,
+) -> Result<(), SumFault>
+    requires more { ArePositive more.now }
+    requires converted { IsPartition converted.now }
+    requires sizes { size more.now + size converted.now ≤ 512 }
+    requires augmented { IsWithinLimits augmented.now }
+    ensures ok { OnOk result (Added ((mixed (merged more.now converted.now) augmented.now, c) ∷ []) sum.old.entries sum.new.entries) }
+    ensures large { IsErrOf result SumFault.Large
+        → Overflows ((mixed (merged more.now converted.now) augmented.now, c) ∷ []) sum.old.entries }
+{
+    let mut parts = copy_of(alloc, converted)?;
+    insert_parts(&mut parts, more)?;
+    let label = MixedLabel {
+        converted: Partition::from_valid_parts(alloc, &parts)?,
+        augmented: Partition::from_valid_parts(alloc, augmented)?,
+    };
+    add(sum, label, c)
+}
+
+/// Adds a term of a list times c, times the target's polynomial of a partition, times an augmented monomial.
+fn add_product(
+    alloc: Global,
+    sum: &mut Mixed,
+    label: &MixedLabel,
+    have: Int,
+    converted: &[u16],
+    augmented: &[u16],
+    c: Int,
+) -> Result<(), SumFault>
+    requires low { have ≢ pos 0 → size label.now.converted + size converted.now ≤ 512 }
+    requires converted { IsPartition converted.now }
+    requires augmented { IsWithinLimits augmented.now }
+    ensures ok { OnOk result (Added (products c ((label.now, have) ∷ []) converted.now augmented.now) sum.old.entries sum.new.entries) }
+    ensures large { IsErrOf result SumFault.Large
+        → Overflows (products c ((label.now, have) ∷ []) converted.now augmented.now) sum.old.entries }
+{
+    if have.is_zero() {
+        return Ok(());
+    }
+    let Some(product) = have.mul(c) else {
+        return Err(SumFault::Large);
+    };
+    add_merged(
+        alloc,
+        sum,
+        label.converted.parts(),
+        converted,
+        augmented,
+        product,
+    )
+}
+
+/// Adds c times each term of a list, times the target's polynomial of a partition, times an augmented monomial.
+pub(crate) fn add_products(
+    alloc: Global,
+    sum: &mut Mixed,
+    factor: &Mixed,
+    converted: &[u16],
+    augmented: &[u16],
+    c: Int,
+) -> Result<(), SumFault>
+    requires low { AreLow (512 - size converted.now) factor.now.entries }
+    requires small { size converted.now ≤ 512 }
+    requires converted { IsPartition converted.now }
+    requires augmented { IsWithinLimits augmented.now }
+    ensures ok { OnOk result (Added (products c factor.now.entries converted.now augmented.now) sum.old.entries sum.new.entries) }
+    ensures large { IsErrOf result SumFault.Large
+        → Overflows (products c factor.now.entries converted.now augmented.now) sum.old.entries }
+{
+    for at in 0..factor.len() {
+        let (label, have) = entry_at(factor, at);
+        add_product(alloc, sum, label, have, converted, augmented, c)?;
+    }
+    Ok(())
+}
+
+/// Takes c times the augmented monomial away in which a part is raised.
+fn take_one(
+    alloc: Global,
+    sum: &mut Mixed,
+    converted: &Partition,
+    augmented: &[u16],
+    by: u16,
+    part: u16,
+    c: Int,
+) -> Result<(), SumFault>
+    requires by { 0 < by }
+    requires small { by + part ≤ 4096 }
+    requires limits { IsWithinLimits (raise by part augmented.now) }
+    ensures ok { OnOk result (Added (raised c converted.now by augmented.now (part ∷ [])) sum.old.entries sum.new.entries) }
+    ensures large { IsErrOf result SumFault.Large
+        → Overflows (raised c converted.now by augmented.now (part ∷ [])) sum.old.entries }
+{
+    let Some(minus) = c.neg() else {
+        return Err(SumFault::Large);
+    };
+    let parts = raised(alloc, augmented, part, by)?;
+    let label = MixedLabel {
+        converted: converted.copy()?,
+        augmented: Partition::from_valid_parts(alloc, &parts)?,
+    };
+    add(sum, label, minus)
+}
+
+/// Takes c times each augmented monomial away in which a part is raised.
+pub(crate) fn take_raised(
+    alloc: Global,
+    sum: &mut Mixed,
+    converted: &Partition,
+    augmented: &[u16],
+    by: u16,
+    c: Int,
+) -> Result<(), SumFault>
+    requires by { 0 < by }
+    requires partition { IsPartition augmented.now }
+    requires small { by + size augmented.now ≤ 512 }
+    ensures ok { OnOk result (Added (raised c converted.now by augmented.now augmented.now) sum.old.entries sum.new.entries) }
+    ensures large { IsErrOf result SumFault.Large
+        → Overflows (raised c converted.now by augmented.now augmented.now) sum.old.entries }
+{
+    for part in augmented {
+        take_one(alloc, sum, converted, augmented, by, *part, c)?;
+    }
+    Ok(())
+}

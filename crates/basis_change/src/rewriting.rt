@@ -1,0 +1,95 @@
+//! The parts of augmented monomials converted one after another.
+ghost use Rattle.std.specs.Prelude.{◌≡◌, ℕ, ◌+◌, ◌*◌, ◌^◌, ◌<◌, ◌≤◌, ℤ, List, ◌∷◌, [], map, length, IfOk, OnOk, IsErrOf};
+ghost use Rattle.basis_change.specs.Mixed.{weighed, weight, Added, Overflows, AreReady, conversion_at, conversions};
+ghost use Rattle.basis_change.specs.Factors.{ArePowerSums, product_value};
+ghost use Rattle.basis_change.specs.Costs.{cost};
+
+use crate::factors::Family;
+use crate::mixed::MixedLabel;
+use crate::products::{add_products, take_raised};
+use crate::table::{Mixed, add, entry_at};
+use calc_base::SumFault;
+use coeff_rings::{Int, Scalar};
+use indexmap::IndexMap;
+use std::alloc::Global;
+
+/// Adds what comes of a term where augmented monomials of so many parts are converted.
+fn add_conversion(
+    alloc: Global,
+    family: Family,
+    next: &mut Mixed,
+    factors: &[Mixed],
+    label: &MixedLabel,
+    c: Int,
+    rows: u16,
+) -> Result<(), SumFault>
+    requires factors { ArePowerSums family (length factors.now) (map (λ m. m.entries) factors.now) }
+    requires few { length factors.now ≤ 15 }
+    requires ready { AreReady (length factors.now) rows ((label.now, c) ∷ []) }
+    ensures ok { OnOk result (Added (conversion_at (map (λ m. m.entries) factors.now) rows (label.now, c)) next.old.entries next.new.entries) }
+    ensures large { IsErrOf result SumFault.Large
+        → Overflows (conversion_at (map (λ m. m.entries) factors.now) rows (label.now, c)) next.old.entries }
+{
+    let _ = family;
+    if c.is_zero() {
+        return Ok(());
+    }
+    if label.augmented.rows() != rows {
+        return add(next, label.copy()?, c);
+    }
+    let Some((first, rest)) = label.augmented.parts().split_first() else {
+        return add(next, label.copy()?, c);
+    };
+    let factor = &factors[usize::from(*first) - 1];
+    add_products(alloc, next, factor, label.converted.parts(), rest, c)?;
+    take_raised(alloc, next, &label.converted, rest, *first, c)
+}
+
+/// The terms whose augmented monomials have `rows` parts with the first one converted, and the other terms.
+fn step(
+    alloc: Global,
+    family: Family,
+    table: &Mixed,
+    factors: &[Mixed],
+    rows: u16,
+) -> Result<Mixed, SumFault>
+    requires factors { ArePowerSums family (length factors.now) (map (λ m. m.entries) factors.now) }
+    requires few { length factors.now ≤ 15 }
+    requires ready { AreReady (length factors.now) rows table.now.entries }
+    ensures ok { IfOk result (λ next. Added (conversions (map (λ m. m.entries) factors.now) rows table.now.entries) [] next.entries) }
+    ensures large { IsErrOf result SumFault.Large
+        → Overflows (conversions (map (λ m. m.entries) factors.now) rows table.now.entries) [] }
+{
+    let mut next = IndexMap::new(alloc);
+    for at in 0..table.len() {
+        let (label, c) = entry_at(table, at);
+        add_conversion(alloc, family, &mut next, factors, label, c, rows)?;
+    }
+    Ok(next)
+}
+
+/// All augmented monomials of at most `most` parts converted.
+pub(crate) fn converted(
+    alloc: Global,
+    family: Family,
+    table: Mixed,
+    factors: &[Mixed],
+    most: u16,
+) -> Result<Mixed, SumFault>
+    requires factors { ArePowerSums family (length factors.now) (map (λ m. m.entries) factors.now) }
+    requires few { length factors.now ≤ 15 }
+    requires ready { AreReady (length factors.now) most table.entries }
+    ensures value { IfOk result (λ end. (n : ℕ) (φ : List ℕ → ℤ)
+        → weighed (product_value family n φ) end.entries ≡ weighed (product_value family n φ) table.entries) }
+    ensures cost { IfOk result (λ end. weight cost end.entries ≤ weight cost table.entries) }
+    ensures ready { IfOk result (λ end. AreReady (length factors.now) 0 end.entries) }
+    ensures large { IsErrOf result SumFault.Large → 2 ^ 127 ≤ weight cost table.entries }
+{
+    let mut table = table;
+    let mut rows = most;
+    while rows > 0 {
+        table = step(alloc, family, &table, factors, rows)?;
+        rows -= 1;
+    }
+    Ok(table)
+}

@@ -1,0 +1,3 @@
+pub mod SortedAlternants
+pub mod StraightenedMonomials
+pub mod EnoughPlaces

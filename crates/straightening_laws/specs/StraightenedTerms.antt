@@ -1,0 +1,14 @@
+-- Lists of exponents straightened, as terms in Schur polynomials (Macdonald, I.3).
+use Rattle.std.specs.Prelude.{ℕ, ℤ, List, [], ◌∷◌, Option, Some, None}
+use Rattle.sym_model.specs.Sum.{each}
+use Rattle.sym_model.specs.Straightening.{straightened}
+use Rattle.sym_model.specs.WholeTerms.{WholeTerms}
+
+-- the one term, with its sign as coefficient, and none where the list of exponents comes to 0
+abbrev pub straightened_term : Option (ℤ × List ℕ) → WholeTerms
+straightened_term None = []
+straightened_term (Some s) = (s.1, s.0) ∷ []
+
+-- the terms of all lists of exponents
+abbrev pub straightened_terms : List (List ℕ) → WholeTerms
+straightened_terms lists = each (λ α. straightened_term (straightened α)) lists
