@@ -1,2 +1,6 @@
 -- Lemmas of the crate.
 pub mod Texts
+pub mod PrintableTerms
+pub mod RowTexts
+pub mod ReadingCells
+pub mod TableauRows

@@ -1,99 +1,104 @@
--- Texts of lists, item by item: numbers with commas, and lines; and what the terms of a list tell of it.
-use Rattle.std.proofs.Common.{◌≡◌, ℕ, ◌+◌, ◌-◌, ◌<◌, ◌≤◌, length, get_or, take, drop, take_all, arith, List, [], ◌∷◌, ◌++◌, refl, sym, ◌∙◌, ap, append_assoc, append-nil}
-use Rattle.std.specs.Prelude.{codes, decimal}
-use Rattle.std.specs.List.{flat_map}
-use Rattle.std.proofs.lemmas.List.{take_more}
-use Rattle.std.proofs.lemmas.Grind.{flat_map-append}
+-- Texts of lists, item by item: numbers with a separator, and lines.
+use Rattle.std.proofs.Common.{◌≡◌, ℕ, ◌+◌, ◌<◌, ◌≤◌, length, get_or, take, take_all, arith, List, [], ◌∷◌, ◌++◌, refl, sym, ◌∙◌, ap, append_assoc, append-nil, map, cond, ◌==◌, zero, suc}
+use Rattle.std.specs.Prelude.{codes, decimal, ℤ, pos, negsuc, nat_lt}
+use Rattle.std.specs.Fmt.{digits, signed_decimal}
+use Rattle.std.proofs.lemmas.List.{take_more, length-map, length-take-le, map-append}
+use Rattle.std.proofs.lemmas.Bool.{eq-eqb, ne_eqb, cond-true, cond-false, lt-ltb}
 use Rattle.sym_model.specs.Expansion.{Fraction, Terms}
-use Rattle.sym_model.specs.PrintedBlock.{numbers_text, line_text, lines_text, block}
-use Rattle.sym_model.specs.Canonical.{is_printable}
-use Rattle.std.proofs.lemmas.Bool.{and_from}
-use Rattle.std.specs.Prelude.{true}
-use Rattle.coeff_rings.specs.Checked.{IsFraction, fits_fraction}
-use Rattle.coeff_rings.specs.Proved.FractionAnswers.{held-fits_fraction}
-use Rattle.sym_model.specs.Kind.{expansion}
-use Rattle.sym_model.specs.Answer.{answer, IsPrintable}
-use Rattle.sparse_polys.specs.Combination.{terms_of}
+use Rattle.sym_model.specs.NumberText.{numbers_text}
+use Rattle.sym_model.specs.Kind.{LabelRules, label_rules}
+use Rattle.sym_model.specs.Kind as kinds
+use Rattle.sym_model.specs.Answer.{answer, answer_text}
+use Rattle.expansion_printer.specs.Answers.{number_terms}
+use Rattle.sym_model.specs.PrintedBlock.{line_by, lines_by, block_by}
+use Rattle.sym_model.specs.TableauText.{separated}
 
--- a comma and a number
-abbrev pub next_number : ℕ → List ℕ
-next_number number = codes "," ++ decimal number
+-- numbers with commas between them
+pub numbers_text-separated : (numbers : List ℕ) → separated (codes ",") (map decimal numbers) ≡ numbers_text numbers
+numbers_text-separated [] = refl
+numbers_text-separated (a ∷ []) = refl
+numbers_text-separated (a ∷ b ∷ numbers) = ap (λ t. decimal a ++ (codes "," ++ t)) (numbers_text-separated (b ∷ numbers))
 
--- the first number, and each other one behind a comma
-pub numbers_text-cons : (first : ℕ) (others : List ℕ)
-    → decimal first ++ flat_map next_number others ≡ numbers_text (first ∷ others)
-numbers_text-cons first [] = append-nil (decimal first)
-numbers_text-cons first (second ∷ others) = ap (λ t. decimal first ++ (codes "," ++ t)) (numbers_text-cons second others)
+-- one more piece behind some others
+separated-behind : (separator piece : List ℕ) (first : List ℕ) (pieces : List (List ℕ))
+    → separated separator (first ∷ pieces) ++ (separator ++ piece) ≡ separated separator ((first ∷ pieces) ++ piece ∷ [])
+separated-behind separator piece first [] = refl
+separated-behind separator piece first (next ∷ pieces) =
+    append_assoc first (separator ++ separated separator (next ∷ pieces)) (separator ++ piece)
+    ∙ ap (λ t. first ++ t) (append_assoc separator (separated separator (next ∷ pieces)) (separator ++ piece)
+    ∙ ap (λ t. separator ++ t) (separated-behind separator piece next pieces))
 
--- the first number, and those behind it as a slice holds them
-pub numbers_text-split : (numbers : List ℕ) (index : ℕ) → 1 ≤ length numbers
-    → length (take (length numbers - 1) (drop 1 numbers)) ≤ index
-    → decimal (get_or numbers 0 0) ++ flat_map next_number (take index (take (length numbers - 1) (drop 1 numbers)))
-    ≡ numbers_text numbers
-numbers_text-split [] index some all = absurd (omega arith)
-numbers_text-split (first ∷ others) index some all =
-    ap (λ t. decimal first ++ flat_map next_number t)
-    (take_all index (take (length (first ∷ others) - 1) others) all ∙ take_all (length (first ∷ others) - 1) others (omega arith))
-    ∙ numbers_text-cons first others
+-- one more piece, behind a separator but at the first place
+pub separated-push : (separator : List ℕ) (pieces : List (List ℕ)) (piece : List ℕ) (at : ℕ) → length pieces ≡ at
+    → separated separator pieces ++ cond (at == 0) piece (separator ++ piece) ≡ separated separator (pieces ++ piece ∷ [])
+separated-push separator [] piece at first =
+    cond-true (at == 0) piece (separator ++ piece) (eq-eqb at 0 (sym first))
+separated-push separator (other ∷ pieces) piece at later =
+    ap (λ t. separated separator (other ∷ pieces) ++ t) (cond-false (at == 0) piece (separator ++ piece) (ne_eqb at 0 (λ e. omega arith)))
+    ∙ separated-behind separator piece other pieces
 
--- one more number behind a comma
-pub next_number-more : (front others : List ℕ) (index : ℕ) → index < length others
-    → (front ++ flat_map next_number (take index others)) ++ next_number (get_or others index 0)
-    ≡ front ++ flat_map next_number (take (index + 1) others)
-next_number-more front others index below =
-    append_assoc front (flat_map next_number (take index others)) (next_number (get_or others index 0))
-    ∙ ap (λ t. front ++ t) (sym one_more)
+-- one more number of a list
+pub numerals-more : {N : Type 0} (separator : List ℕ) (number : N → ℕ) (numbers : List N) (at : ℕ) (item : N)
+    → at < length numbers → item ≡ get_or numbers at item
+    → separated separator (map decimal (map number (take at numbers)))
+    ++ cond (at == 0) (decimal (number item)) (separator ++ decimal (number item))
+    ≡ separated separator (map decimal (map number (take (at + 1) numbers)))
+numerals-more separator number numbers at item below is =
+    separated-push separator (map decimal (map number (take at numbers))) (decimal (number item)) at long
+    ∙ ap (separated separator) (sym one_more)
   where
-    one_more : flat_map next_number (take (index + 1) others)
-        ≡ flat_map next_number (take index others) ++ next_number (get_or others index 0)
-    one_more = ap (flat_map next_number) (take_more others index 0 below)
-        ∙ flat_map-append next_number (take index others) (get_or others index 0 ∷ [])
-        ∙ ap (λ t. flat_map next_number (take index others) ++ t) (append-nil (next_number (get_or others index 0)))
+    long : length (map decimal (map number (take at numbers))) ≡ at
+    long = length-map (map number (take at numbers)) decimal ∙ length-map (take at numbers) number
+        ∙ length-take-le at numbers (omega arith)
 
--- the lines of the terms are theirs one after another
-pub lines_text-terms : (terms : Terms (List ℕ)) → flat_map line_text terms ≡ lines_text terms
-lines_text-terms [] = refl
-lines_text-terms (t ∷ terms) = ap (λ text. line_text t ++ text) (lines_text-terms terms)
+    one_more : map decimal (map number (take (at + 1) numbers)) ≡ map decimal (map number (take at numbers)) ++ decimal (number item) ∷ []
+    one_more =
+        ap (λ xs. map decimal (map number xs)) (take_more numbers at item below ∙ ap (λ y. take at numbers ++ y ∷ []) (sym is))
+        ∙ ap (map decimal) (map-append number (take at numbers) (item ∷ []))
+        ∙ map-append decimal (map number (take at numbers)) (number item ∷ [])
+
+-- where no number is left, all are written
+pub numerals-all : {N : Type 0} (separator : List ℕ) (number : N → ℕ) (numbers : List N) (at : ℕ) → length numbers ≤ at
+    → separated separator (map decimal (map number (take at numbers))) ≡ separated separator (map decimal (map number numbers))
+numerals-all separator number numbers at all = ap (λ xs. separated separator (map decimal (map number xs))) (take_all at numbers all)
+
+-- the numbers of a list that is read with no change are the list
+pub map_same : (numbers : List ℕ) → map (λ (n : ℕ). n) numbers ≡ numbers
+map_same [] = refl
+map_same (n ∷ numbers) = ap (λ ns. n ∷ ns) (map_same numbers)
+
+-- one more line
+pub lines_by-push : {Label : Type 0} (rules : LabelRules Label) (terms : Terms Label) (t : Label × Fraction)
+    → lines_by rules terms ++ line_by rules t ≡ lines_by rules (terms ++ t ∷ [])
+lines_by-push rules [] t = sym (append-nil (line_by rules t))
+lines_by-push rules (u ∷ terms) t =
+    append_assoc (line_by rules u) (lines_by rules terms) (line_by rules t)
+    ∙ ap (λ text. line_by rules u ++ text) (lines_by-push rules terms t)
 
 -- the block of some terms is their lines
-pub block-terms : (terms : Terms (List ℕ)) → 0 < length terms → flat_map line_text terms ≡ block terms
-block-terms [] some = absurd (omega arith)
-block-terms (t ∷ terms) some = lines_text-terms (t ∷ terms)
+pub block_by-some : {Label : Type 0} (rules : LabelRules Label) (terms : Terms Label) → 0 < length terms
+    → lines_by rules terms ≡ block_by rules terms
+block_by-some rules [] some = absurd (omega arith)
+block_by-some rules (t ∷ terms) some = refl
 
 -- the block of no terms
-pub block-nothing : (terms : Terms (List ℕ)) → length terms ≡ 0 → codes "0\n" ≡ block terms
-block-nothing [] none = refl
-block-nothing (t ∷ terms) none = absurd (omega arith)
-
--- ---- terms with fractions of 128 bits
-
--- pairs of labels and fractions are terms as they are
-pub terms_of-pairs : (pairs : Terms (List ℕ)) → terms_of (λ (r : Fraction). r) pairs ≡ pairs
-terms_of-pairs [] = refl
-terms_of-pairs (p ∷ pairs) = ap (λ ts. p ∷ ts) (terms_of-pairs pairs)
-
--- each coefficient is a fraction of 128 bits
-abbrev pub AreFractions : Terms (List ℕ) → Type 0
-AreFractions [] = Unit {0}
-AreFractions (t ∷ terms) = IsFraction t.1 × AreFractions terms
-
-pub AreFractions-push : (terms : Terms (List ℕ)) (t : List ℕ × Fraction) → AreFractions terms → IsFraction t.1
-    → AreFractions (terms ++ t ∷ [])
-AreFractions-push [] t all one = (one, tt)
-AreFractions-push (u ∷ terms) t all one = (all.0, AreFractions-push terms t all.1 one)
-
--- such terms are printable
-pub printable-fractions : (terms : Terms (List ℕ)) → AreFractions terms → is_printable terms ≡ true
-printable-fractions [] all = refl
-printable-fractions (t ∷ terms) all =
-    and_from (fits_fraction t.1) (is_printable terms) (held-fits_fraction t.1 all.0) (printable-fractions terms all.1)
-
--- a list of no terms is canonical
-pub printable-nothing : (terms : Terms (List ℕ)) → length terms ≡ 0 → IsPrintable (answer expansion terms)
-printable-nothing [] none = (refl, refl)
-printable-nothing (t ∷ terms) none = absurd (omega arith)
+pub block_by-nothing : {Label : Type 0} (rules : LabelRules Label) (terms : Terms Label) → length terms ≡ 0
+    → codes "0\n" ≡ block_by rules terms
+block_by-nothing rules [] none = refl
+block_by-nothing rules (t ∷ terms) none = absurd (omega arith)
 
 -- where nothing is left, what was read is all
 pub all_read : {A : Type 0} (done rest all : List A) → length rest ≡ 0 → done ++ rest ≡ all → done ≡ all
 all_read done [] all none e = sym (append-nil done) ∙ e
 all_read done (x ∷ rest) all none e = absurd (omega arith)
+
+-- the line of a number
+pub number_line : (value : ℤ) → signed_decimal value ++ codes "\n" ≡ answer_text (answer kinds.number (number_terms value))
+unfolding digits
+number_line (pos zero) = refl
+number_line (pos (suc n)) =
+    sym (ap (block_by (label_rules kinds.number)) (cond-true (nat_lt 0 (suc n)) ((tt, (pos (suc n), 1)) ∷ []) [] (lt-ltb 0 (suc n) (omega arith)))
+    ∙ append-nil (signed_decimal (pos (suc n)) ++ codes "\n"))
+number_line (negsuc n) =
+    sym (ap (block_by (label_rules kinds.number)) (cond-true (nat_lt 0 (suc n)) ((tt, (negsuc n, 1)) ∷ []) [] (lt-ltb 0 (suc n) (omega arith)))
+    ∙ append-nil (signed_decimal (negsuc n) ++ codes "\n"))

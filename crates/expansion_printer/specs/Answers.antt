@@ -1,19 +1,43 @@
 -- The answers of the program as plain answers (this project's own).
-use Rattle.sym_model.specs.Kind.{Kind as PlainKind, expansion}
+use Rattle.std.specs.Prelude.{ℤ, [], ◌∷◌, cond, nat_lt, nat_abs}
+use Rattle.sym_model.specs.Kind.{Kind as PlainKind, Label, number, expansion, product, pairs, powers, permutations, polynomial}
+use Rattle.sym_model.specs.Expansion.{Terms}
 use Rattle.sym_model.specs.Answer.{Answer as PlainAnswer, answer}
 use Rattle.expansion_printer.specs.declared.answer.Kind.{Kind}
 use Rattle.expansion_printer.specs.declared.answer.Kind.TheVariants as kinds
 use Rattle.expansion_printer.specs.declared.answer.Answer.{Answer}
-use Rattle.expansion_printer.specs.declared.answer.Answer.TheVariants.{Expansion}
+use Rattle.expansion_printer.specs.declared.answer.Answer.TheVariants.{Number, Expansion, Product, Pairs, Powers, Permutations, Polynomial}
 
 -- the plain kind
 abbrev pub kind_of : Kind → PlainKind
+kind_of kinds.Number = number
 kind_of kinds.Expansion = expansion
+kind_of kinds.Product = product
+kind_of kinds.Pairs = pairs
+kind_of kinds.Powers = powers
+kind_of kinds.Permutations = permutations
+kind_of kinds.Polynomial = polynomial
+
+-- the one term of a number, and no term for 0
+abbrev pub number_terms : ℤ → Terms (Label number)
+number_terms value = cond (nat_lt 0 (nat_abs value)) ((tt, (value, 1)) ∷ []) []
 
 -- the plain answer: its kind and its terms
 abbrev pub plain_answer : Answer → PlainAnswer
+plain_answer (Number value) = answer number (number_terms value)
 plain_answer (Expansion terms) = answer expansion terms
+plain_answer (Product terms) = answer product terms
+plain_answer (Pairs terms) = answer pairs terms
+plain_answer (Powers terms) = answer powers terms
+plain_answer (Permutations terms) = answer permutations terms
+plain_answer (Polynomial terms) = answer polynomial terms
 
 -- the kind of an answer
 abbrev pub kind_of_answer : Answer → PlainKind
+kind_of_answer (Number value) = number
 kind_of_answer (Expansion terms) = expansion
+kind_of_answer (Product terms) = product
+kind_of_answer (Pairs terms) = pairs
+kind_of_answer (Powers terms) = powers
+kind_of_answer (Permutations terms) = permutations
+kind_of_answer (Polynomial terms) = polynomial

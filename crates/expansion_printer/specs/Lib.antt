@@ -1,3 +1,5 @@
 -- The definitions that the contracts cite.
 pub mod Answers
 pub mod Refusal
+pub mod HeldTerms
+pub mod ReadingPlaces

@@ -1,23 +1,49 @@
-// What a command answers.
+//! What a command answers.
 ghost use Rattle.std.specs.Prelude.{◌≡◌};
 ghost use Rattle.expansion_printer.specs.Answers.{kind_of, kind_of_answer};
 
-use coeff_rings::Frac;
+use coeff_rings::{Frac, Int};
+use monomial_polys::Monomial;
 use partitions::Partition;
-use sparse_polys::Terms;
+use perm_codes::Perm;
+use sparse_polys::{Pair, Power, Terms};
 
 /// The kinds of answers.
 #[derive(Clone, Copy, Debug, PartialEq, Eq, Hash)]
 pub enum Kind {
+    /// One number.
+    Number,
     /// Partitions with fractions.
     Expansion,
+    /// Partitions with whole coefficients.
+    Product,
+    /// Pairs of partitions.
+    Pairs,
+    /// Partitions with a power of q.
+    Powers,
+    /// Permutations.
+    Permutations,
+    /// Monomials.
+    Polynomial,
 }
 
-/// An answer: a list of terms in the printed order.
+/// An answer: a number, or a list of terms in the printed order.
 #[derive(Drop)]
 pub enum Answer {
+    /// A number.
+    Number { value: Int },
     /// The expansion of a symmetric function in a basis.
     Expansion { terms: Terms<Partition, Frac> },
+    /// A product, or another whole combination of Schur functions.
+    Product { terms: Terms<Partition, Int> },
+    /// A coproduct.
+    Pairs { terms: Terms<Pair, Int> },
+    /// A quantum product.
+    Powers { terms: Terms<Power, Int> },
+    /// A whole combination of Schubert polynomials.
+    Permutations { terms: Terms<Perm, Int> },
+    /// A polynomial.
+    Polynomial { terms: Terms<Monomial, Int> },
 }
 
 impl Answer {
@@ -26,7 +52,13 @@ impl Answer {
         ensures { kind_of result ≡ kind_of_answer self.now }
     {
         match self {
+            Answer::Number { .. } => Kind::Number,
             Answer::Expansion { .. } => Kind::Expansion,
+            Answer::Product { .. } => Kind::Product,
+            Answer::Pairs { .. } => Kind::Pairs,
+            Answer::Powers { .. } => Kind::Powers,
+            Answer::Permutations { .. } => Kind::Permutations,
+            Answer::Polynomial { .. } => Kind::Polynomial,
         }
     }
 }

@@ -1,20 +1,20 @@
-// The printed block of an answer.
-ghost use Rattle.std.specs.Prelude.{codes, decimal};
+//! The printed block of an answer.
+ghost use Rattle.std.specs.Prelude.{codes, true};
 ghost use Rattle.calc_base.specs.Puts.{Puts, Prints};
-ghost use Rattle.coeff_rings.specs.Checked.{IsFraction};
 ghost use Rattle.sym_model.specs.Answer.{answer, answer_text, IsPrintable};
-ghost use Rattle.sym_model.specs.Kind.{expansion};
-ghost use Rattle.sym_model.specs.PrintedBlock.{block, line_text, label_text, numbers_text};
-ghost use Rattle.expansion_printer.specs.Answers.{plain_answer};
+ghost use Rattle.sym_model.specs.Kind.{number};
+ghost use Rattle.sym_model.specs.PrintedBlock.{block_by, line_by};
+ghost use Rattle.sparse_polys.specs.Combination.{IsCanonicalList};
+ghost use Rattle.expansion_printer.specs.Answers.{plain_answer, number_terms};
+ghost use Rattle.expansion_printer.specs.HeldTerms.{AreHeld};
 
 use crate::answer::Answer;
+use crate::named::Named;
 use calc_base::{Sink, SinkFault, put_if, put_result};
-use coeff_rings::{Digits, Frac, Scalar};
-use itoa::Buffer;
-use partitions::Partition;
+use coeff_rings::{Digits, Int, Scalar};
 use sparse_polys::Terms;
 
-/// Prints the block of the answer: a line for each term, and the line `0` where there is none.
+/// Prints the block of the answer: a line for each term, and the line `0` where there is none. A number is one line.
 ///
 /// `SinkFault` exactly where a put failed. It is the last one, and what was put is then a prefix of the block.
 pub fn print<K: Sink>(answer: &Answer, sink: &mut K) -> Result<(), SinkFault>
@@ -24,14 +24,32 @@ pub fn print<K: Sink>(answer: &Answer, sink: &mut K) -> Result<(), SinkFault>
     ensures printable { IsPrintable (plain_answer answer.now) }
 {
     match answer {
+        Answer::Number { value } => put_result(put_value(*value, sink)),
         Answer::Expansion { terms } => put_result(put_terms(true, terms, sink)),
+        Answer::Product { terms } => put_result(put_terms(true, terms, sink)),
+        Answer::Pairs { terms } => put_result(put_terms(true, terms, sink)),
+        Answer::Powers { terms } => put_result(put_terms(true, terms, sink)),
+        Answer::Permutations { terms } => put_result(put_terms(true, terms, sink)),
+        Answer::Polynomial { terms } => put_result(put_terms(true, terms, sink)),
     }
 }
 
-// Puts the block of the terms.
-fn put_terms<K: Sink>(well: bool, terms: &Terms<Partition, Frac>, sink: &mut K) -> bool
-    ensures goes { Puts K.written K.length K.faults well sink.old result sink.new (block terms.now) }
-    ensures printable { IsPrintable (answer expansion terms.now) }
+/// Puts the line of a number.
+fn put_value<K: Sink>(value: Int, sink: &mut K) -> bool
+    ensures goes { Puts K.written K.length K.faults true sink.old result sink.new (answer_text (answer number (number_terms value))) }
+    ensures printable { IsPrintable (answer number (number_terms value)) }
+{
+    let mut digits = Digits::new();
+    value.digits(&mut digits);
+    let written = put_if(true, sink, digits.as_bytes());
+    put_if(written, sink, b"\n")
+}
+
+/// Puts the block of the terms.
+fn put_terms<L: Named, R: Scalar, K: Sink>(well: bool, terms: &Terms<L, R>, sink: &mut K) -> bool
+    ensures goes { Puts K.written K.length K.faults well sink.old result sink.new (block_by L.line_rules terms.now) }
+    ensures held { AreHeld R.value R.is_held terms.now }
+    ensures canonical { IsCanonicalList L.order L.is_label terms.now }
 {
     if terms.is_empty() {
         return put_if(well, sink, b"0\n");
@@ -43,46 +61,14 @@ fn put_terms<K: Sink>(well: bool, terms: &Terms<Partition, Frac>, sink: &mut K) 
     well
 }
 
-// Puts the line of a term: its coefficient, two spaces and its label.
-fn put_line<K: Sink>(well: bool, label: &Partition, c: Frac, sink: &mut K) -> bool
-    ensures goes { Puts K.written K.length K.faults well sink.old result sink.new (line_text (label.now, c)) }
-    ensures held { IsFraction c }
+/// Puts the line of a term: its coefficient and its label.
+fn put_line<L: Named, R: Scalar, K: Sink>(well: bool, label: &L, c: R, sink: &mut K) -> bool
+    ensures goes { Puts K.written K.length K.faults well sink.old result sink.new (line_by L.line_rules (label.now, R.value c)) }
+    ensures held { R.is_held c }
 {
     let mut digits = Digits::new();
     c.digits(&mut digits);
     let coefficient = put_if(well, sink, digits.as_bytes());
-    let gap = put_if(coefficient, sink, b"  ");
-    let named = put_label(gap, label.parts(), sink);
+    let named = label.put_name(coefficient, sink);
     put_if(named, sink, b"\n")
-}
-
-// Puts a label: the numbers in parentheses.
-fn put_label<K: Sink>(well: bool, numbers: &[u16], sink: &mut K) -> bool
-    ensures { Puts K.written K.length K.faults well sink.old result sink.new (label_text numbers.now) }
-{
-    let opened = put_if(well, sink, b"(");
-    let listed = put_numbers(opened, numbers, sink);
-    put_if(listed, sink, b")")
-}
-
-// Puts the numbers with commas between them.
-fn put_numbers<K: Sink>(well: bool, numbers: &[u16], sink: &mut K) -> bool
-    ensures { Puts K.written K.length K.faults well sink.old result sink.new (numbers_text numbers.now) }
-{
-    let [first, others @ ..] = numbers else {
-        return well;
-    };
-    let mut well = put_number(well, u64::from(*first), sink);
-    for number in others {
-        well = put_if(well, sink, b",");
-        well = put_number(well, u64::from(*number), sink);
-    }
-    well
-}
-
-// Puts a number in decimal.
-pub(crate) fn put_number<K: Sink>(well: bool, number: u64, sink: &mut K) -> bool
-    ensures { Puts K.written K.length K.faults well sink.old result sink.new (decimal number) }
-{
-    put_if(well, sink, Buffer::new().format(number).as_bytes())
 }

@@ -1,5 +1,5 @@
 //! Answers of commands, and the one place where they are printed: the block of an answer, the line of a refusal, and the
-//! line of an answer that is too large.
+//! line of an answer that is too large; the lines of words and tableaux, and single labels.
 //!
 //! A printer puts its text piece by piece to any sink. Where a put fails none follows, and what was put is a prefix of the
 //! text. No memory is taken.
@@ -7,8 +7,16 @@
 
 mod answer;
 mod block;
+mod named;
+mod numbers;
+mod reading;
 mod refusal;
+mod rows;
+mod tableau;
+mod words;
 
 pub use answer::{Answer, Kind};
 pub use block::print;
 pub use refusal::{print_large, print_refusal};
+pub use tableau::{print_reading, print_tableau};
+pub use words::{print_label, print_letters};

@@ -1,10 +1,10 @@
-// The lines of refusals.
+//! The lines of refusals.
 ghost use Rattle.std.specs.Prelude.{◌≢◌, true};
 ghost use Rattle.calc_base.specs.Puts.{Puts, Prints};
 ghost use Rattle.sym_model.specs.RefusalText.{refusal_line, large_line};
 ghost use Rattle.expansion_printer.specs.Refusal.{refusal_text};
 
-use crate::block::put_number;
+use crate::numbers::put_number;
 use calc_base::{Place, Sink, SinkFault, WordsFault, put_if, put_result};
 
 /// Prints the line of a refusal: its name and its place. Want of memory has no line, and is not passed.
@@ -32,7 +32,7 @@ pub fn print_large<K: Sink>(sink: &mut K) -> Result<(), SinkFault>
     put_result(put_if(true, sink, b"! Large\n"))
 }
 
-// Puts the line of an offence: its name and its place.
+/// Puts the line of an offence: its name and its place.
 fn put_offence<K: Sink>(name: &[u8], at: Place, sink: &mut K) -> bool
     ensures { Puts K.written K.length K.faults true sink.old result sink.new (refusal_line name.now at.word at.byte) }
 {

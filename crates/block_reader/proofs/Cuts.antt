@@ -1,0 +1,89 @@
+-- Texts that are cut at their first separator, and their pieces.
+use Rattle.std.proofs.Common.{◌≡◌, ℕ, zero, suc, ◌-◌, ◌≤◌, ◌<◌, length, arith, List, [], ◌∷◌, refl, ◌∙◌, ap, take, drop, get_or, cond, ◌==◌, Bool, true, false}
+use Rattle.std.proofs.lemmas.Bool.{eq-eqb, ne_eqb, cond-true, cond-false}
+use Rattle.std.proofs.Math.Seq.{take-length}
+use Rattle.sym_model.specs.Kind.{after_one, after_two}
+use Rattle.sym_model.specs.NumberText.{cut_at, before_cut, split_at, before_first, without_last, label_of, numbers_of}
+use Rattle.block_reader.specs.Parts.{inside_of}
+
+-- a text with a separator at a place, and none before it
+pub cut-found : (s : ℕ) (text : List ℕ) (k : ℕ) → k < length text → get_or text k 0 ≡ s → ((i : ℕ) → i < k → get_or text i 0 ≡ s → ⊥)
+    → cut_at s text ≡ (take k text, drop k text)
+cut-found s [] k below here before = absurd (omega arith)
+cut-found s (b ∷ text) zero below here before = cond-true (b == s) ([], b ∷ text) (before_cut b (cut_at s text)) (eq-eqb b s here)
+cut-found s (b ∷ text) (suc k) below here before =
+    cond-false (b == s) ([], b ∷ text) (before_cut b (cut_at s text)) (ne_eqb b s (before 0 (omega arith)))
+    ∙ ap (before_cut b) (cut-found s text k (omega arith) here (λ i h. before (suc i) (omega arith)))
+
+-- a text without a separator
+pub cut-none : (s : ℕ) (text : List ℕ) → ((i : ℕ) → i < length text → get_or text i 0 ≡ s → ⊥) → cut_at s text ≡ (text, [])
+cut-none s [] none = refl
+cut-none s (b ∷ text) none =
+    cond-false (b == s) ([], b ∷ text) (before_cut b (cut_at s text)) (ne_eqb b s (none 0 (omega arith)))
+    ∙ ap (before_cut b) (cut-none s text (λ i h. none (suc i) (omega arith)))
+
+-- the pieces behind a separator, which begins the text
+abbrev pub pieces_after : ℕ → List ℕ → List (List ℕ)
+pieces_after s [] = []
+pieces_after s (b ∷ text) = split_at s text
+
+-- the first piece, and those behind the first separator
+pub split-cut : (s : ℕ) (text : List ℕ) → split_at s text ≡ (cut_at s text).0 ∷ pieces_after s (cut_at s text).1
+split-cut s [] = refl
+split-cut s (b ∷ text) = by (b == s) (split-cut s text)
+  where
+    by : (e : Bool) → split_at s text ≡ (cut_at s text).0 ∷ pieces_after s (cut_at s text).1
+        → cond e ([] ∷ split_at s text) (before_first b (split_at s text))
+        ≡ (cond e ([], b ∷ text) (before_cut b (cut_at s text))).0 ∷ pieces_after s (cond e ([], b ∷ text) (before_cut b (cut_at s text))).1
+    by true ih = refl
+    by false ih = ap (before_first b) ih
+
+-- the text behind a separator is the shorter
+pub after_one-cut : (s : ℕ) (text : List ℕ) → 0 < length (cut_at s text).1 → length (after_one (cut_at s text).1) < length text
+after_one-cut s [] some = absurd (omega arith)
+after_one-cut s (b ∷ text) some = by (b == s) (after_one-cut s text) some
+  where
+    by : (e : Bool) → (0 < length (cut_at s text).1 → length (after_one (cut_at s text).1) < length text)
+        → 0 < length (cond e ([], b ∷ text) (before_cut b (cut_at s text))).1
+        → length (after_one (cond e ([], b ∷ text) (before_cut b (cut_at s text))).1) < suc (length text)
+    by true ih some = omega arith
+    by false ih some = let h = ih some in omega arith
+
+-- ---- slices as the code takes them
+
+pub after_one-taken : (text : List ℕ) → 1 ≤ length text → take (length text - 1) (drop 1 text) ≡ after_one text
+after_one-taken [] some = absurd (omega arith)
+after_one-taken (b ∷ text) some = let e : suc (length text) - 1 ≡ length text = omega arith in ap (λ k. take k text) e ∙ take-length text
+
+pub after_two-taken : (text : List ℕ) → 2 ≤ length text → take (length text - 2) (drop 2 text) ≡ after_two text
+after_two-taken [] some = absurd (omega arith)
+after_two-taken (a ∷ []) some = absurd (omega arith)
+after_two-taken (a ∷ b ∷ text) some = let e : suc (suc (length text)) - 2 ≡ length text = omega arith in ap (λ k. take k text) e ∙ take-length text
+
+pub after_two-short : (text : List ℕ) → length text < 2 → [] ≡ after_two text
+after_two-short [] few = refl
+after_two-short (a ∷ []) few = refl
+after_two-short (a ∷ b ∷ text) few = absurd (omega arith)
+
+without_last-taken : (text : List ℕ) → 1 ≤ length text → take (length text - 1) text ≡ without_last text
+without_last-taken [] some = absurd (omega arith)
+without_last-taken (a ∷ []) some = refl
+without_last-taken (a ∷ b ∷ text) some =
+    let e : suc (suc (length text)) - 1 ≡ suc (suc (length text) - 1) = omega arith in
+    ap (λ k. take k (a ∷ b ∷ text)) e ∙ ap (λ t. a ∷ t) (without_last-taken (b ∷ text) (omega arith))
+
+pub inside-taken : (text : List ℕ) → 2 ≤ length text → take (length text - 2) (drop 1 text) ≡ inside_of text
+inside-taken [] some = absurd (omega arith)
+inside-taken (a ∷ text) some =
+    let e : suc (length text) - 2 ≡ length text - 1 = omega arith in
+    ap (λ k. take k text) e ∙ without_last-taken text (omega arith)
+
+pub inside-short : (text : List ℕ) → length text < 2 → [] ≡ inside_of text
+inside-short [] few = refl
+inside-short (a ∷ []) few = refl
+inside-short (a ∷ b ∷ text) few = absurd (omega arith)
+
+-- the numbers of a label stand inside of it
+pub label-inside : (text : List ℕ) → numbers_of (inside_of text) ≡ label_of text
+label-inside [] = refl
+label-inside (b ∷ text) = refl

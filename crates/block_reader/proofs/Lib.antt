@@ -1,0 +1,9 @@
+-- Lemmas of the crate.
+pub mod Cuts
+pub mod Digits
+pub mod NumberLists
+pub mod LabelCauses
+pub mod FittingTerms
+pub mod LineSteps
+pub mod NewFractions
+pub mod BlockReadings

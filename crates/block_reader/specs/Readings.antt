@@ -1,0 +1,17 @@
+-- What a text is read back as (this project's own).
+use Rattle.std.specs.Prelude.{◌≡◌, ℕ, List, Result, Ok, Err, Some, None}
+use Rattle.sym_model.specs.Answer.{answer}
+use Rattle.sym_model.specs.Expansion.{Terms}
+use Rattle.sym_model.specs.Kind.{Kind, Label, label_rules}
+use Rattle.sym_model.specs.PrintedBlock.{read_by}
+use Rattle.expansion_printer.specs.declared.answer.Answer.{Answer}
+use Rattle.expansion_printer.specs.Answers.{kind_of_answer, plain_answer}
+use Rattle.block_reader.specs.declared.fault.ReadBackFault.{ReadBackFault}
+use Rattle.block_reader.specs.declared.fault.ReadBackFault.TheVariants.{NotPrinted, NoMemory}
+
+-- the one answer of the kind that can have this text as its block, or none where there is none; want of memory says nothing
+abbrev pub IsReading : Kind → List ℕ → Result Answer ReadBackFault → Type 0
+IsReading kind text (Ok a) = (kind_of_answer a ≡ kind)
+    × ((terms : Terms (Label kind)) → read_by (label_rules kind) text ≡ Some terms → plain_answer a ≡ answer kind terms)
+IsReading kind text (Err NotPrinted) = read_by (label_rules kind) text ≡ None
+IsReading kind text (Err NoMemory) = Unit {0}

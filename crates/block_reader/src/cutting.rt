@@ -1,0 +1,48 @@
+//! Parts of texts.
+ghost use Rattle.std.specs.Prelude.{◌≡◌};
+ghost use Rattle.sym_model.specs.Kind.{after_one, after_two};
+ghost use Rattle.sym_model.specs.NumberText.{cut_at};
+ghost use Rattle.block_reader.specs.Parts.{inside_of};
+
+/// Cuts a text in two in front of the first separator, which begins the second part.
+pub(crate) fn cut(text: &[u8], separator: u8) -> (&[u8], &[u8])
+    ensures front { result.0.now ≡ (cut_at separator text.now).0 }
+    ensures back { result.1.now ≡ (cut_at separator text.now).1 }
+{
+    for (at, byte) in text.iter().enumerate() {
+        if *byte == separator {
+            return text.split_at(at);
+        }
+    }
+    text.split_at(text.len())
+}
+
+/// The text without its first byte.
+pub(crate) fn after_first(text: &[u8]) -> &[u8]
+    ensures { result.now ≡ after_one text.now }
+{
+    match text {
+        [_, rest @ ..] => rest,
+        [] => text,
+    }
+}
+
+/// The text without its first two bytes.
+pub(crate) fn after_first_two(text: &[u8]) -> &[u8]
+    ensures { result.now ≡ after_two text.now }
+{
+    match text {
+        [_, _, rest @ ..] => rest,
+        _ => &text[text.len()..],
+    }
+}
+
+/// The text without its first and its last byte.
+pub(crate) fn inside(text: &[u8]) -> &[u8]
+    ensures { result.now ≡ inside_of text.now }
+{
+    match text {
+        [_, inner @ .., _] => inner,
+        _ => &text[text.len()..],
+    }
+}

@@ -1,0 +1,40 @@
+//! Why a text is not read back.
+ghost use Rattle.std.specs.Prelude.{◌≡◌};
+ghost use Rattle.block_reader.specs.declared.fault.ReadBackFault.TheVariants.{NoMemory as no_memory};
+
+use calc_base::NoMemory;
+use std::alloc::{AllocError, AllocFailed};
+use thiserror::Error;
+
+/// Why a text is not read back as an answer.
+#[derive(Clone, Copy, Debug, PartialEq, Eq, Hash, Error)]
+pub enum ReadBackFault {
+    #[error("no printed block of this kind")]
+    NotPrinted,
+    #[error("out of memory")]
+    NoMemory,
+}
+
+impl From<AllocError> for ReadBackFault {
+    ghost from_gives = { λ _ e. e ≡ no_memory };
+
+    fn from(_: AllocError) -> Self {
+        ReadBackFault::NoMemory
+    }
+}
+
+impl From<NoMemory> for ReadBackFault {
+    ghost from_gives = { λ _ e. e ≡ no_memory };
+
+    fn from(_: NoMemory) -> Self {
+        ReadBackFault::NoMemory
+    }
+}
+
+impl<T: Drop> From<AllocFailed<T>> for ReadBackFault {
+    ghost from_gives = { λ _ e. e ≡ no_memory };
+
+    fn from(_: AllocFailed<T>) -> Self {
+        ReadBackFault::NoMemory
+    }
+}

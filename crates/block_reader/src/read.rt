@@ -1,0 +1,160 @@
+//! Texts, read back as answers.
+ghost use Rattle.std.specs.Prelude.{◌≡◌, ◌≢◌, None, IfOk, IsErrOf, MatchBool};
+ghost use Rattle.std.specs.Bool.{OnFalse};
+ghost use Rattle.sym_model.specs.Answer.{answer_text, IsPrintable};
+ghost use Rattle.sym_model.specs.Kind.{label_rules, number, expansion, product, pairs, powers, permutations, polynomial};
+ghost use Rattle.sym_model.specs.PrintedBlock.{read_by};
+ghost use Rattle.expansion_printer.specs.Answers.{kind_of, kind_of_answer, plain_answer};
+ghost use Rattle.block_reader.specs.Readings.{IsReading};
+
+use crate::ReadBackFault;
+use crate::cutting::cut;
+use crate::lines::read_terms;
+use crate::numbers::signed_of;
+use calc_base::{CountSink, MemSink, NoMemory};
+use coeff_rings::Int;
+use expansion_printer::{Answer, Kind, print};
+use std::alloc::Global;
+
+/// The answer of this kind whose printed block the text is.
+///
+/// It is refused as `NotPrinted` exactly where the text is no block of this kind, unless memory was refused before.
+pub fn read_back(alloc: Global, text: &[u8], kind: Kind) -> Result<Answer, ReadBackFault>
+    ensures kind { IfOk result (λ answer. kind_of_answer answer ≡ kind_of kind) }
+    ensures prints { IfOk result (λ answer. answer_text (plain_answer answer) ≡ text.now) }
+    ensures printable { IfOk result (λ answer. IsPrintable (plain_answer answer)) }
+    ensures not_printed { IsErrOf result ReadBackFault.NotPrinted → read_by (label_rules (kind_of kind)) text.now ≡ None }
+{
+    match candidate(alloc, text, kind) {
+        Ok(answer) => checked(alloc, answer, text),
+        Err(fault) => Err(fault),
+    }
+}
+
+/// The answer, where the text is its block.
+fn checked(alloc: Global, answer: Answer, text: &[u8]) -> Result<Answer, ReadBackFault>
+    ensures same { IfOk result (λ same. same ≡ answer) }
+    ensures prints { IfOk result (λ same. answer_text (plain_answer same) ≡ text.now) }
+    ensures printable { IfOk result (λ same. IsPrintable (plain_answer same)) }
+    ensures not_printed { IsErrOf result ReadBackFault.NotPrinted → answer_text (plain_answer answer) ≢ text.now }
+{
+    match is_block(alloc, &answer, text) {
+        Ok(true) => Ok(answer),
+        Ok(false) => Err(ReadBackFault::NotPrinted),
+        Err(NoMemory) => Err(ReadBackFault::NoMemory),
+    }
+}
+
+/// Whether the text is the block of the answer.
+fn is_block(alloc: Global, answer: &Answer, text: &[u8]) -> Result<bool, NoMemory>
+    ensures compares { IfOk result (λ same. MatchBool same (answer_text (plain_answer answer.now) ≡ text.now)
+        (answer_text (plain_answer answer.now) ≢ text.now)) }
+    ensures printable { IsPrintable (plain_answer answer.now) }
+{
+    if !has_length(answer, text) {
+        return Ok(false);
+    }
+    let mut sink = MemSink::new(alloc, text.len(), &[])?;
+    if print(answer, &mut sink).is_err() {
+        return Err(NoMemory);
+    }
+    Ok(sink.bytes() == text)
+}
+
+/// Whether the block of the answer has as many bytes as the text.
+fn has_length(answer: &Answer, text: &[u8]) -> bool
+    ensures length { OnFalse result (answer_text (plain_answer answer.now) ≢ text.now) }
+    ensures printable { IsPrintable (plain_answer answer.now) }
+{
+    let mut count = CountSink::new();
+    let _ = print(answer, &mut count);
+    count.count() == text.len() as u128
+}
+
+/// The one answer of this kind that can have this block.
+fn candidate(alloc: Global, text: &[u8], kind: Kind) -> Result<Answer, ReadBackFault>
+    ensures { IsReading (kind_of kind) text.now result }
+{
+    match kind {
+        Kind::Number => read_number(text),
+        Kind::Expansion => read_expansion(alloc, text),
+        Kind::Product => read_product(alloc, text),
+        Kind::Pairs => read_pairs(alloc, text),
+        Kind::Powers => read_powers(alloc, text),
+        Kind::Permutations => read_permutations(alloc, text),
+        Kind::Polynomial => read_polynomial(alloc, text),
+    }
+}
+
+/// A number.
+fn read_number(text: &[u8]) -> Result<Answer, ReadBackFault>
+    ensures { IsReading number text.now result }
+{
+    let (line, _) = cut(text, b'\n');
+    match signed_of(line) {
+        Some(value) => Ok(Answer::Number {
+            value: Int::new(value),
+        }),
+        None => Err(ReadBackFault::NotPrinted),
+    }
+}
+
+/// Partitions with fractions.
+fn read_expansion(alloc: Global, text: &[u8]) -> Result<Answer, ReadBackFault>
+    ensures { IsReading expansion text.now result }
+{
+    match read_terms(alloc, text) {
+        Ok(terms) => Ok(Answer::Expansion { terms }),
+        Err(fault) => Err(fault),
+    }
+}
+
+/// Partitions with whole coefficients.
+fn read_product(alloc: Global, text: &[u8]) -> Result<Answer, ReadBackFault>
+    ensures { IsReading product text.now result }
+{
+    match read_terms(alloc, text) {
+        Ok(terms) => Ok(Answer::Product { terms }),
+        Err(fault) => Err(fault),
+    }
+}
+
+/// Pairs of partitions.
+fn read_pairs(alloc: Global, text: &[u8]) -> Result<Answer, ReadBackFault>
+    ensures { IsReading pairs text.now result }
+{
+    match read_terms(alloc, text) {
+        Ok(terms) => Ok(Answer::Pairs { terms }),
+        Err(fault) => Err(fault),
+    }
+}
+
+/// Partitions with a power of q.
+fn read_powers(alloc: Global, text: &[u8]) -> Result<Answer, ReadBackFault>
+    ensures { IsReading powers text.now result }
+{
+    match read_terms(alloc, text) {
+        Ok(terms) => Ok(Answer::Powers { terms }),
+        Err(fault) => Err(fault),
+    }
+}
+
+/// Permutations.
+fn read_permutations(alloc: Global, text: &[u8]) -> Result<Answer, ReadBackFault>
+    ensures { IsReading permutations text.now result }
+{
+    match read_terms(alloc, text) {
+        Ok(terms) => Ok(Answer::Permutations { terms }),
+        Err(fault) => Err(fault),
+    }
+}
+
+/// Monomials.
+fn read_polynomial(alloc: Global, text: &[u8]) -> Result<Answer, ReadBackFault>
+    ensures { IsReading polynomial text.now result }
+{
+    match read_terms(alloc, text) {
+        Ok(terms) => Ok(Answer::Polynomial { terms }),
+        Err(fault) => Err(fault),
+    }
+}

@@ -1,0 +1,244 @@
+-- The letter that a column reading puts into a cell.
+use Rattle.std.proofs.Common.{zero-add, ◌≡◌, ◌≢◌, ℕ, zero, suc, ◌+◌, ◌-◌, ◌≤◌, ◌<◌, inl, inr, ◌⊎◌, max, length, arith, Bool, true, false, ◌&&◌, List, [], ◌∷◌, ◌++◌, refl, sym, ◌∙◌, ap, ap₂, map, drop, cond, ◌==◌, nat_lt, nat_le, reverse}
+use Rattle.std.specs.Prelude.{slice_index}
+use Rattle.std.proofs.lemmas.Bool.{eq-eqb, ne_eqb, cases_eq, cond-true, cond-false, lt-ltb, le-leb, and_from}
+use Rattle.std.proofs.lemmas.Bool.Decides.{nat_tests}
+use Rattle.std.proofs.lemmas.List.{reverse-append, length-map, get_or-drop}
+use Rattle.sym_model.specs.Sum.{each, select}
+use Rattle.sym_model.specs.Partition.{after, part, rows, columns, IsCell, Falls}
+use Rattle.sym_model.specs.TableauList.{column_cells, reading_cells, letter_of_cell}
+use Rattle.expansion_printer.specs.ReadingPlaces.{tally, cells_before}
+use Rattle.expansion_printer.proofs.RowTexts.{after-push}
+
+one-add : (k : ℕ) → 1 + k ≡ suc k
+one-add k = omega arith
+
+-- ---- sums
+
+tally-add : {A : Type 0} (f h : A → ℕ) (xs : List A) → tally (λ x. f x + h x) xs ≡ tally f xs + tally h xs
+tally-add f h [] = refl
+tally-add f h (x ∷ xs) = let e = tally-add f h xs in omega arith
+
+tally-ext : {A : Type 0} (f h : A → ℕ) (xs : List A) → ((x : A) → f x ≡ h x) → tally f xs ≡ tally h xs
+tally-ext f h [] same = refl
+tally-ext f h (x ∷ xs) same = ap₂ ◌+◌ (same x) (tally-ext f h xs same)
+
+tally-append : {A : Type 0} (f : A → ℕ) (xs ys : List A) → tally f (xs ++ ys) ≡ tally f xs + tally f ys
+tally-append f [] ys = omega arith
+tally-append f (x ∷ xs) ys = let e = tally-append f xs ys in omega arith
+
+-- one more number
+pub tally-more : (f : ℕ → ℕ) (k : ℕ) → tally f (after 0 k) + f (k + 1) ≡ tally f (after 0 (k + 1))
+tally-more f k =
+    let e = tally-append f (after 0 k) ((0 + k + 1) ∷ []) in
+    let same : 0 + k + 1 ≡ k + 1 = omega arith in
+    let last : tally f ((0 + k + 1) ∷ []) ≡ f (k + 1) = ap (λ n. f n + 0) same ∙ (omega arith) in
+    sym (sym (ap (tally f) (after-push 0 k)) ∙ e ∙ ap (λ n. tally f (after 0 k) + n) last)
+
+length-select : {A : Type 0} (test : A → Bool) (xs : List A) → length (select test xs) ≡ tally (λ x. cond (test x) 1 0) xs
+length-select test [] = refl
+length-select {A} test (x ∷ xs) = by (test x) (length-select test xs)
+  where
+    by : (b : Bool) → length (select test xs) ≡ tally (λ (y : A). cond (test y) 1 0) xs
+        → length (cond b (x ∷ select test xs) (select test xs)) ≡ cond b 1 0 + tally (λ (y : A). cond (test y) 1 0) xs
+    by true e = omega arith
+    by false e = omega arith
+
+-- ---- cells in a list
+
+-- the cells are none of the column
+abbrev NotIn : ℕ → List (ℕ × ℕ) → Type 0
+NotIn column [] = Unit {0}
+NotIn column (c ∷ cells) = (c.1 ≢ column) × NotIn column cells
+
+and_not : (a b : Bool) → b ≡ false → (a && b) ≡ false
+and_not true b h = h
+and_not false b h = refl
+
+letter-nothing : (row column : ℕ) (cells : List (ℕ × ℕ)) → letter_of_cell row column cells [] ≡ 0
+letter-nothing row column [] = refl
+letter-nothing row column (c ∷ cells) = refl
+
+drop-none : (n : ℕ) → drop {A = ℕ} n [] ≡ []
+drop-none zero = refl
+drop-none (suc n) = refl
+
+-- cells of other columns are passed over
+letter-past : (row column : ℕ) (cells others : List (ℕ × ℕ)) (w : List ℕ) → NotIn column cells
+    → letter_of_cell row column (cells ++ others) w ≡ letter_of_cell row column others (drop (length cells) w)
+letter-past row column [] others w n = refl
+letter-past row column (c ∷ cells) others [] n =
+    sym (letter-nothing row column others)
+letter-past row column (c ∷ cells) others (a ∷ w) n =
+    cond-false ((c.0 == row) && (c.1 == column)) a (letter_of_cell row column (cells ++ others) w) (and_not (c.0 == row) (c.1 == column) (ne_eqb c.1 column n.0))
+    ∙ letter-past row column cells others w n.1
+
+not_in-column : (column j : ℕ) (is : List ℕ) → j ≢ column → NotIn column (map (λ (i : ℕ). (i, j)) is)
+not_in-column column j [] other = tt
+not_in-column column j (i ∷ is) other = (other, not_in-column column j is other)
+
+not_below : (i row : ℕ) → row ≤ i → nat_lt i row ≡ false
+not_below i row far = grind (arith, nat_tests)
+
+-- 1 where something holds
+abbrev counted : Bool → ℕ
+counted b = cond b 1 0
+
+-- how many rows above the cell's pass a test
+abbrev rows_above : ℕ → (ℕ → Bool) → List ℕ → ℕ
+rows_above row test = tally (λ i. counted (nat_lt i row && test i))
+
+-- rows past the cell's do not count
+rows_above-past : (row : ℕ) (test : ℕ → Bool) (a m : ℕ) → row ≤ a + 1 → rows_above row test (after a m) ≡ 0
+rows_above-past row test a zero far = refl
+rows_above-past row test a (suc m) far =
+    ap (λ b. counted (b && test (a + 1)) + rows_above row test (after (a + 1) m)) (not_below (a + 1) row far)
+    ∙ zero-add (rows_above row test (after (a + 1) m)) ∙ rows_above-past row test (a + 1) m (omega arith)
+
+-- the cells of a column in the rows that pass a test, and others behind them
+abbrev cells_then : ℕ → List ℕ → List (ℕ × ℕ) → List (ℕ × ℕ)
+cells_then column is others = map (λ (i : ℕ). (i, column)) is ++ others
+
+-- the letter of a cell of a column, whose rows above it pass the test
+in-column : (row column : ℕ) (test : ℕ → Bool) (others : List (ℕ × ℕ)) (a m : ℕ) → a < row → row ≤ a + m → test row ≡ true → (w : List ℕ)
+    → letter_of_cell row column (cells_then column (select test (after a m)) others) w ≡ slice_index w (rows_above row test (after a m))
+in-column row column test others a zero high low h w = absurd (omega arith)
+in-column row column test others a (suc m) high low h w =
+    by (test (a + 1)) (cases_eq (a + 1) row) refl w (λ far. in-column row column test others (a + 1) m far (omega arith) h)
+  where
+    by : (b : Bool) → ((a + 1) ≡ row) ⊎ ((a + 1) ≢ row) → test (a + 1) ≡ b → (w : List ℕ)
+        → (a + 1 < row → (v : List ℕ) → letter_of_cell row column (cells_then column (select test (after (a + 1) m)) others) v ≡ slice_index v (rows_above row test (after (a + 1) m)))
+        → letter_of_cell row column (cells_then column (cond b ((a + 1) ∷ select test (after (a + 1) m)) (select test (after (a + 1) m))) others) w
+        ≡ slice_index w (counted (nat_lt (a + 1) row && b) + rows_above row test (after (a + 1) m))
+    by false (inl e) t w ih = let clash : true ≡ false = sym h ∙ ap test (sym e) ∙ t in cc
+    by false (inr n) t w ih =
+        ih (omega arith) w ∙ ap (slice_index w) (sym (zero-add (rows_above row test (after (a + 1) m)))
+        ∙ ap (λ b. counted b + rows_above row test (after (a + 1) m)) (sym (and_not (nat_lt (a + 1) row) false refl)))
+    by true c t [] ih = refl
+    by true (inl e) t (x ∷ w) ih =
+        cond-true ((a + 1 == row) && (column == column)) x _ (and_from (a + 1 == row) (column == column) (eq-eqb (a + 1) row e) (eq-eqb column column refl))
+        ∙ ap (slice_index (x ∷ w)) (sym (ap (λ b. counted (b && true) + rows_above row test (after (a + 1) m)) (not_below (a + 1) row (omega arith))
+        ∙ zero-add (rows_above row test (after (a + 1) m)) ∙ rows_above-past row test (a + 1) m (omega arith)))
+    by true (inr n) t (x ∷ w) ih =
+        let far : a + 1 < row = omega arith in
+        cond-false ((a + 1 == row) && (column == column)) x _ (ap (λ b. b && (column == column)) (ne_eqb (a + 1) row n))
+        ∙ ih far w
+        ∙ ap (slice_index (x ∷ w)) (sym (ap (λ b. counted (b && true) + rows_above row test (after (a + 1) m)) (lt-ltb (a + 1) row far) ∙ one-add (rows_above row test (after (a + 1) m))))
+
+moved : (long before above : ℕ) → long + (before + above) ≡ (before + (long + 0)) + above
+moved long before above = omega arith
+
+-- a place with a number is one of the list
+inside : (k : ℕ) (xs : List ℕ) → 0 < slice_index xs k → k < length xs
+inside k [] some = absurd (omega arith)
+inside zero (x ∷ xs) some = omega arith
+inside (suc k) (x ∷ xs) some = let h = inside k xs some in omega arith
+
+-- ---- the columns from the rightmost to the leftmost
+
+reverse-after : (k : ℕ) → reverse (after 0 (suc k)) ≡ suc k ∷ reverse (after 0 k)
+reverse-after k =
+    let long : suc k ≡ k + 1 = omega arith in
+    let last : 0 + k + 1 ≡ suc k = omega arith in
+    ap (λ n. reverse (after 0 n)) long ∙ ap reverse (sym (after-push 0 k)) ∙ reverse-append (after 0 k) ((0 + k + 1) ∷ [])
+    ∙ ap (λ n. n ∷ reverse (after 0 k)) last
+
+-- whether a row has a cell in a column
+abbrev has_cell : List ℕ → List ℕ → ℕ → ℕ → Bool
+has_cell outer inner j i = nat_lt (part inner i) j && nat_le j (part outer i)
+
+module _ (outer inner : List ℕ) (row column : ℕ) (cell : IsCell outer inner row column) where
+  -- how many cells of the column stand above the cell
+  abbrev above : ℕ
+  above = rows_above row (has_cell outer inner column) (after 0 (rows outer))
+
+  row_within : row ≤ rows outer
+  row_within =
+      let low = cell.outside in
+      let high = cell.within in
+      let one = cell.row_counts in
+      let some : 0 < slice_index outer (row - 1) = omega arith in
+      let h = inside (row - 1) outer some in
+      omega arith
+
+  read_from : (k : ℕ) → column ≤ k → (w : List ℕ)
+      → letter_of_cell row column (each (column_cells outer inner) (reverse (after 0 k))) w
+      ≡ slice_index w (tally (λ j. length (column_cells outer inner j)) (after column (k - column)) + above)
+  read_from zero low w = let out = cell.outside in absurd (omega arith)
+  read_from (suc k) low w =
+      ap (λ js. letter_of_cell row column (each (column_cells outer inner) js) w) (reverse-after k)
+      ∙ by (cases_eq column (suc k)) (λ far. read_from k far)
+    where
+      others : List (ℕ × ℕ)
+      others = each (column_cells outer inner) (reverse (after 0 k))
+
+      by : (column ≡ suc k) ⊎ (column ≢ suc k)
+          → (column ≤ k → (v : List ℕ) → letter_of_cell row column (each (column_cells outer inner) (reverse (after 0 k))) v
+          ≡ slice_index v (tally (λ j. length (column_cells outer inner j)) (after column (k - column)) + above))
+          → letter_of_cell row column (column_cells outer inner (suc k) ++ each (column_cells outer inner) (reverse (after 0 k))) w
+          ≡ slice_index w (tally (λ j. length (column_cells outer inner j)) (after column (suc k - column)) + above)
+      by (inl e) ih =
+          let none : suc k - column ≡ 0 = omega arith in
+          ap (λ j. letter_of_cell row column (column_cells outer inner j ++ each (column_cells outer inner) (reverse (after 0 k))) w) (sym e)
+          ∙ in-column row column (has_cell outer inner column) (each (column_cells outer inner) (reverse (after 0 k))) 0 (rows outer) cell.row_counts (omega (arith, row_within))
+          (and_from _ _ (lt-ltb _ _ cell.outside) (le-leb _ _ cell.within)) w
+          ∙ ap (slice_index w) (sym (ap (λ n. tally (λ j. length (column_cells outer inner j)) (after column n) + above) none ∙ zero-add above))
+      by (inr n) ih =
+          let more : suc k - column ≡ (k - column) + 1 = omega arith in
+          let last : column + (k - column) + 1 ≡ suc k = omega arith in
+          let long : ℕ = length (column_cells outer inner (suc k)) in
+          let before : ℕ = tally (λ j. length (column_cells outer inner j)) (after column (k - column)) in
+          letter-past row column (column_cells outer inner (suc k)) (each (column_cells outer inner) (reverse (after 0 k))) w
+          (not_in-column column (suc k) _ (λ e. n (sym e)))
+          ∙ ih (omega arith) (drop long w)
+          ∙ get_or-drop long w (before + above) 0
+          ∙ ap (slice_index w) (moved long before above
+          ∙ ap (λ n. n + above) (sym (ap (λ n. tally (λ j. length (column_cells outer inner j)) (after column n)) more
+          ∙ ap (tally (λ j. length (column_cells outer inner j))) (sym (after-push column (k - column)))
+          ∙ tally-append (λ j. length (column_cells outer inner j)) (after column (k - column)) ((column + (k - column) + 1) ∷ [])
+          ∙ ap (λ j. before + (length (column_cells outer inner j) + 0)) last)))
+
+-- ---- the cells of the columns further right, row by row
+
+tally-zero : {A : Type 0} (xs : List A) → tally (λ x. 0) xs ≡ 0
+tally-zero [] = refl
+tally-zero {A} (x ∷ xs) = zero-add (tally (λ (y : A). 0) xs) ∙ tally-zero xs
+
+one_column : (left right c : ℕ) → counted (nat_lt left (c + 1) && nat_le (c + 1) right) + (right - max left (c + 1)) ≡ right - max left c
+one_column left right c = grind (arith, nat_tests)
+
+module _ (outer inner : List ℕ) where
+  -- how many cells stand right of a column
+  abbrev right_of : ℕ → ℕ
+  right_of c = tally (λ i. part outer i - max (part inner i) c) (after 0 (rows outer))
+
+  column_long : (c : ℕ) → length (column_cells outer inner (c + 1)) + right_of (c + 1) ≡ right_of c
+  column_long c =
+      ap (λ n. n + right_of (c + 1))
+      (length-map (select (has_cell outer inner (c + 1)) (after 0 (rows outer))) (λ (i : ℕ). (i, c + 1)) ∙ length-select (has_cell outer inner (c + 1)) (after 0 (rows outer)))
+      ∙ sym (tally-add (λ i. counted (has_cell outer inner (c + 1) i)) (λ i. part outer i - max (part inner i) (c + 1)) (after 0 (rows outer)))
+      ∙ tally-ext _ _ (after 0 (rows outer)) (λ i. one_column (part inner i) (part outer i) c)
+
+  columns_long : (m c : ℕ) → ((i : ℕ) → part outer i ≤ c + m) → tally (λ j. length (column_cells outer inner j)) (after c m) ≡ right_of c
+  columns_long zero c most =
+      sym (tally-ext (λ i. part outer i - max (part inner i) c) (λ i. 0) (after 0 (rows outer)) (λ i. let h = most i in omega arith)
+      ∙ tally-zero (after 0 (rows outer)))
+  columns_long (suc m) c most =
+      ap (λ n. length (column_cells outer inner (c + 1)) + n) (columns_long m (c + 1) (λ i. let h = most i in omega arith)) ∙ column_long c
+
+first_greatest : (parts : List ℕ) → Falls parts → (k : ℕ) → slice_index parts k ≤ slice_index parts 0
+first_greatest [] falls k = omega arith
+first_greatest (a ∷ []) falls zero = omega arith
+first_greatest (a ∷ []) falls (suc k) = omega arith
+first_greatest (a ∷ b ∷ parts) falls zero = omega arith
+first_greatest (a ∷ b ∷ parts) falls (suc k) = let h = first_greatest (b ∷ parts) falls.1 k in omega (arith, falls.0)
+
+-- the letter of a cell stands in the reading behind those of the cells before it
+pub letter-is : (outer inner : List ℕ) (row column : ℕ) → Falls outer → IsCell outer inner row column → (w : List ℕ)
+    → slice_index w (cells_before outer inner row column) ≡ letter_of_cell row column (reading_cells outer inner) w
+letter-is outer inner row column falls cell w =
+    let most : column ≤ columns outer = (let h = first_greatest outer falls (row - 1) in let k = cell.within in omega arith) in
+    let every : (i : ℕ) → part outer i ≤ column + (columns outer - column) = (λ i. let h = first_greatest outer falls (i - 1) in omega arith) in
+    sym (read_from outer inner row column cell (columns outer) most w
+    ∙ ap (slice_index w) (ap (λ n. n + above outer inner row column cell) (columns_long outer inner (columns outer - column) column every)
+    ∙ sym (tally-add (λ i. part outer i - max (part inner i) column) (λ i. counted (nat_lt i row && has_cell outer inner column i)) (after 0 (rows outer)))))

@@ -1,0 +1,60 @@
+-- Texts of rows, entry by entry.
+use Rattle.std.proofs.Common.{◌≡◌, ℕ, zero, suc, ◌+◌, ◌-◌, ◌≤◌, ◌<◌, arith, List, [], ◌∷◌, ◌++◌, refl, sym, ◌∙◌, ap, map, cond, ◌==◌}
+use Rattle.std.specs.Prelude.{codes, decimal}
+use Rattle.std.proofs.lemmas.List.{length-map, map-append}
+use Rattle.std.proofs.lemmas.Simd.{map-map}
+use Rattle.sym_model.specs.Partition.{after, part, rows}
+use Rattle.sym_model.specs.TableauText.{separated, spaced, row_text, tableau_text}
+use Rattle.sym_model.proofs.AfterLists.{length_after}
+use Rattle.skew_shapes.specs.Rows.{row_by, rows_by}
+use Rattle.expansion_printer.proofs.Texts.{separated-push}
+
+-- one more number
+pub after-push : (a k : ℕ) → after a k ++ (a + k + 1) ∷ [] ≡ after a (k + 1)
+after-push a zero = let e : a + 0 + 1 ≡ a + 1 = omega arith in ap (λ n. n ∷ []) e
+after-push a (suc k) =
+    let e : a + suc k + 1 ≡ (a + 1) + k + 1 = omega arith in
+    let long : suc (k + 1) ≡ suc k + 1 = omega arith in
+    ap (λ n. (a + 1) ∷ (after (a + 1) k ++ n ∷ [])) e ∙ ap (λ ns. (a + 1) ∷ ns) (after-push (a + 1) k) ∙ ap (after a) long
+
+-- one more piece, a text for each number from a + 1 on
+pub pieces-more : (separator : List ℕ) (text : ℕ → List ℕ) (a at next : ℕ) → next ≡ a + at + 1
+    → separated separator (map text (after a at)) ++ cond (at == 0) (text next) (separator ++ text next)
+    ≡ separated separator (map text (after a (at + 1)))
+pieces-more separator text a at next e =
+    ap (λ n. separated separator (map text (after a at)) ++ cond (at == 0) (text n) (separator ++ text n)) e
+    ∙ separated-push separator (map text (after a at)) (text (a + at + 1)) at (length-map (after a at) text ∙ length_after a at)
+    ∙ ap (separated separator) (sym (map-append text (after a at) ((a + at + 1) ∷ [])) ∙ ap (map text) (after-push a at))
+
+-- numbers with spaces between them
+pub spaced-map : (f : ℕ → ℕ) (columns : List ℕ) → separated (codes " ") (map (λ column. decimal (f column)) columns) ≡ spaced (map f columns)
+spaced-map f columns = ap (separated (codes " ")) (sym (map-map decimal f columns))
+
+-- a row without cells
+pub row_text-none : (f : ℕ → ℕ → ℕ) (outer inner : List ℕ) (row : ℕ) → part outer row ≤ part inner row
+    → codes "." ≡ row_text (row_by f outer inner row)
+row_text-none f outer inner row none =
+    let e : part outer row - part inner row ≡ 0 = omega arith in
+    sym (ap (λ k. row_text (map (f row) (after (part inner row) k))) e)
+
+-- a row with cells
+pub row_text-some : (f : ℕ → ℕ → ℕ) (outer inner : List ℕ) (row : ℕ) → part inner row < part outer row
+    → spaced (row_by f outer inner row) ≡ row_text (row_by f outer inner row)
+row_text-some f outer inner row some = by (part outer row - part inner row) (omega arith)
+  where
+    by : (k : ℕ) → 0 < k → spaced (map (f row) (after (part inner row) k)) ≡ row_text (map (f row) (after (part inner row) k))
+    by zero h = absurd (omega arith)
+    by (suc k) h = refl
+
+-- a tableau without rows
+pub tableau_text-none : (f : ℕ → ℕ → ℕ) (outer inner : List ℕ) → rows outer ≡ 0 → codes "." ≡ tableau_text (rows_by f outer inner)
+tableau_text-none f [] inner none = refl
+tableau_text-none f (a ∷ outer) inner none = absurd (omega arith)
+
+-- a tableau with rows, a text for each number from 1 on
+pub tableau_text-some : (f : ℕ → ℕ → ℕ) (outer inner : List ℕ) (k : ℕ) → k ≡ rows outer → 0 < k
+    → separated (codes " / ") (map (λ row. row_text (row_by f outer inner row)) (after 0 k)) ≡ tableau_text (rows_by f outer inner)
+tableau_text-some f [] inner k e some = absurd (omega arith)
+tableau_text-some f (a ∷ outer) inner k e some =
+    ap (separated (codes " / ")) (sym (map-map row_text (row_by f (a ∷ outer) inner) (after 0 k)))
+    ∙ ap (λ n. separated (codes " / ") (map row_text (map (row_by f (a ∷ outer) inner) (after 0 n)))) e

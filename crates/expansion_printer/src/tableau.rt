@@ -1,0 +1,68 @@
+//! Lines of tableaux.
+ghost use Rattle.std.specs.Prelude.{slice_index, true};
+ghost use Rattle.calc_base.specs.Puts.{Puts, Prints};
+ghost use Rattle.sym_model.specs.TableauList.{filling_of};
+ghost use Rattle.sym_model.specs.TableauText.{tableau_line};
+ghost use Rattle.skew_shapes.specs.CellFillings.{place_in_row, row_of};
+ghost use Rattle.skew_shapes.specs.Rows.{rows_by};
+
+use crate::reading::Reading;
+use crate::rows::{Entries, put_rows};
+use calc_base::{Sink, SinkFault, put_if, put_result};
+use partitions::Partition;
+use skew_shapes::{Skew, Tableau};
+
+impl Entries for Tableau {
+    ghost outer = { λ t. t.outer };
+
+    ghost inner = { λ t. t.inner };
+
+    ghost entry = { λ t row column. slice_index (row_of t.rows row) (place_in_row t.inner row column) };
+
+    fn outer(&self) -> &Partition {
+        self.shape().outer()
+    }
+
+    fn inner(&self) -> &Partition {
+        self.shape().inner()
+    }
+
+    fn entry(&self, row: u16, column: u16) -> u16 {
+        Tableau::entry(self, row, column).unwrap_or(0)
+    }
+}
+
+/// Prints the line of a tableau: its rows from top to bottom.
+///
+/// `SinkFault` exactly where a put failed. It is the last one, and what was put is then a prefix of the line.
+pub fn print_tableau<K: Sink>(t: &Tableau, sink: &mut K) -> Result<(), SinkFault>
+    ensures { Prints K.written K.length K.faults sink.old sink.new (tableau_line t.now.rows) result }
+{
+    t.shape();
+    put_result(put_filling(t, sink))
+}
+
+/// Prints the line of the filling of a shape with this column reading: the columns from the rightmost to the leftmost,
+/// each from top to bottom.
+///
+/// `SinkFault` exactly where a put failed. It is the last one, and what was put is then a prefix of the line.
+pub fn print_reading<K: Sink>(shape: &Skew, reading: &[u16], sink: &mut K) -> Result<(), SinkFault>
+    ensures { Prints K.written K.length K.faults sink.old sink.new
+        (tableau_line (filling_of shape.now.0 shape.now.1 reading.now)) result }
+{
+    let filling = Reading {
+        outer: shape.outer(),
+        inner: shape.inner(),
+        letters: reading,
+    };
+    put_result(put_filling(&filling, sink))
+}
+
+/// Puts the line of a filling.
+fn put_filling<E: Entries, K: Sink>(filling: &E, sink: &mut K) -> bool
+    ensures { Puts K.written K.length K.faults true sink.old result sink.new
+        (tableau_line (rows_by (E.entry filling.now) (E.outer filling.now) (E.inner filling.now))) }
+{
+    let listed = put_rows(true, filling, sink);
+    put_if(listed, sink, b"\n")
+}
