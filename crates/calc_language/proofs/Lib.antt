@@ -1,2 +1,5 @@
-pub mod WordsFacts
-pub mod ReadingFacts
+pub mod NamedEntries
+pub mod BuiltEntries
+pub mod ExpandWords
+pub mod ReadCommands
+pub mod LineCommands

@@ -1,2 +1,4 @@
 pub mod Reading
 pub mod BuiltCommands
+pub mod Names
+pub mod Lines

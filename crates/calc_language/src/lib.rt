@@ -3,8 +3,16 @@
 #![tactic(auto)]
 
 mod built;
+mod by_name;
+mod expand;
+mod lines;
+mod name;
+mod permutations;
+mod refusal;
+mod shapes;
 mod words;
 
 pub use built::built_commands_law;
 pub use calc_expressions::{Basis, Expr, Formula, Weight, degree_limit};
+pub use lines::read_line;
 pub use words::{Command, read_words};

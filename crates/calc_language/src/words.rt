@@ -1,71 +1,91 @@
-// How the words of a command are read.
-ghost use Rattle.std.specs.Prelude.{◌≡◌, ◌↔◌, ℕ, IsTrue, IfOk, map, string_bytes};
+//! How the words of a command are read.
+ghost use Rattle.std.specs.Prelude.{◌≡◌, ℕ, IfOk, map, string_bytes};
 ghost use Rattle.sym_model.specs.Command.{Command as PlainCommand};
 ghost use Rattle.sym_model.specs.CommandOffence.{Offence};
 ghost use Rattle.sym_model.specs.Entry.{SpellsWithoutOffence, HasFirstOffence};
-ghost use Rattle.calc_language.specs.BuiltCommands.{command_entries};
 ghost use Rattle.sym_model.specs.SyntaxPlace.{IsSyntaxPlace};
-ghost use Rattle.calc_language.specs.Reading.{IsWithinItsLimit, IsRead, placed as placed_at, Accepts, Refuses, GoesWrong};
+ghost use Rattle.calc_language.specs.BuiltCommands.{command_entries};
+ghost use Rattle.calc_language.specs.Reading.{IsWithinItsLimits, IsRead, Accepts, Refuses, GoesWrong};
 
+use crate::by_name::by_name;
+use crate::name::named;
+use crate::refusal::syntax;
 use crate::{Basis, Formula};
-use calc_base::{Place, WordsFault};
-use calc_expressions::{ExpressionFault, read_expression, wrong_byte};
+use calc_base::WordsFault;
+use partitions::Partition;
+use perm_codes::Perm;
 use std::alloc::Global;
 
 /// A command.
 #[derive(Debug, Drop)]
 pub enum Command {
+    /// The product of the Schur functions of two shapes, in so many variables where a number of rows is there.
+    Mult {
+        rows: Option<u16>,
+        left: Partition,
+        right: Partition,
+    },
+    /// The skew Schur function of a shape over another, in so many variables where a number of rows is there.
+    Skew {
+        rows: Option<u16>,
+        outer: Partition,
+        inner: Partition,
+    },
+    /// The coefficient of the Schur function of a shape in the product of those of two others.
+    Coef {
+        outer: Partition,
+        left: Partition,
+        right: Partition,
+    },
+    /// The coproduct of the Schur function of a shape.
+    Coprod {
+        shape: Partition,
+    },
+    /// The lattice tableaux of a shape over another, all of them.
+    Tab {
+        outer: Partition,
+        inner: Partition,
+    },
+    /// The product in the quantum cohomology of the Grassmannian whose shapes have so many rows and columns at most.
+    Quantum {
+        rows: u16,
+        cols: u16,
+        left: Partition,
+        right: Partition,
+    },
+    /// The fusion product with so many rows, at a level.
+    Fusion {
+        rows: u16,
+        level: u16,
+        left: Partition,
+        right: Partition,
+    },
+    /// The Schubert polynomial of a permutation.
+    Schubert {
+        perm: Perm,
+    },
+    /// The product of the Schubert polynomials of two permutations.
+    Schubmult {
+        left: Perm,
+        right: Perm,
+    },
     /// The expression in the basis of the target.
-    Expand { target: Basis, formula: Formula },
-}
-
-// The word that is an expression's.
-const EXPRESSION: u64 = 2;
-
-// Words that are no command, at this place.
-fn syntax(word: u64, byte: u64) -> WordsFault
-    ensures { result ≡ WordsFault.Syntax (record { word = word; byte = byte }) }
-{
-    WordsFault::Syntax {
-        at: Place { word, byte },
-    }
-}
-
-// The refusal of the expression that stands at this word.
-fn placed(word: u64, fault: ExpressionFault) -> WordsFault
-    ensures { result ≡ placed_at word fault }
-{
-    match fault {
-        ExpressionFault::Syntax { byte } => syntax(word, byte),
-        ExpressionFault::Literal { byte } => WordsFault::Literal {
-            at: Place { word, byte },
-        },
-        ExpressionFault::Range { byte } => WordsFault::Range {
-            at: Place { word, byte },
-        },
-        ExpressionFault::Shape { byte } => WordsFault::Shape {
-            at: Place { word, byte },
-        },
-        ExpressionFault::NoMemory => WordsFault::NoMemory,
-    }
-}
-
-// Whether a word is this one.
-fn is_word(word: &String, name: &str) -> bool
-    ensures { IsTrue result ↔ (string_bytes word.now ≡ name.now) }
-{
-    word.as_str() == name
+    Expand {
+        target: Basis,
+        formula: Formula,
+    },
 }
 
 /// Reads the words of a command.
 ///
-/// `expand`, the letter `m` of the target and an expression of atoms in m, e, h and p are the command `Expand`. Words that
-/// are no command are refused as `Syntax`, at the word where they go wrong, and in the word of the expression at the byte
-/// after its longest prefix that begins one. Otherwise the first offence of the expression is refused, as
-/// `calc_expressions::read_expression` says.
+/// The commands are `mult`, `skew`, `coef`, `coprod`, `tab`, `quantum` and `fusion` with their partitions, `schubert` and `schubmult`
+/// with their permutations, and `expand` with the letter `m`, `e`, `h` or `p` of a target and an expression. Words that
+/// are no command are refused as `Syntax`, at the word where they go wrong, and in the word of an expression at the byte after
+/// its longest prefix that begins one. Otherwise the first offence is refused, as `calc_words::read_mult` and its like and
+/// `calc_expressions::read_expression` say.
 pub fn read_words(alloc: Global, words: &[String]) -> Result<Command, WordsFault>
     ensures read { IsRead (map string_bytes words.now) result }
-    ensures low { IfOk result IsWithinItsLimit }
+    ensures within { IfOk result IsWithinItsLimits }
     ensures accepts { (command : PlainCommand) → SpellsWithoutOffence command_entries (map string_bytes words.now) command
         → Accepts command result }
     ensures refuses { (offence : Offence) → HasFirstOffence command_entries (map string_bytes words.now) (Some offence)
@@ -76,38 +96,15 @@ pub fn read_words(alloc: Global, words: &[String]) -> Result<Command, WordsFault
     read(alloc, words)
 }
 
-// The words as they are read: what follows for each command and offence, the public call says.
+/// The words as they are read: what follows for each command and offence, the public call says.
 fn read(alloc: Global, words: &[String]) -> Result<Command, WordsFault>
-    ensures read { IsRead (map string_bytes words.now) result }
-    ensures low { IfOk result IsWithinItsLimit }
+    ensures { IsRead (map string_bytes words.now) result }
 {
-    let Some((command, words)) = words.split_first() else {
+    let Some((first, _)) = words.split_first() else {
         return Err(syntax(0, 0));
     };
-    if !is_word(command, "expand") {
+    let Some(name) = named(first.as_str()) else {
         return Err(syntax(0, 0));
-    }
-    let Some((target, words)) = words.split_first() else {
-        return Err(syntax(1, 0));
     };
-    if !is_word(target, "m") {
-        return Err(syntax(1, 0));
-    }
-    let Some((word, words)) = words.split_first() else {
-        return Err(syntax(EXPRESSION, 0));
-    };
-    let text = word.as_bytes();
-    if !words.is_empty() {
-        return match wrong_byte(text) {
-            Some(byte) => Err(syntax(EXPRESSION, byte)),
-            None => Err(syntax(EXPRESSION + 1, 0)),
-        };
-    }
-    match read_expression(alloc, Basis::M, text) {
-        Ok(formula) => Ok(Command::Expand {
-            target: Basis::M,
-            formula,
-        }),
-        Err(fault) => Err(placed(EXPRESSION, fault)),
-    }
+    by_name(alloc, name, words)
 }

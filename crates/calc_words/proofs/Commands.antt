@@ -76,7 +76,7 @@ coprod_read words ns r e n h =
     (read_judged coprod_entry (codes "coprod" ∷ ns) (coprod_has ns n) coprod (λ p. p ≡ partition ns) (λ p k. ap coprod k) r h)
 
 -- two lists, one behind the other
-judged_err : {A B : Type 0} (P : A → Type 0) (Q : B → Type 0) (xs ys : List Offence) (fault : WordsFault) → AllBefore xs ys
+pub judged_err : {A B : Type 0} (P : A → Type 0) (Q : B → Type 0) (xs ys : List Offence) (fault : WordsFault) → AllBefore xs ys
     → IsJudged P (first_offence xs) (Err fault) → IsJudged Q (first_offence (xs ++ ys)) (Err fault)
 judged_err P Q xs ys (Syntax at) b h = h
 judged_err P Q xs ys (Literal at) b h = first-append xs ys (at.word, at.byte, literal) h b

@@ -93,7 +93,7 @@ pub narrow_low : (a v : ℕ) → Some v ≡ narrow a → v < 2 ^ 127
 narrow_low a v h = let n = narrow_some a v h in let k = leb-false (2 ^ 127) a n.0 in let e = n.1 in omega arith
 
 -- a number that offends
-kind_judged : {A : Type 0} (P : A → Type 0) (k : ℕ) (y z : Bool) (rest first : Option Offence) (kind : Kind) → first ≡ first_of_three k false y z rest
+pub kind_judged : {A : Type 0} (P : A → Type 0) (k : ℕ) (y z : Bool) (rest first : Option Offence) (kind : Kind) → first ≡ first_of_three k false y z rest
     → Some kind ≡ range_or_shape y z → IsJudged P first (Err (fault_of k kind))
 kind_judged P k true z rest first kind h e = subst (λ x. IsJudged P first (Err (fault_of k x))) (sym (let g : kind ≡ Range = cc in g)) h
 kind_judged P k false true rest first kind h e = subst (λ x. IsJudged P first (Err (fault_of k x))) (sym (let g : kind ≡ Shape = cc in g)) h
@@ -112,15 +112,14 @@ kind_first P at ns i cells a v last parts j h e w kind k fault f =
     (k ∙ ap (part_kind i cells last) n.1))
 
 -- a number that does not
+pub none_kinds : (y z : Bool) → range_or_shape y z ≡ None → (y ≡ false) × (z ≡ false)
+none_kinds true z h = cc
+none_kinds false true h = cc
+none_kinds false false h = (refl, refl)
+
 range_none : (count cells : ℕ) (last : Option ℕ) (v : ℕ) → part_kind count cells last v ≡ None
     → (((count == most_parts) || nat_lt most_cells (cells + v)) ≡ false) × (rises last v ≡ false)
-range_none count cells last v h = by ((count == most_parts) || nat_lt most_cells (cells + v)) (rises last v) refl refl h
-  where
-    by : (y z : Bool) → ((count == most_parts) || nat_lt most_cells (cells + v)) ≡ y → rises last v ≡ z → range_or_shape y z ≡ None
-        → (((count == most_parts) || nat_lt most_cells (cells + v)) ≡ false) × (rises last v ≡ false)
-    by true z e f h = cc
-    by false true e f h = cc
-    by false false e f h = (e, f)
+range_none count cells last v h = none_kinds ((count == most_parts) || nat_lt most_cells (cells + v)) (rises last v) h
 
 or_both : (x y : Bool) → (x || y) ≡ false → (x ≡ false) × (y ≡ false)
 or_both true y h = cc
@@ -131,7 +130,7 @@ fits_in count cells last v h =
     let o = or_both (count == most_parts) (nat_lt most_cells (cells + v)) (range_none count cells last v h).0 in
     (ltb-false most_cells (cells + v) o.1, o.0)
 
-no_kinds : (x y z : Bool) → x ≡ false → y ≡ false → z ≡ false → (when x literal ++ when y range) ++ when z shape ≡ []
+pub no_kinds : (x y z : Bool) → x ≡ false → y ≡ false → z ≡ false → (when x literal ++ when y range) ++ when z shape ≡ []
 no_kinds x y z a b c = cc
 
 pub goes_on : (at : ℕ) (ns : List ℕ) (i cells a v : ℕ) (last : Option ℕ) (parts : List ℕ) → Judging at ns i cells last parts → i < length ns → get_or ns i 0 ≡ a

@@ -4,3 +4,14 @@ pub mod Standing
 pub mod Judging
 pub mod Commands
 pub mod Joining
+pub mod WrittenLists
+pub mod WrittenCommands
+pub mod WrittenLetters
+pub mod LetterJudging
+pub mod LetterStanding
+pub mod PermutationCommands
+pub mod LastStanding
+pub mod PlainBytes
+pub mod ForeignBytes
+pub mod LineWords
+pub mod WordJudging

@@ -44,7 +44,7 @@ wrong_here g (text ∷ rest) r a entries all before c n s =
     (wrong_word entries c n all before text rest s.h [] s.stands (ap (λ fs. fs ++ []) (s.goes ∙ r)) (or_false (awaits_next s.h) (s.awaits ∙ a)))
 
 -- a word is read, and one form is left
-step : (entries : List Entry) (all before : Words) (text : List ℕ) (rest : Words) (g h k : Form)
+pub step : (entries : List Entry) (all before : Words) (text : List ℕ) (rest : Words) (g h k : Form)
     → At entries all before (text ∷ rest) g → derivatives is_expression g text ≡ h ∷ [] → GoesAs h k rest → awaits_next h ≡ awaits_next k
     → At entries all (before ++ text ∷ []) rest k
 step entries all before text rest g h k s e w a = record {
@@ -93,7 +93,7 @@ behind_number text g words left t w entries all before c n s =
     w entries all (before ++ text ∷ []) c n
     (step entries all before text words (sequence (word number) g) (sequence empty g) g s (number_next text g true t) (behind_empty g words) refl)
 
-not_number : (text : List ℕ) → (IsNumber text → ⊥) → is_number_word text ≡ false
+pub not_number : (text : List ℕ) → (IsNumber text → ⊥) → is_number_word text ≡ false
 not_number text n = by (is_number_word text) refl
   where
     by : (b : Bool) → is_number_word text ≡ b → b ≡ false

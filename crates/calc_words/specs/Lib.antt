@@ -7,3 +7,8 @@ pub mod Rows
 pub mod Entries
 pub mod ReadShapes
 pub mod Joined
+pub mod WrittenLimits
+pub mod LetterRules
+pub mod PermutationWords
+pub mod BatchWords
+pub mod LineBytes

@@ -1,4 +1,4 @@
-// The words of `coef`.
+//! The words of `coef`.
 ghost use Rattle.std.specs.Prelude.{◌≡◌, ◌≤◌, ◌<◌, ◌+◌, ◌^◌, ℕ, List, [], ◌∷◌, ◌++◌, Option, Some, codes, length, map, string_bytes};
 ghost use Rattle.sym_model.specs.Command.{Command};
 ghost use Rattle.sym_model.specs.CommandOffence.{Offence, first_offence, part_offences, offences_by, rows_rule};
@@ -39,7 +39,7 @@ pub fn read_coef(alloc: Global, words: &[String]) -> Result<ThreeShapes, WordsFa
     read(alloc, words)
 }
 
-// The partitions of three lists with a word between each two, or the first offence.
+/// The partitions of three lists with a word between each two, or the first offence.
 fn read_three(
     alloc: Global,
     outer: &[String],
@@ -65,7 +65,7 @@ fn read_three(
     }
 }
 
-// The words as they are read: what follows for each command and offence, the public call says.
+/// The words as they are read: what follows for each command and offence, the public call says.
 fn read(alloc: Global, words: &[String]) -> Result<ThreeShapes, WordsFault>
     ensures { IsRead (coef_entry ∷ []) coefficient_of (map string_bytes words.now) result }
 {

@@ -1,4 +1,4 @@
-// The words of `coprod`.
+//! The words of `coprod`.
 ghost use Rattle.std.specs.Prelude.{◌≡◌, ℕ, List, [], ◌∷◌, Some, map, string_bytes};
 ghost use Rattle.sym_model.specs.Command.{Command, coprod};
 ghost use Rattle.sym_model.specs.CommandOffence.{Offence};
@@ -31,7 +31,7 @@ pub fn read_coprod(alloc: Global, words: &[String]) -> Result<Partition, WordsFa
     read(alloc, words)
 }
 
-// The words as they are read: what follows for each command and offence, the public call says.
+/// The words as they are read: what follows for each command and offence, the public call says.
 fn read(alloc: Global, words: &[String]) -> Result<Partition, WordsFault>
     ensures { IsRead (coprod_entry ∷ []) coprod (map string_bytes words.now) result }
 {

@@ -1,20 +1,20 @@
-// Number words and their values.
+//! Number words and their values.
 ghost use Rattle.std.specs.Prelude.{◌≡◌};
 ghost use Rattle.sym_model.specs.PrintedBlock.{decimal_value};
 ghost use Rattle.sym_model.specs.Form.{is_number_word, is_digit};
 ghost use Rattle.calc_words.specs.NumberRuns.{narrow};
 
-// The least number past those that a word may write.
+/// The least number past those that a word may write.
 const WIDE: u128 = 1 << 127;
 
-// Whether the byte is an ASCII digit.
+/// Whether the byte is an ASCII digit.
 fn is_digit_byte(byte: u8) -> bool
     ensures { result ≡ is_digit byte }
 {
     byte >= b'0' && byte <= b'9'
 }
 
-// Whether the word is a number: one or more ASCII digits.
+/// Whether the word is a number: one or more ASCII digits.
 pub(crate) fn is_number(word: &[u8]) -> bool
     ensures { result ≡ is_number_word word.now }
 {
@@ -26,7 +26,7 @@ pub(crate) fn is_number(word: &[u8]) -> bool
     !word.is_empty()
 }
 
-// The value of a number word, where it is no more than 2^127 - 1.
+/// The value of a number word, where it is no more than 2^127 - 1.
 pub(crate) fn value_of(word: &[u8]) -> Option<u128>
     ensures { result ≡ narrow (decimal_value word.now) }
 {

@@ -1,10 +1,10 @@
-// Refusals of the words of a command.
+//! Refusals of the words of a command.
 ghost use Rattle.std.specs.Prelude.{◌≡◌};
 ghost use Rattle.calc_words.specs.Faults.{fault_of};
 
 use calc_base::{Place, WordsFault};
 
-// What a number offends by.
+/// What a number offends by.
 #[derive(Clone, Copy, Debug)]
 pub(crate) enum Kind {
     Literal,
@@ -12,7 +12,7 @@ pub(crate) enum Kind {
     Shape,
 }
 
-// Words that are no command, at this word.
+/// Words that are no command, at this word.
 pub(crate) fn syntax(word: u64) -> WordsFault
     ensures { result ≡ WordsFault.Syntax (record { word = word; byte = 0 }) }
 {
@@ -21,7 +21,7 @@ pub(crate) fn syntax(word: u64) -> WordsFault
     }
 }
 
-// The refusal of the number that is this word.
+/// The refusal of the number that is this word.
 pub(crate) fn offence(word: u64, kind: Kind) -> WordsFault
     ensures { result ≡ fault_of word kind }
 {

@@ -1,8 +1,9 @@
-// Partitions as they are written.
+//! Partitions as they are written.
 ghost use Rattle.std.specs.Prelude.{◌≡◌, ◌≤◌, ◌<◌, ◌+◌, ◌^◌, map, length, string_bytes, IfOk, IfErr};
 ghost use Rattle.sym_model.specs.Partition.{without_last_zeros};
 ghost use Rattle.sym_model.specs.CommandOffence.{first_offence, part_offences};
 ghost use Rattle.sym_model.specs.WordForms.{numbers as numbers_of, partition};
+ghost use Rattle.partitions.specs.Limits.{IsWithinLimits};
 ghost use Rattle.calc_words.specs.PartRules.{part_kind};
 ghost use Rattle.calc_words.specs.Reading.{IsJudged};
 
@@ -12,12 +13,12 @@ use calc_base::WordsFault;
 use partitions::Partition;
 use std::alloc::Global;
 
-// The most numbers of a partition that is written, and the most cells.
+/// The most numbers of a partition that is written, and the most cells.
 const MOST_PARTS: usize = 64;
 
 const MOST_CELLS: u128 = 512;
 
-// What a number offends by that stands behind so many with so many cells, the last of them this one.
+/// What a number offends by that stands behind so many with so many cells, the last of them this one.
 fn part_offence(count: usize, cells: u16, last: Option<u16>, value: u128) -> Option<Kind>
     requires { value < 2 ^ 127 }
     ensures { result ≡ part_kind count cells last value }
@@ -31,18 +32,19 @@ fn part_offence(count: usize, cells: u16, last: Option<u16>, value: u128) -> Opt
     }
 }
 
-// The partition of numbers that are known to be one, so that only memory can be wanting.
-fn partition_of(alloc: Global, parts: &[u16]) -> Result<Partition, WordsFault>
-    ensures ok { IfOk result (λ p. p ≡ without_last_zeros parts.now) }
+/// The partition of numbers that have been judged.
+fn partition_of(alloc: Global, numbers: &[u16]) -> Result<Partition, WordsFault>
+    requires { IsWithinLimits (without_last_zeros numbers.now) }
+    ensures ok { IfOk result (λ p. p ≡ without_last_zeros numbers.now) }
     ensures err { IfErr result (λ fault. fault ≡ WordsFault.NoMemory) }
 {
-    match Partition::from_parts(alloc, parts) {
+    match Partition::from_valid_numbers(alloc, numbers) {
         Ok(partition) => Ok(partition),
         Err(_) => Err(WordsFault::NoMemory),
     }
 }
 
-// The partition of the numbers that are these words, the first of which is the word `at`, or their first offence.
+/// The partition of the numbers that are these words, the first of which is the word `at`, or their first offence.
 pub(crate) fn read_partition(
     alloc: Global,
     at: u64,

@@ -1,4 +1,4 @@
-// The words of `quantum` and `fusion`.
+//! The words of `quantum` and `fusion`.
 ghost use Rattle.std.specs.Prelude.{◌≡◌, ◌≤◌, ◌<◌, ◌+◌, ◌^◌, ℕ, List, [], ◌∷◌, ◌++◌, Option, Some, codes, length, map, string_bytes};
 ghost use Rattle.sym_model.specs.Command.{Command};
 ghost use Rattle.sym_model.specs.CommandOffence.{Offence, first_offence, part_offences, offences_by, rows_rule};
@@ -29,7 +29,7 @@ pub struct Reduction {
     pub right: Partition,
 }
 
-// The number of rows, whose words are these, and what stands behind them.
+/// The number of rows, whose words are these, and what stands behind them.
 fn read_bounded(
     alloc: Global,
     rows: Option<u128>,
@@ -60,7 +60,7 @@ fn read_bounded(
     }
 }
 
-// The words of the command of this name.
+/// The words of the command of this name.
 fn read_reduction(alloc: Global, words: &[String], name: &str) -> Result<Reduction, WordsFault>
     ensures { (says : ℕ → ℕ → List ℕ → List ℕ → Command)
         → IsRead (reduction_entry name.now says ∷ []) (λ r. says r.rows r.bound r.left r.right) (map string_bytes words.now) result }

@@ -1,16 +1,16 @@
-// The words of a command, cut into its parts.
-ghost use Rattle.std.specs.Prelude.{◌≡◌, ◌++◌, ◌∷◌, ◌≤◌, false, map, length, string_bytes, MatchOption, IfOk, IfErr, [], codes};
+//! The words of a command, cut into its parts.
+ghost use Rattle.std.specs.Prelude.{◌≡◌, ◌++◌, ◌∷◌, ◌≤◌, ◌<◌, false, map, length, string_bytes, MatchOption, IfOk, IfErr, [], codes};
 ghost use Rattle.sym_model.specs.Form.{EachOf};
 ghost use Rattle.calc_words.specs.NumberRuns.{IsNumber, BeginsOtherwise, AreTwoLists};
 ghost use Rattle.sym_model.specs.Form.{Form, sequence, is_number_word, derivatives};
-ghost use Rattle.sym_model.specs.WordForms.{the, optional, rows_words, partition_words};
+ghost use Rattle.sym_model.specs.WordForms.{the, optional, rows_words, partition_words, permutation_words};
 ghost use Rattle.word_laws.specs.Reading.{is_expression};
 ghost use Rattle.calc_words.specs.Standing.{WrongAt};
 ghost use Rattle.calc_words.specs.Rows.{RowsAre};
 
 use crate::numbers::{is_number, value_of};
 
-// The words behind the first, where that is this one.
+/// The words behind the first, where that is this one.
 pub(crate) fn behind<'a>(words: &'a [String], text: &str) -> Option<&'a [String]>
     ensures { MatchOption result (BeginsOtherwise (λ t. t ≡ text.now) (map string_bytes words.now))
         (λ rest. map string_bytes words.now ≡ text.now ∷ map string_bytes rest.now) }
@@ -24,7 +24,7 @@ pub(crate) fn behind<'a>(words: &'a [String], text: &str) -> Option<&'a [String]
     Some(rest)
 }
 
-// The first word and those behind it, where it is a number.
+/// The first word and those behind it, where it is a number.
 pub(crate) fn first_number(words: &[String]) -> Option<(&String, &[String])>
     ensures { MatchOption result (BeginsOtherwise IsNumber (map string_bytes words.now))
         (λ p. (map string_bytes words.now ≡ string_bytes p.0.now ∷ map string_bytes p.1.now) × IsNumber (string_bytes p.0.now)) }
@@ -38,7 +38,7 @@ pub(crate) fn first_number(words: &[String]) -> Option<(&String, &[String])>
     Some((first, rest))
 }
 
-// The numbers at the front, and the words behind them.
+/// The numbers at the front, and the words behind them.
 pub(crate) fn numbers(words: &[String]) -> (&[String], &[String])
     ensures parts { map string_bytes words.now ≡ map string_bytes result.0.now ++ map string_bytes result.1.now }
     ensures numbers { EachOf IsNumber (map string_bytes result.0.now) }
@@ -52,7 +52,7 @@ pub(crate) fn numbers(words: &[String]) -> (&[String], &[String])
     words.split_at(words.len())
 }
 
-// The words, where all of them are numbers; else how many are left from the wrong one on.
+/// The words, where all of them are numbers; else how many are left from the wrong one on.
 pub(crate) fn last_list(words: &[String]) -> Result<&[String], usize>
     ensures ok { IfOk result (λ list. (list.now ≡ words.now) × EachOf IsNumber (map string_bytes words.now)) }
     ensures wrong { IfErr result (λ left. WrongAt partition_words (map string_bytes words.now) left) }
@@ -66,7 +66,7 @@ pub(crate) fn last_list(words: &[String]) -> Result<&[String], usize>
     }
 }
 
-// Two lists of numbers with this word between them; else how many words are left from the wrong one on.
+/// Two lists of numbers with this word between them; else how many words are left from the wrong one on.
 pub(crate) fn two_lists<'a>(
     words: &'a [String],
     separator: &str,
@@ -86,14 +86,53 @@ pub(crate) fn two_lists<'a>(
     }
 }
 
-// The number of rows as it is written, where it is there; its value is kept where it is no more than 2^127 - 1.
+/// The words, where all of them are numbers and there is one; else how many are left from the wrong one on.
+pub(crate) fn last_letters(words: &[String]) -> Result<&[String], usize>
+    ensures ok { IfOk result (λ list. (list.now ≡ words.now) × (0 < length words.now) × EachOf IsNumber (map string_bytes words.now)) }
+    ensures wrong { IfErr result (λ left. WrongAt permutation_words (map string_bytes words.now) left) }
+    ensures left { IfErr result (λ left. left ≤ length words.now) }
+{
+    let Some((_, rest)) = first_number(words) else {
+        return Err(words.len());
+    };
+    match last_list(rest) {
+        Ok(_) => Ok(words),
+        Err(left) => Err(left),
+    }
+}
+
+/// Two lists of at least one number with this word between them; else how many words are left from the wrong one on.
+pub(crate) fn two_letter_lists<'a>(
+    words: &'a [String],
+    separator: &str,
+) -> Result<(&'a [String], &'a [String]), usize>
+    requires { is_number_word separator.now ≡ false }
+    ensures ok { IfOk result (λ p. AreTwoLists separator.now (map string_bytes p.0.now) (map string_bytes p.1.now) (map string_bytes words.now)) }
+    ensures some { IfOk result (λ p. (0 < length p.0.now) × (0 < length p.1.now)) }
+    ensures wrong { IfErr result (λ left. WrongAt (sequence permutation_words (sequence (the separator.now) permutation_words)) (map string_bytes words.now) left) }
+    ensures left { IfErr result (λ left. left ≤ length words.now) }
+{
+    let Some(_) = first_number(words) else {
+        return Err(words.len());
+    };
+    let (first, rest) = numbers(words);
+    let Some(second) = behind(rest, separator) else {
+        return Err(rest.len());
+    };
+    match last_letters(second) {
+        Ok(second) => Ok((first, second)),
+        Err(left) => Err(left),
+    }
+}
+
+/// The number of rows as it is written, where it is there; its value is kept where it is no more than 2^127 - 1.
 #[derive(Clone, Copy)]
 pub(crate) enum RowsWord {
     Absent,
     Given { value: Option<u128> },
 }
 
-// The number of rows, and the words behind it; else how many words are left from the wrong one on.
+/// The number of rows, and the words behind it; else how many words are left from the wrong one on.
 pub(crate) fn rows_first(words: &[String]) -> Result<(RowsWord, &[String]), usize>
     ensures ok { IfOk result (λ p. RowsAre p.0 (map string_bytes words.now) (map string_bytes p.1.now)) }
     ensures shorter { IfOk result (λ p. length p.1.now ≤ length words.now) }

@@ -1,4 +1,4 @@
-// The words of `tab`, which asks for a whole list.
+//! The words of `tab`, which asks for a whole list.
 ghost use Rattle.std.specs.Prelude.{◌≡◌, ◌≤◌, ◌<◌, ◌+◌, ◌^◌, ℕ, List, [], ◌∷◌, ◌++◌, Option, Some, codes, length, map, string_bytes};
 ghost use Rattle.sym_model.specs.Command.{Command};
 ghost use Rattle.sym_model.specs.CommandOffence.{Offence, first_offence, part_offences, offences_by, rows_rule};
@@ -31,7 +31,7 @@ pub fn read_whole_tab(alloc: Global, words: &[String]) -> Result<TwoShapes, Word
     read(alloc, words)
 }
 
-// The words as they are read: what follows for each command and offence, the public call says.
+/// The words as they are read: what follows for each command and offence, the public call says.
 fn read(alloc: Global, words: &[String]) -> Result<TwoShapes, WordsFault>
     ensures { IsRead (whole_tab_entry ∷ []) tableaux_of (map string_bytes words.now) result }
 {

@@ -1,4 +1,4 @@
-// The words of the commands on two shapes: `mult` and `skew`.
+//! The words of the commands on two shapes: `mult` and `skew`.
 ghost use Rattle.std.specs.Prelude.{◌≡◌, ◌≤◌, ◌<◌, ◌+◌, ◌^◌, ℕ, false, List, [], ◌∷◌, ◌++◌, Option, Some, None, codes, length, map, string_bytes};
 ghost use Rattle.sym_model.specs.Polynomial.{same};
 ghost use Rattle.sym_model.specs.Form.{is_number_word};
@@ -28,17 +28,17 @@ pub struct TwoShapes {
     pub second: Partition,
 }
 
-// The greatest number of rows or columns, and the greatest level.
+/// The greatest number of rows or columns, and the greatest level.
 const MOST_ROWS: u128 = 64;
 
-// Whether a number of rows is not from 1 to the greatest.
+/// Whether a number of rows is not from 1 to the greatest.
 fn is_outside(value: u128) -> bool
     ensures { result ≡ is_outside_of most_rows value }
 {
     value == 0 || value > MOST_ROWS
 }
 
-// A number of rows, columns or a level that is this word, or its offence.
+/// A number of rows, columns or a level that is this word, or its offence.
 pub(crate) fn rows_number(word: u64, number: Option<u128>) -> Result<u16, WordsFault>
     ensures { (a : ℕ) → number ≡ narrow a → IsJudged (λ n. n ≡ a) (first_offence (offences_by rows_rule word (a ∷ []))) result }
 {
@@ -51,7 +51,7 @@ pub(crate) fn rows_number(word: u64, number: Option<u128>) -> Result<u16, WordsF
     Ok(value as u16)
 }
 
-// The partitions of two lists with a word between them, the first of which begins at the word `at`, or the first offence.
+/// The partitions of two lists with a word between them, the first of which begins at the word `at`, or the first offence.
 pub(crate) fn read_two(
     alloc: Global,
     at: u64,
@@ -77,7 +77,7 @@ pub(crate) fn read_two(
     }
 }
 
-// The same with a number of rows before them.
+/// The same with a number of rows before them.
 fn read_rows_and_two(
     alloc: Global,
     number: Option<u128>,
@@ -94,7 +94,7 @@ fn read_rows_and_two(
     }
 }
 
-// The words of the command of this name, with this word between its two partitions.
+/// The words of the command of this name, with this word between its two partitions.
 fn read_shapes(
     alloc: Global,
     words: &[String],

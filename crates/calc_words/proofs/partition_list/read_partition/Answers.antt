@@ -1,8 +1,11 @@
-use Rattle.std.proofs.Common.{◌≡◌, ◌<◌, length, map, sym, ap, ◌∙◌, arith}
+use Rattle.std.proofs.Common.{◌≡◌, ◌<◌, ◌≤◌, length, map, take, sym, ap, ◌∙◌, subst, arith}
 use Rattle.std.specs.Prelude.{string_bytes}
 use Rattle.sym_model.specs.PrintedBlock.{decimal_value}
 use Rattle.sym_model.specs.WordForms.{numbers, partition}
-use Rattle.calc_words.proofs.Judging.{number_at, counted, wide_first, kind_first, goes_on}
+use Rattle.sym_model.specs.Partition.{without_last_zeros}
+use Rattle.partitions.specs.Limits.{IsWithinLimits}
+use Rattle.calc_words.proofs.Judging.{number_at, counted, wide_first, kind_first, goes_on, ends, all_parts}
+use Rattle.calc_words.proofs.WrittenLists.{written, written_partition}
 use Rattle.calc_words.proofs.partition_list.read_partition.Goals as goal
 
 pub returns-in_default : goal.returns-in_default
@@ -34,3 +37,18 @@ loop-count-preserved c =
     goes_on c.args.at ns c.loop-count.count c.loop-count.cells _ c.in-Some.value c.loop-count.last c.loop-count.parts
     c.loop-count.invariant h (e ∙ ap decimal_value (sym c.as_bytes.ensures.value)) (sym c.in-Some.is ∙ c.value_of.ensures)
     (sym c.part_offence.ensures ∙ c.in_default-part_offence.is)
+
+pub partition_of-requires : goal.partition_of-requires
+partition_of-requires c =
+    let ws = c.args.words.now in
+    let ns = numbers (map string_bytes ws) in
+    let x = counted string_bytes decimal_value ws in
+    let i = c.loop-count.count in
+    let over : length ws ≤ i = c.loop-count-test.false in
+    let most : i ≤ length ws = c.loop-count.auto.count-end in
+    let j = c.loop-count.invariant in
+    let parts = c.loop-count.parts in
+    let first = ends c.args.at ns i c.loop-count.cells c.loop-count.last parts j (omega (arith, x, over)) in
+    let all = all_parts c.args.at ns i c.loop-count.cells c.loop-count.last parts j (omega (arith, x, over)) (omega (arith, x, most)) in
+    subst (λ xs. IsWithinLimits (without_last_zeros xs)) (sym (ap (λ n. take n parts) (sym x) ∙ all))
+    (written_partition (without_last_zeros ns) (written c.args.at ns first))

@@ -1,0 +1,135 @@
+-- The next line, piece by piece.
+use Rattle.std.proofs.Common.{◌≡◌, ℕ, ◌+◌, ◌≤◌, Bool, true, false, List, [], ◌∷◌, ◌++◌, append_assoc, length, length-append, refl, sym, ap, ◌∙◌, subst, arith, Option, Some, None, inl, inr}
+use Rattle.std.specs.Prelude.{IfSome}
+use Rattle.std.specs.Option.{option_map}
+use Rattle.std.proofs.lemmas.Bool.{ltb-true, ltb-false}
+use Rattle.std.proofs.lemmas.List.{append-nil}
+use Rattle.sym_model.specs.BatchLine.{most_bytes}
+use Rattle.batch_lines.specs.Feeds.{HasNoFeed}
+use Rattle.batch_lines.specs.Heard.{IsHeard, IsTaken, Hears}
+use Rattle.batch_lines.specs.Reading.{Took, EndsAtFeed, EndsAtEnd, IsNext, ReadsNext, next_at_feed, next_at_end}
+use Rattle.batch_lines.specs.declared.heard.Heard.{Heard}
+use Rattle.batch_lines.specs.declared.next.Next.{Next}
+use Rattle.batch_lines.proofs.Parts.{no_feed_append}
+
+-- ---- what was taken
+
+pub took_nothing : (told : Option (List ℕ)) → Took told told []
+took_nothing None = refl
+took_nothing (Some rest) = refl
+
+pub took_more : (before between now : Option (List ℕ)) (first more : List ℕ) → Took before between first → Took between now more → Took before now (first ++ more)
+took_more before between now first more h k = h ∙ ap (option_map (λ rest. first ++ rest)) k ∙ by now
+  where
+    by : (told : Option (List ℕ)) → option_map (λ rest. first ++ rest) (option_map (λ rest. more ++ rest) told) ≡ option_map (λ rest. (first ++ more) ++ rest) told
+    by None = refl
+    by (Some rest) = ap Some (sym (append_assoc first more rest))
+
+-- ---- a line so far
+
+pub record ReadsSo (before now : Option (List ℕ)) (allowance less faults count : ℕ) (first pending kept : List ℕ) (is_long : Bool) : Type 0 where
+  pub taken : List ℕ
+  pub took : Took before now taken
+  pub spent : less + length taken ≤ allowance
+  pub still : count ≡ faults
+  pub text : List ℕ
+  pub no_feed : HasNoFeed text
+  pub bytes : first ++ taken ≡ text ++ pending
+  pub heard : IsHeard text kept is_long
+
+pub begins : (told : Option (List ℕ)) (allowance faults : ℕ) (first kept : List ℕ) → kept ≡ [] → ReadsSo told told allowance allowance faults faults first first kept false
+begins told allowance faults first kept e = record {
+  taken = [];
+  took = took_nothing told;
+  spent = omega arith;
+  still = refl;
+  text = [];
+  no_feed = tt;
+  bytes = append-nil first;
+  heard = record { long = refl; whole = λ h. e };
+}
+
+-- ---- a line that ends
+
+ended_at_feed : (text line : List ℕ) (is_long : Bool) (all pending : List ℕ) (now : Option (List ℕ)) → IsHeard text line is_long → EndsAtFeed all text pending
+    → IsNext (next_at_feed is_long) all text pending now line
+ended_at_feed text line true all pending now h e = (ltb-true most_bytes (length text) (sym h.long), inl e)
+ended_at_feed text line false all pending now h e = (h.whole refl, ltb-false most_bytes (length text) (sym h.long), inl e)
+
+pub ends : (before now : Option (List ℕ)) (allowance less faults count : ℕ) (first pending kept behind line : List ℕ) (is_long : Bool) (heard : Heard) (next : Next)
+    → (r : ReadsSo before now allowance less faults count first pending kept is_long) → Hears r.text pending behind line heard → heard.has_ended ≡ true
+    → next ≡ next_at_feed heard.is_long → ReadsNext before now allowance less first behind line next
+ends before now allowance less faults count first pending kept behind line is_long heard next r h e n =
+    let cut : pending ≡ h.part ++ 10 ∷ behind = subst (IsTaken h.part pending behind) e h.taken in
+    let all : EndsAtFeed (first ++ r.taken) (r.text ++ h.part) behind =
+    r.bytes ∙ ap (λ xs. r.text ++ xs) cut ∙ sym (append_assoc r.text h.part (10 ∷ behind)) in
+    record {
+      taken = r.taken;
+      took = r.took;
+      spent = r.spent;
+      text = r.text ++ h.part;
+      no_feed = no_feed_append r.text h.part r.no_feed h.no_feed;
+      is_next =
+          subst (λ x. IsNext x (first ++ r.taken) (r.text ++ h.part) behind now line) (sym n)
+          (ended_at_feed (r.text ++ h.part) line heard.is_long (first ++ r.taken) behind now h.heard all);
+    }
+
+-- ---- a line that goes on
+
+pub goes_on : (before now later : Option (List ℕ)) (allowance less still_less faults count more_count : ℕ) (first pending kept behind line piece : List ℕ) (is_long : Bool) (heard : Heard)
+    → (r : ReadsSo before now allowance less faults count first pending kept is_long) → Hears r.text pending behind line heard → heard.has_ended ≡ false
+    → Took now later piece → still_less + length piece ≤ less → more_count ≡ count
+    → ReadsSo before later allowance still_less faults more_count first piece line heard.is_long
+goes_on before now later allowance less still_less faults count more_count first pending kept behind line piece is_long heard r h e t s f =
+    let cut : (pending ≡ h.part) × (behind ≡ []) = subst (IsTaken h.part pending behind) e h.taken in
+    record {
+      taken = r.taken ++ piece;
+      took = took_more before now later r.taken piece r.took t;
+      spent = let x = r.spent in let l = length-append r.taken piece in omega (arith, x, l, s);
+      still = f ∙ r.still;
+      text = r.text ++ h.part;
+      no_feed = no_feed_append r.text h.part r.no_feed h.no_feed;
+      bytes =
+          sym (append_assoc first r.taken piece)
+          ∙ ap (λ xs. xs ++ piece) (r.bytes ∙ ap (λ xs. r.text ++ xs) cut.0);
+      heard = h.heard;
+    }
+
+-- ---- the end of the source
+
+no_bytes : (piece : List ℕ) → length piece ≡ 0 → piece ≡ []
+no_bytes [] h = refl
+no_bytes (b ∷ piece) h = absurd (omega (arith, h))
+
+told_end : (now later : Option (List ℕ)) (piece : List ℕ) → piece ≡ [] → Took now later piece → IfSome now (λ rest. rest ≡ []) → IfSome later (λ rest. rest ≡ [])
+told_end now None piece e t h = tt
+told_end now (Some rest) piece e t h =
+    let s : now ≡ Some rest = t ∙ ap (λ xs. Some (xs ++ rest)) e in subst (λ told. IfSome told (λ r. r ≡ [])) s h
+
+at_end_is : (text line : List ℕ) (is_long : Bool) (all pending : List ℕ) (later : Option (List ℕ)) → IsHeard text line is_long → EndsAtEnd all text pending later
+    → IsNext (next_at_end line is_long) all text pending later line
+at_end_is text line true all pending later h e = (ltb-true most_bytes (length text) (sym h.long), inr e)
+at_end_is text [] false all pending later h e = (sym (h.whole refl), e)
+at_end_is text (b ∷ line) false all pending later h e =
+    let w = h.whole refl in
+    (w, ltb-false most_bytes (length text) (sym h.long), inr (e, (let l = ap length w in omega (arith, l))))
+
+pub stops : (before now later : Option (List ℕ)) (allowance less still_less faults count : ℕ) (first pending kept behind line piece : List ℕ) (is_long : Bool) (heard : Heard) (next : Next)
+    → (r : ReadsSo before now allowance less faults count first pending kept is_long) → Hears r.text pending behind line heard → heard.has_ended ≡ false
+    → Took now later piece → still_less + length piece ≤ less → length piece ≡ 0 → IfSome now (λ rest. rest ≡ [])
+    → next ≡ next_at_end line heard.is_long → ReadsNext before later allowance still_less first piece line next
+stops before now later allowance less still_less faults count first pending kept behind line piece is_long heard next r h e t s z q n =
+    let cut : (pending ≡ h.part) × (behind ≡ []) = subst (IsTaken h.part pending behind) e h.taken in
+    let none = no_bytes piece z in
+    let text = r.text ++ h.part in
+    record {
+      taken = r.taken;
+      took = subst (Took before later) (ap (λ xs. r.taken ++ xs) none ∙ append-nil r.taken) (took_more before now later r.taken piece r.took t);
+      spent = let x = r.spent in omega (arith, x, s);
+      text = text;
+      no_feed = no_feed_append r.text h.part r.no_feed h.no_feed;
+      is_next =
+          subst (λ x. IsNext x (first ++ r.taken) text piece later line) (sym n)
+          (at_end_is text line heard.is_long (first ++ r.taken) piece later h.heard
+          (record { whole = r.bytes ∙ ap (λ xs. r.text ++ xs) cut.0; none_pending = none; none_left = told_end now later piece none t q }));
+    }

@@ -1,0 +1,30 @@
+-- Parts of a list of bytes, and texts without a line feed.
+use Rattle.std.proofs.Common.{◌≡◌, ℕ, zero, suc, ◌+◌, ◌-◌, ◌<◌, ◌≤◌, List, [], ◌∷◌, ◌++◌, length, take, drop, get_or, refl, sym, ap, ◌∙◌, subst, arith}
+use Rattle.std.specs.Prelude.{slice_range}
+use Rattle.std.proofs.lemmas.List.{take_more, length-take, drop-take}
+use Rattle.batch_lines.specs.Feeds.{HasNoFeed}
+
+pub no_feed_append : (xs ys : List ℕ) → HasNoFeed xs → HasNoFeed ys → HasNoFeed (xs ++ ys)
+no_feed_append [] ys h k = k
+no_feed_append (x ∷ xs) ys h k = (h.0, no_feed_append xs ys h.1 k)
+
+pub no_feed_more : (xs : List ℕ) (i : ℕ) → i < length xs → HasNoFeed (take i xs) → (get_or xs i 0 ≡ 10 → ⊥) → HasNoFeed (take (i + 1) xs)
+no_feed_more xs i h k n = subst HasNoFeed (sym (take_more xs i 0 h)) (no_feed_append (take i xs) (get_or xs i 0 ∷ []) k (n, tt))
+
+drop_nothing : (n : ℕ) → ◌≡◌ {A = List ℕ} (drop n []) []
+drop_nothing zero = refl
+drop_nothing (suc n) = refl
+
+drop_more : (n m : ℕ) (xs : List ℕ) → drop (n + m) xs ≡ drop m (drop n xs)
+drop_more zero m xs = ap (λ k. drop k xs) (let e : 0 + m ≡ m = omega arith in e)
+drop_more (suc n) m [] = drop_nothing (suc n + m) ∙ sym (drop_nothing m)
+drop_more (suc n) m (x ∷ xs) = ap (λ k. drop k (x ∷ xs)) (let e : suc n + m ≡ suc (n + m) = omega arith in e) ∙ drop_more n m xs
+
+pub skipped : (bytes : List ℕ) (start end count : ℕ) → start ≤ end → end ≤ length bytes → count ≤ length (slice_range bytes start end)
+    → slice_range bytes (start + count) end ≡ drop count (slice_range bytes start end)
+skipped bytes start end count h k l =
+    let t = length-take (end - start) (drop start bytes) in
+    let m = end - (start + count) in
+    let e : end - start ≡ count + m = omega (arith, h, l, t) in
+    ap (take m) (drop_more start count bytes)
+    ∙ sym (ap (λ n. drop count (take n (drop start bytes))) e ∙ drop-take count m (drop start bytes))

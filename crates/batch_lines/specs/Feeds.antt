@@ -1,0 +1,7 @@
+-- Texts without a line feed (this project's own).
+use Rattle.std.specs.Prelude.{◌≡◌, ℕ, List, [], ◌∷◌}
+
+-- no byte is a line feed
+abbrev pub HasNoFeed : List ℕ → Type 0
+HasNoFeed [] = Unit {0}
+HasNoFeed (byte ∷ text) = (byte ≡ 10 → ⊥) × HasNoFeed text

@@ -1,0 +1,4 @@
+pub mod Feeds
+pub mod Piece
+pub mod Reading
+pub mod Heard

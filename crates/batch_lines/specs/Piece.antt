@@ -1,0 +1,7 @@
+-- What is kept of a piece of bytes (this project's own).
+use Rattle.std.specs.Prelude.{ℕ, ◌≤◌, List, length}
+
+-- a part of the bytes from one place to another
+pub record IsPart (bytes : List ℕ) (start end : ℕ) : Type 0 where
+  pub order : start ≤ end
+  pub within : end ≤ length bytes

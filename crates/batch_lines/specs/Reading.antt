@@ -1,0 +1,62 @@
+-- What a reader of lines has, and what it is to read the next line (this project's own).
+use Rattle.std.specs.Prelude.{◌≡◌, ◌⊎◌, ◌<◌, ◌≤◌, ℕ, ◌+◌, Bool, true, false, List, [], ◌∷◌, ◌++◌, length, Option, IfSome, Result, Ok, Err}
+use Rattle.std.specs.Option.{option_map}
+use Rattle.sym_model.specs.BatchLine.{most_bytes}
+use Rattle.calc_base.specs.Fault.{Rose}
+use Rattle.batch_lines.specs.Feeds.{HasNoFeed}
+use Rattle.batch_lines.specs.declared.next.Next.{Next}
+use Rattle.batch_lines.specs.declared.next.Next.TheVariants.{Line, TooLong, End}
+use Rattle.batch_lines.specs.declared.next.LineFault.{LineFault}
+use Rattle.batch_lines.specs.declared.next.LineFault.TheVariants.{SourceFault, NoMemory}
+
+-- the bytes that were taken from the source and not yet read, and the last line
+pub record Reading : Type 0 where
+  pub pending : List ℕ
+  pub line : List ℕ
+
+-- some bytes were taken from the source, where it tells them
+abbrev pub Took : Option (List ℕ) → Option (List ℕ) → List ℕ → Type 0
+Took before now taken = before ≡ option_map (λ rest. taken ++ rest) now
+
+-- the bytes are the text of a line without its line feed, and what stands behind that
+abbrev pub EndsAtFeed : List ℕ → List ℕ → List ℕ → Type 0
+EndsAtFeed all text pending = all ≡ text ++ 10 ∷ pending
+
+-- the bytes are the text of a line that has no line feed, and the source is at its end
+pub record EndsAtEnd (all text pending : List ℕ) (left : Option (List ℕ)) : Type 0 where
+  pub whole : all ≡ text
+  pub none_pending : pending ≡ []
+  pub none_left : IfSome left (λ rest. rest ≡ [])
+
+-- what is read next: a line of at most 4,096 bytes, one with more, or none; the last line is one only where it has a byte
+abbrev pub IsNext : Next → (all text pending : List ℕ) → Option (List ℕ) → (line : List ℕ) → Type 0
+IsNext Line all text pending left line =
+    (line ≡ text) × (length text ≤ most_bytes) × (EndsAtFeed all text pending ⊎ (EndsAtEnd all text pending left × (0 < length text)))
+IsNext TooLong all text pending left line = (most_bytes < length text) × (EndsAtFeed all text pending ⊎ EndsAtEnd all text pending left)
+IsNext End all text pending left line = (text ≡ []) × EndsAtEnd all text pending left
+
+-- these bytes were taken, and of them and those that were pending the next line was read
+pub record ReadsNext (before now : Option (List ℕ)) (allowance less : ℕ) (pending left_pending line : List ℕ) (next : Next) : Type 0 where
+  pub taken : List ℕ
+  pub took : Took before now taken
+  pub spent : less + length taken ≤ allowance
+  pub text : List ℕ
+  pub no_feed : HasNoFeed text
+  pub is_next : IsNext next (pending ++ taken) text left_pending now line
+
+-- what is read where a line ends at a line feed
+abbrev pub next_at_feed : Bool → Next
+next_at_feed true = TooLong
+next_at_feed false = Line
+
+-- what is read where the source is at its end
+abbrev pub next_at_end : List ℕ → Bool → Next
+next_at_end line true = TooLong
+next_at_end [] false = End
+next_at_end (byte ∷ line) false = Line
+
+-- a fault of the source is counted, and nothing else is
+abbrev pub CountsLine : (before now : ℕ) → Result Next LineFault → Type 0
+CountsLine before now (Ok next) = now ≡ before
+CountsLine before now (Err SourceFault) = Rose before now
+CountsLine before now (Err NoMemory) = now ≡ before

@@ -1,0 +1,37 @@
+//! What a loop over the lines of a batch stands on.
+
+ghost use Rattle.std.specs.Prelude.{◌≡◌, ◌<◌, ◌&&◌, ℕ, List, [], ◌∷◌, ◌++◌, Some, length, codes};
+ghost use Rattle.sym_model.specs.BatchLine.{BatchLine, lines_of, batch_line, too_long};
+ghost use Rattle.sym_model.specs.BatchOutcome.{Block, AreBlocks, batch_text, is_done, are_done};
+ghost use Rattle.sym_model.specs.Entry.{Entry};
+ghost use Rattle.batch_lines.specs.Feeds.{HasNoFeed};
+ghost use Rattle.batch_lines.specs.Reading.{ReadsNext};
+ghost use Rattle.batch_lines.specs.declared.next.Next.TheVariants.{Line, TooLong, End};
+
+/// What is read line by line from a source that tells its bytes are the lines of the text that was left in it, and at the end
+/// nothing is left. It does nothing when it runs.
+pub fn lines_read_law()
+    ensures first { (text rest : List ℕ) → HasNoFeed text → lines_of (text ++ 10 ∷ rest) ≡ text ∷ lines_of rest }
+    ensures last { (text : List ℕ) → HasNoFeed text → 0 < length text → lines_of text ≡ text ∷ [] }
+    ensures line { (all rest pending behind line : List ℕ) (allowance less : ℕ)
+        → ReadsNext (Some all) (Some rest) allowance less pending behind line Line
+        → lines_of (pending ++ all) ≡ line ∷ lines_of (behind ++ rest) }
+    ensures long { (all rest pending behind line : List ℕ) (allowance less : ℕ)
+        → ReadsNext (Some all) (Some rest) allowance less pending behind line TooLong
+        → (text : List ℕ) × (batch_line text ≡ too_long) × (lines_of (pending ++ all) ≡ text ∷ lines_of (behind ++ rest)) }
+    ensures end { (all rest pending behind line : List ℕ) (allowance less : ℕ)
+        → ReadsNext (Some all) (Some rest) allowance less pending behind line End
+        → (pending ++ all ≡ []) × (behind ++ rest ≡ []) }
+{}
+
+/// The blocks of more lines stand behind those of the lines before them; the text of a batch with one block more ends in the
+/// line `--`, where it has a block before, and that block; and all lines were answered where those before and that one were.
+/// It does nothing when it runs.
+pub fn blocks_law()
+    ensures blocks { (entries : List Entry) (lines more : List BatchLine) (blocks others : List Block)
+        → AreBlocks entries lines blocks → AreBlocks entries more others → AreBlocks entries (lines ++ more) (blocks ++ others) }
+    ensures one_text { (b : Block) → batch_text (b ∷ []) ≡ b.0 }
+    ensures more_text { (first : Block) (blocks : List Block) (b : Block)
+        → batch_text ((first ∷ blocks) ++ b ∷ []) ≡ batch_text (first ∷ blocks) ++ (codes "--\n" ++ b.0) }
+    ensures more_done { (blocks : List Block) (b : Block) → are_done (blocks ++ b ∷ []) ≡ (are_done blocks && is_done b.1) }
+{}

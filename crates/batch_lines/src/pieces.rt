@@ -1,0 +1,74 @@
+//! A buffer of bytes that were taken from a source.
+ghost use Rattle.std.specs.Prelude.{◌≡◌, ◌≤◌, ◌==◌, ◌++◌, [], length, drop, OnErr, IfOk, IfSome};
+ghost use Rattle.std.specs.Option.{option_map};
+ghost use Rattle.calc_base.specs.Fault.{CountsFaults};
+ghost use Rattle.calc_base.specs.Source.{Spends};
+
+use calc_base::{Source, SourceFault};
+use std::marker::Model;
+
+/// The most bytes that are taken at a time.
+const PIECE: usize = 4096;
+
+/// The bytes that were taken and not yet read.
+#[derive(Drop)]
+pub(crate) struct Pieces {
+    bytes: [u8; PIECE],
+    start: usize,
+    end: usize,
+}
+
+impl Model for Pieces {
+    ghost use Rattle.std.specs.Prelude.{ℕ, List, slice_range};
+    ghost use Rattle.batch_lines.specs.Piece.{IsPart};
+
+    ghost Value = { List ℕ };
+
+    ghost view = { λ p. slice_range p.bytes p.start p.end };
+
+    ghost invariant = { λ p. IsPart p.bytes p.start p.end };
+}
+
+impl Pieces {
+    /// No bytes.
+    pub(crate) fn new() -> Pieces
+        ensures { result ≡ [] }
+    {
+        Pieces {
+            bytes: [0; PIECE],
+            start: 0,
+            end: 0,
+        }
+    }
+
+    /// The bytes.
+    pub(crate) fn front(&self) -> &[u8]
+        ensures { result.now ≡ self.now }
+    {
+        &self.bytes[self.start..self.end]
+    }
+
+    /// Drops the first bytes.
+    pub(crate) fn skip(&mut self, count: usize)
+        requires { count ≤ length self.old }
+        ensures { self.new ≡ drop count self.old }
+    {
+        self.start += count;
+    }
+
+    /// Takes the next bytes of the source, in place of those that are there, and answers how many.
+    pub(crate) fn refill<S: Source>(&mut self, source: &mut S) -> Result<usize, SourceFault>
+        ensures count { IfOk result (λ count. count ≡ length self.new) }
+        ensures taken { IfOk result (λ _. S.left source.old ≡ option_map (λ rest. self.new ++ rest) (S.left source.new)) }
+        ensures ended { IfOk result (λ count. count ≡ 0 → IfSome (S.left source.old) (λ rest. rest ≡ [])) }
+        ensures spends { Spends (S.allowance source.old) (S.allowance source.new) result }
+        ensures kept { OnErr result (S.left source.new ≡ S.left source.old) }
+        ensures counts { CountsFaults (S.faults source.old) (S.faults source.new) result }
+    {
+        self.start = 0;
+        self.end = 0;
+        let count = source.take(&mut self.bytes)?;
+        self.end = count;
+        Ok(count)
+    }
+}

@@ -1,0 +1,152 @@
+-- What a line of a batch is, by its words as they are kept, and what follows of what is read of it.
+use Rattle.std.proofs.Common.{◌≡◌, ℕ, ◌==◌, nat_lt, Bool, true, false, cond, List, [], ◌∷◌, ◌++◌, map, length, refl, sym, ap, ◌∙◌, subst, arith, Option, Some, None, Result, Ok, Err, inl, inr}
+use Rattle.std.specs.Prelude.{IfOk}
+use Rattle.std.proofs.lemmas.Bool.Decides.{nat_tests}
+use Rattle.sym_model.specs.BatchLine.{BatchLine, too_long, passed_over, spoken, most_bytes, line_of_words, words_of_line, without_return, batch_line}
+use Rattle.sym_model.specs.Command.{Command as PlainCommand}
+use Rattle.sym_model.specs.CommandOffence.{Offence}
+use Rattle.sym_model.specs.Entry.{Entry, SpellsFreely, SpellsWithoutOffence, HasFirstOffence}
+use Rattle.sym_model.specs.Form.{SomeOf}
+use Rattle.sym_model.specs.Grammar.{batch_entry, work_entry}
+use Rattle.sym_model.specs.SyntaxPlace.{IsSyntaxPlace}
+use Rattle.calc_base.specs.declared.words.WordsFault.{WordsFault}
+use Rattle.calc_base.specs.declared.words.WordsFault.TheVariants.{Syntax, Literal, Range, Shape, NoMemory}
+use Rattle.calc_words.specs.LineBytes.{seen, seen_byte, is_passed_over}
+use Rattle.calc_words.specs.Reading.{IsRead, Refuses, GoesWrong}
+use Rattle.calc_words.proofs.ForeignBytes.{seen_read}
+use Rattle.calc_words.proofs.ReadingFacts.{accepts, refuses, goes_wrong}
+use Rattle.calc_language.specs.BuiltCommands.{all_entries, all_line_entries, is_built, batch_entries}
+use Rattle.calc_language.specs.Lines.{IsLineRead, KeepsItsLimits, AcceptsInLine}
+use Rattle.calc_language.specs.Reading.{command_of}
+use Rattle.calc_language.specs.declared.words.Command.{Command}
+use Rattle.calc_language.proofs.BuiltEntries.{kept_by_all, has_target}
+use Rattle.calc_language.proofs.ReadCommands.{its_limits}
+use Rattle.calc_language.proofs.NamedEntries.{some_select}
+
+abbrev Words : Type 0
+Words = List (List ℕ)
+
+-- ---- which line it is
+
+hash_seen : (b : ℕ) → (seen_byte b == 35) ≡ (b == 35)
+hash_seen b = by (nat_lt b 128) refl
+  where
+    high : (n : ℕ) → nat_lt n 128 ≡ false → false ≡ (n == 35)
+    high n h = grind (arith, nat_tests)
+
+    by : (t : Bool) → nat_lt b 128 ≡ t → (seen_byte b == 35) ≡ (b == 35)
+    by true e = ap (λ x. cond x b 63 == 35) e
+    by false e = ap (λ x. cond x b 63 == 35) e ∙ high b e
+
+some_words : (words : Words) → is_passed_over (map seen words) ≡ false → line_of_words words ≡ spoken words
+some_words [] h = cc
+some_words ([] ∷ words) h = refl
+some_words ((b ∷ text) ∷ words) h = ap (λ t. cond t passed_over (spoken ((b ∷ text) ∷ words))) (sym (hash_seen b) ∙ h)
+
+no_words : (words : Words) → is_passed_over (map seen words) ≡ true → line_of_words words ≡ passed_over
+no_words [] h = refl
+no_words ([] ∷ words) h = cc
+no_words ((b ∷ text) ∷ words) h = ap (λ t. cond t passed_over (spoken ((b ∷ text) ∷ words))) (sym (hash_seen b) ∙ h)
+
+line_is : (line : List ℕ) (kind : BatchLine) → nat_lt most_bytes (length line) ≡ false → line_of_words (words_of_line (without_return line)) ≡ kind
+    → batch_line line ≡ kind
+line_is line kind n h = ap (λ t. cond t too_long (line_of_words (words_of_line (without_return line)))) n ∙ h
+
+pub spoken_line : (line : List ℕ) (kept : Words) → nat_lt most_bytes (length line) ≡ false → kept ≡ map seen (words_of_line (without_return line))
+    → is_passed_over kept ≡ false → batch_line line ≡ spoken (words_of_line (without_return line))
+spoken_line line kept n k h =
+    let words = words_of_line (without_return line) in
+    line_is line (spoken words) n (some_words words (sym (ap is_passed_over k) ∙ h))
+
+pub passed_line : (line : List ℕ) (kept : Words) → nat_lt most_bytes (length line) ≡ false → kept ≡ map seen (words_of_line (without_return line))
+    → is_passed_over kept ≡ true → batch_line line ≡ passed_over
+passed_line line kept n k h =
+    let words = words_of_line (without_return line) in
+    line_is line passed_over n (no_words words (sym (ap is_passed_over k) ∙ h))
+
+pub long_line : (line : List ℕ) → nat_lt most_bytes (length line) ≡ true → batch_line line ≡ too_long
+long_line line n = ap (λ t. cond t too_long (line_of_words (words_of_line (without_return line)))) n
+
+-- ---- what is read of it
+
+line_err : (words : Words) (fault : WordsFault) → IsRead {A = Command} batch_entries command_of words (Err fault) → IsLineRead (spoken words) (Err fault)
+line_err words (Syntax at) h = h
+line_err words (Literal at) h = h
+line_err words (Range at) h = h
+line_err words (Shape at) h = h
+line_err words NoMemory h = tt
+
+err_line : (words : Words) (fault : WordsFault) → IsLineRead (spoken words) (Err fault) → IsRead {A = Command} batch_entries command_of words (Err fault)
+err_line words (Syntax at) h = h
+err_line words (Literal at) h = h
+err_line words (Range at) h = h
+err_line words (Shape at) h = h
+err_line words NoMemory h = tt
+
+abbrev whole : Result Command WordsFault → Result (Option Command) WordsFault
+whole (Ok command) = Ok (Some command)
+whole (Err fault) = Err fault
+
+words_line : (words : Words) (r : Result Command WordsFault) → IsRead batch_entries command_of words r → IsLineRead (spoken words) (whole r)
+words_line words (Ok command) h = h
+words_line words (Err fault) h = line_err words fault h
+
+pub line_read : (line : List ℕ) (kept : Words) (r : Result Command WordsFault) → nat_lt most_bytes (length line) ≡ false
+    → kept ≡ map seen (words_of_line (without_return line)) → is_passed_over kept ≡ false → IsRead batch_entries command_of kept r
+    → IsLineRead (batch_line line) (whole r)
+line_read line kept r n k h read =
+    let words = words_of_line (without_return line) in
+    subst (λ l. IsLineRead l (whole r)) (sym (spoken_line line kept n k h))
+    (words_line words r (seen_read batch_entries refl command_of words r (subst (λ ws. IsRead batch_entries command_of ws r) k read)))
+
+-- ---- what follows
+
+some_append : (P : Entry → Type 0) (xs ys : List Entry) → SomeOf P xs → SomeOf P (xs ++ ys)
+some_append P [] ys h = absurd h
+some_append P (x ∷ xs) ys (inl h) = inl h
+some_append P (x ∷ xs) ys (inr h) = inr (some_append P xs ys h)
+
+line_of_all : (words : Words) (c : PlainCommand) → SpellsWithoutOffence batch_entries words c → SpellsWithoutOffence all_entries words c
+line_of_all words c h =
+    let P : Entry → Type 0 = λ e. SpellsFreely e words c in
+    some_append P all_line_entries (batch_entry ∷ work_entry ∷ []) (some_select P is_built all_line_entries h)
+
+pub within : (line : BatchLine) (r : Result (Option Command) WordsFault) → IsLineRead line r → IfOk r KeepsItsLimits
+within line (Err fault) h = tt
+within line (Ok None) h = tt
+within too_long (Ok (Some command)) h = absurd h
+within passed_over (Ok (Some command)) h = absurd h
+within (spoken words) (Ok (Some command)) h =
+    let c = command_of command in
+    let s = line_of_all words c h in
+    its_limits command (kept_by_all words c s) (has_target words c s)
+
+spoken_accepts : (words : Words) (r : Result (Option Command) WordsFault) → IsLineRead (spoken words) r → (c : PlainCommand)
+    → SpellsWithoutOffence batch_entries words c → AcceptsInLine c r
+spoken_accepts words (Ok None) h c s = absurd h
+spoken_accepts words (Ok (Some command)) h c s = accepts batch_entries refl command_of words (Ok command) h c s
+spoken_accepts words (Err fault) h c s = accepts {A = Command} batch_entries refl command_of words (Err fault) (err_line words fault h) c s
+
+spoken_refuses : (words : Words) (r : Result (Option Command) WordsFault) → IsLineRead (spoken words) r → (o : Offence)
+    → HasFirstOffence batch_entries words (Some o) → Refuses o r
+spoken_refuses words (Ok None) h o s = absurd h
+spoken_refuses words (Ok (Some command)) h o s = refuses batch_entries refl command_of words (Ok command) h o s
+spoken_refuses words (Err fault) h o s = refuses {A = Command} batch_entries refl command_of words (Err fault) (err_line words fault h) o s
+
+spoken_wrong : (words : Words) (r : Result (Option Command) WordsFault) → IsLineRead (spoken words) r → (w b : ℕ)
+    → IsSyntaxPlace batch_entries words w b → GoesWrong w b r
+spoken_wrong words (Ok None) h w b s = absurd h
+spoken_wrong words (Ok (Some command)) h w b s = goes_wrong batch_entries refl command_of words (Ok command) h w b s
+spoken_wrong words (Err fault) h w b s = goes_wrong {A = Command} batch_entries refl command_of words (Err fault) (err_line words fault h) w b s
+
+pub line_accepts : (line : BatchLine) (r : Result (Option Command) WordsFault) → IsLineRead line r → (words : Words) (c : PlainCommand) → line ≡ spoken words
+    → SpellsWithoutOffence batch_entries words c → AcceptsInLine c r
+line_accepts line r h words c e s = spoken_accepts words r (subst (λ l. IsLineRead l r) e h) c s
+
+pub line_refuses : (line : BatchLine) (r : Result (Option Command) WordsFault) → IsLineRead line r → (words : Words) (o : Offence) → line ≡ spoken words
+    → HasFirstOffence batch_entries words (Some o) → Refuses o r
+line_refuses line r h words o e s = spoken_refuses words r (subst (λ l. IsLineRead l r) e h) o s
+
+pub line_wrong : (line : BatchLine) (r : Result (Option Command) WordsFault) → IsLineRead line r → (words : Words) (w b : ℕ) → line ≡ spoken words
+    → IsSyntaxPlace batch_entries words w b → GoesWrong w b r
+line_wrong line r h words w b e s = spoken_wrong words r (subst (λ l. IsLineRead l r) e h) w b s

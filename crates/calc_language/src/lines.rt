@@ -1,0 +1,80 @@
+//! How a line of a batch is read.
+ghost use Rattle.std.specs.Prelude.{◌≡◌, ℕ, List, Some, IfOk, map, string_bytes};
+ghost use Rattle.sym_model.specs.BatchLine.{batch_line, too_long, too_long_offence, passed_over, spoken};
+ghost use Rattle.sym_model.specs.Command.{Command as PlainCommand};
+ghost use Rattle.sym_model.specs.CommandOffence.{Offence};
+ghost use Rattle.sym_model.specs.Entry.{SpellsWithoutOffence, HasFirstOffence};
+ghost use Rattle.sym_model.specs.SyntaxPlace.{IsSyntaxPlace};
+ghost use Rattle.calc_words.specs.Reading.{IsRead as IsReadBy, Refuses, GoesWrong};
+ghost use Rattle.calc_language.specs.BuiltCommands.{batch_entries};
+ghost use Rattle.calc_language.specs.Lines.{IsLineRead, KeepsItsLimits, IsPassedOver, AcceptsInLine};
+ghost use Rattle.calc_language.specs.Reading.{command_of};
+
+use crate::Command;
+use crate::by_name::by_name;
+use crate::name::named;
+use crate::refusal::syntax;
+use calc_base::{NoMemory, Place, WordsFault};
+use calc_words::{are_passed_over, line_words, without_return};
+use std::alloc::Global;
+
+/// The most bytes of a line before its line feed.
+const MOST_BYTES: usize = 4096;
+
+/// Reads a line of a batch without its line feed: its command, or None where it has no word or its first word begins with `#`.
+///
+/// One carriage return at its end is dropped, and words stand between spaces and tabs. A line of more than 4,096 bytes, that
+/// carriage return among them, is refused as `Range` at byte 4,096 of word 0. The words of another line are read as
+/// `read_words` reads them.
+pub fn read_line(alloc: Global, line: &[u8]) -> Result<Option<Command>, WordsFault>
+    ensures read { IsLineRead (batch_line line.now) result }
+    ensures within { IfOk result KeepsItsLimits }
+    ensures long { batch_line line.now ≡ too_long → Refuses too_long_offence result }
+    ensures passed_over { batch_line line.now ≡ passed_over → IsPassedOver result }
+    ensures accepts { (words : List (List ℕ)) (command : PlainCommand) → batch_line line.now ≡ spoken words
+        → SpellsWithoutOffence batch_entries words command → AcceptsInLine command result }
+    ensures refuses { (words : List (List ℕ)) (offence : Offence) → batch_line line.now ≡ spoken words
+        → HasFirstOffence batch_entries words (Some offence) → Refuses offence result }
+    ensures goes_wrong { (words : List (List ℕ)) (word byte : ℕ) → batch_line line.now ≡ spoken words
+        → IsSyntaxPlace batch_entries words word byte → GoesWrong word byte result }
+{
+    read(alloc, line)
+}
+
+/// The line as it is read: what follows for each kind of line, the public call says.
+fn read(alloc: Global, line: &[u8]) -> Result<Option<Command>, WordsFault>
+    ensures { IsLineRead (batch_line line.now) result }
+{
+    if line.len() > MOST_BYTES {
+        return Err(WordsFault::Range {
+            at: Place {
+                word: 0,
+                byte: MOST_BYTES as u64,
+            },
+        });
+    }
+    let words = match line_words(alloc, without_return(line)) {
+        Ok(words) => words,
+        Err(NoMemory) => return Err(WordsFault::NoMemory),
+    };
+    if are_passed_over(words.as_slice()) {
+        return Ok(None);
+    }
+    match read_in_line(alloc, words.as_slice()) {
+        Ok(command) => Ok(Some(command)),
+        Err(fault) => Err(fault),
+    }
+}
+
+/// The words of a line as those of a command.
+fn read_in_line(alloc: Global, words: &[String]) -> Result<Command, WordsFault>
+    ensures { IsReadBy batch_entries command_of (map string_bytes words.now) result }
+{
+    let Some((first, _)) = words.split_first() else {
+        return Err(syntax(0, 0));
+    };
+    let Some(name) = named(first.as_str()) else {
+        return Err(syntax(0, 0));
+    };
+    by_name(alloc, name, words)
+}

@@ -1,0 +1,34 @@
+//! Refusals of the words of a command.
+ghost use Rattle.std.specs.Prelude.{◌≡◌};
+ghost use Rattle.calc_language.specs.Reading.{placed as placed_at};
+
+use calc_base::{Place, WordsFault};
+use calc_expressions::ExpressionFault;
+
+/// Words that are no command, at this place.
+pub(crate) fn syntax(word: u64, byte: u64) -> WordsFault
+    ensures { result ≡ WordsFault.Syntax (record { word = word; byte = byte }) }
+{
+    WordsFault::Syntax {
+        at: Place { word, byte },
+    }
+}
+
+/// The refusal of the expression that stands at this word.
+pub(crate) fn placed(word: u64, fault: ExpressionFault) -> WordsFault
+    ensures { result ≡ placed_at word fault }
+{
+    match fault {
+        ExpressionFault::Syntax { byte } => syntax(word, byte),
+        ExpressionFault::Literal { byte } => WordsFault::Literal {
+            at: Place { word, byte },
+        },
+        ExpressionFault::Range { byte } => WordsFault::Range {
+            at: Place { word, byte },
+        },
+        ExpressionFault::Shape { byte } => WordsFault::Shape {
+            at: Place { word, byte },
+        },
+        ExpressionFault::NoMemory => WordsFault::NoMemory,
+    }
+}

@@ -1,0 +1,124 @@
+-- Words without an offence keep the limits of their command.
+use Rattle.std.proofs.Common.{◌≡◌, ℕ, ◌+◌, List, [], ◌∷◌, ◌++◌, length, sym, subst, arith, inl, inr, None}
+use Rattle.sym_model.specs.Expansion.{Basis}
+use Rattle.sym_model.specs.PrintedBlock.{decimal_value}
+use Rattle.sym_model.specs.Form.{Written, words_of, EachOf}
+use Rattle.sym_model.specs.Command.{Command, quantum}
+use Rattle.sym_model.specs.CommandOffence.{first_offence, part_offences, permutation_offences, offences_by, rows_rule, lines_rule, seed_rule, judged_against, expression_offences}
+use Rattle.sym_model.specs.ExpressionOffence.{WordOffence, offences}
+use Rattle.sym_model.specs.Entry.{Entry, SpellsFreely, SpellsWithoutOffence}
+use Rattle.sym_model.specs.WordForms.{optional, rows_words, numbers, row_limit, row_limit_offences, partition}
+use Rattle.sym_model.specs.Grammar.{entries_of, two_partitions, mult_entry, skew_entry, coef_entry, coprod_entry, tab_entry, not_listed, from_entries, quantum_entry, fusion_entry, schubert_entry, schubmult_entry, expand_entry, work_entry, rsk_entry}
+use Rattle.word_laws.proofs.CommandFacts.{within_degree}
+use Rattle.word_laws.proofs.FirstOffences.{empty-none}
+use Rattle.calc_words.specs.Entries.{whole_tab_entry}
+use Rattle.calc_words.specs.WrittenLimits.{KeepsLimits, IsRowLimit}
+use Rattle.calc_words.proofs.WrittenLetters.{written_letters}
+use Rattle.calc_words.proofs.WordJudging.{written_word}
+use Rattle.calc_words.proofs.WrittenLists.{none_first, none_map, written, two_written, row_number, lines_number, seed_number}
+
+abbrev Words : Type 0
+Words = List (List ℕ)
+
+-- what the words of the entry say where they have no offence
+abbrev pub Keeps : Entry → Type 0
+Keeps e = (x : Written e.form) → first_offence (e.offends x) ≡ None → KeepsLimits (e.says x)
+
+kept : (e : Entry) → Keeps e → (words : Words) (c : Command) → SpellsFreely e words c → KeepsLimits c
+kept e k words c h = subst KeepsLimits (sym h.says_it) (k h.has.written h.no_offence)
+
+limit_kept : (k : ℕ) (x : Written (optional rows_words)) → first_offence (row_limit_offences k x) ≡ None → IsRowLimit (row_limit x)
+limit_kept k (inl x) h = tt
+limit_kept k (inr x) h = row_number (k + 1) (decimal_value x.1) h
+
+mult_keeps : Keeps mult_entry
+mult_keeps (name, (limit, (left, (minus, right)))) h =
+    let k = 1 + length (words_of (optional rows_words) limit) in
+    let p = none_first (row_limit_offences 1 limit) (two_partitions k left right) h in
+    let w = two_written k left right p.1 in
+    (limit_kept 1 limit p.0, w.0, w.1)
+
+skew_keeps : Keeps skew_entry
+skew_keeps (name, (limit, (outer, (slash, inner)))) h =
+    let k = 1 + length (words_of (optional rows_words) limit) in
+    let p = none_first (row_limit_offences 1 limit) (two_partitions k outer inner) h in
+    let w = two_written k outer inner p.1 in
+    (limit_kept 1 limit p.0, w.0, w.1)
+
+coef_keeps : Keeps coef_entry
+coef_keeps (name, (outer, (minus, (left, (again, right))))) h =
+    let p = none_first (part_offences 1 (numbers outer)) (two_partitions (2 + length outer) left right) h in
+    let w = two_written (2 + length outer) left right p.1 in
+    (written 1 (numbers outer) p.0, w.0, w.1)
+
+coprod_keeps : Keeps coprod_entry
+coprod_keeps (name, parts) h = written 1 (numbers parts) h
+
+reduction_keeps : (rows bound : List ℕ) (left right : Words)
+    → first_offence ((offences_by rows_rule 1 (decimal_value rows ∷ []) ++ offences_by rows_rule 2 (decimal_value bound ∷ [])) ++ two_partitions 3 left right) ≡ None
+    → KeepsLimits (quantum (decimal_value rows) (decimal_value bound) (partition left) (partition right))
+reduction_keeps rows bound left right h =
+    let p = none_first (offences_by rows_rule 1 (decimal_value rows ∷ []) ++ offences_by rows_rule 2 (decimal_value bound ∷ [])) (two_partitions 3 left right) h in
+    let q = none_first (offences_by rows_rule 1 (decimal_value rows ∷ [])) (offences_by rows_rule 2 (decimal_value bound ∷ [])) p.0 in
+    let w = two_written 3 left right p.1 in
+    (row_number 1 (decimal_value rows) q.0, row_number 2 (decimal_value bound) q.1, w.0, w.1)
+
+quantum_keeps : Keeps quantum_entry
+quantum_keeps (name, (rows, (columns, (left, (minus, right))))) h = reduction_keeps rows columns left right h
+
+fusion_keeps : Keeps fusion_entry
+fusion_keeps (name, (rows, (level, (left, (minus, right))))) h = reduction_keeps rows level left right h
+
+tab_keeps : Keeps tab_entry
+tab_keeps (name, (outer, (slash, (inner, after)))) h =
+    let lists = two_partitions 1 outer inner in
+    let k = 2 + length outer + length inner in
+    let judged = judged_against lists (not_listed k (partition outer) (partition inner) after) in
+    let p = none_first (lists ++ judged) (from_entries k after) h in
+    let q = none_first lists judged p.0 in
+    let w = two_written 1 outer inner q.0 in
+    (w.0, w.1)
+
+pub whole_tab_keeps : Keeps whole_tab_entry
+whole_tab_keeps (name, (outer, (slash, inner))) h = two_written 1 outer inner h
+
+expand_keeps : (bases : List Basis) → Keeps (expand_entry bases)
+expand_keeps bases (name, (basis, phrase)) h =
+    within_degree basis phrase
+    (none_map (λ (o : WordOffence). (2, o.0, o.1)) (offences basis phrase) (empty-none (expression_offences 2 basis phrase) h))
+
+schubert_keeps : Keeps schubert_entry
+schubert_keeps (name, (t, ts)) h = written_letters 1 (numbers (t ∷ ts)) (omega arith) h
+
+schubmult_keeps : Keeps schubmult_entry
+schubmult_keeps (name, ((t, ts), (minus, (u, us)))) h =
+    let left = numbers (t ∷ ts) in
+    let right = numbers (u ∷ us) in
+    let p = none_first (permutation_offences 1 left) (permutation_offences (2 + length left) right) h in
+    (written_letters 1 left (omega arith) p.0, written_letters (2 + length left) right (omega arith) p.1)
+
+rsk_keeps : Keeps rsk_entry
+rsk_keeps (name, w) h = written_word 1 (numbers w) h
+
+work_keeps : Keeps work_entry
+work_keeps (name, (lines, seed)) h =
+    let p = none_first (offences_by lines_rule 1 (decimal_value lines ∷ [])) (offences_by seed_rule 2 (decimal_value seed ∷ [])) h in
+    let l = lines_number 1 (decimal_value lines) p.0 in
+    (l.0, l.1, seed_number 2 (decimal_value seed) p.1)
+
+-- what each entry of a list keeps, words that are spelled by one of them keep
+pub some_keeps : (entries : List Entry) → EachOf Keeps entries → (words : Words) (c : Command) → SpellsWithoutOffence entries words c → KeepsLimits c
+some_keeps [] k words c h = absurd h
+some_keeps (e ∷ entries) k words c (inl h) = kept e k.0 words c h
+some_keeps (e ∷ entries) k words c (inr h) = some_keeps entries k.1 words c h
+
+both : {P Q : Type 0} → P → Q → P × Q
+both p q = (p, q)
+
+pub all_keep : (bases : List Basis) → EachOf Keeps (entries_of bases)
+all_keep bases =
+    both mult_keeps (both skew_keeps (both coef_keeps (both coprod_keeps (both tab_keeps (both quantum_keeps (both fusion_keeps (both schubert_keeps
+    (both schubmult_keeps (both (expand_keeps bases) (both rsk_keeps (both (λ x h. tt) (both (λ x h. tt) (both (λ x h. tt) (both work_keeps tt))))))))))))))
+
+pub words_keep : (bases : List Basis) (words : Words) (c : Command) → SpellsWithoutOffence (entries_of bases) words c → KeepsLimits c
+words_keep bases words c h = some_keeps (entries_of bases) (all_keep bases) words c h

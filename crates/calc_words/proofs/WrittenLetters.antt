@@ -1,0 +1,79 @@
+-- What letters without an offence are: those of a permutation of at most 16 letters.
+use Rattle.std.proofs.Common.{◌≡◌, ℕ, suc, ◌+◌, ◌<◌, ◌≤◌, ◌==◌, nat_lt, Bool, true, false, ◌||◌, cond, List, [], ◌∷◌, ◌++◌, length, refl, ap, ◌∙◌, arith, None, inl, inr, eq-eqb}
+use Rattle.std.proofs.lemmas.Bool.{eqb-false}
+use Rattle.sym_model.specs.Sum.{Among, Once}
+use Rattle.sym_model.specs.ExpressionOffence.{is_wide, literal, range, shape}
+use Rattle.sym_model.specs.CommandOffence.{first_offence, permutation_offences, permutation_rule, offences_after, when, is_outside, stands_in, most_permuted}
+use Rattle.sym_model.specs.Permutation.{in_front_unless_fixed, without_fixed_from, kept}
+use Rattle.word_laws.proofs.FirstOffences.{empty-none}
+use Rattle.perm_codes.specs.Limits.{IsShortPermutation}
+use Rattle.perm_codes.proofs.WithinLimits.{kept_limits}
+use Rattle.calc_words.specs.WrittenLimits.{IsWrittenPermutation}
+use Rattle.calc_words.proofs.WrittenLists.{none_append, none_next, not_when, not_either, inside}
+
+-- letters that stand behind others, none of which they are
+record AreLetters (count : ℕ) (before ns : List ℕ) : Type 0 where
+  letters : (b : ℕ) → Among b ns → (1 ≤ b) × (b ≤ count)
+  new : (b : ℕ) → Among b ns → stands_in b before ≡ false
+  once : Once ns
+  few : length before + length ns ≤ 16
+
+letters_fine : (count : ℕ) (before : List ℕ) (k : ℕ) (ns : List ℕ) → length before ≤ 16 → offences_after (permutation_rule count) before k ns ≡ []
+    → AreLetters count before ns
+letters_fine count before k [] f h = record { letters = λ b m. absurd m; new = λ b m. absurd m; once = tt; few = omega arith }
+letters_fine count before k (a ∷ ns) f h =
+    let n = none_next (permutation_rule count) before k a ns h in
+    let y = nat_lt most_permuted a || (length before == most_permuted) in
+    let z = is_outside count a || stands_in a before in
+    let p = none_append (when (is_wide a) literal ++ when y range) (when z shape) n.0 in
+    let q = none_append (when (is_wide a) literal) (when y range) p.0 in
+    let room = not_either (nat_lt most_permuted a) (length before == most_permuted) (not_when y range q.1) in
+    let own = not_either (is_outside count a) (stands_in a before) (not_when z shape p.1) in
+    let more = eqb-false (length before) 16 room.1 in
+    let r = letters_fine count (a ∷ before) (k + 1) ns (omega (arith, more, f)) n.1 in
+    let bound = inside count a own.0 in
+    record {
+      letters = λ b m. within b bound r.letters m;
+      new = λ b m. new_of b own.1 r.new m;
+      once = (λ m. itself (r.new a m), r.once);
+      few = let x = r.few in omega (arith, x);
+    }
+  where
+    within : (b : ℕ) → (1 ≤ a) × (a ≤ count) → ((c : ℕ) → Among c ns → (1 ≤ c) × (c ≤ count)) → Among b (a ∷ ns) → (1 ≤ b) × (b ≤ count)
+    within b i r (inl e) = (omega (arith, i.0, e), omega (arith, i.1, e))
+    within b i r (inr m) = r b m
+
+    new_of : (b : ℕ) → stands_in a before ≡ false → ((c : ℕ) → Among c ns → stands_in c (a ∷ before) ≡ false) → Among b (a ∷ ns) → stands_in b before ≡ false
+    new_of b i r (inl e) = ap (λ c. stands_in c before) e ∙ i
+    new_of b i r (inr m) = (not_either (b == a) (stands_in b before) (r b m)).1
+
+    itself : stands_in a (a ∷ before) ≡ false → ⊥
+    itself e = let x = (not_either (a == a) (stands_in a before) e).0 in let y = eq-eqb a a refl in cc
+
+-- letters of a permutation without an offence
+pub short_letters : (k : ℕ) (ns : List ℕ) → 0 < length ns → first_offence (permutation_offences k ns) ≡ None
+    → IsShortPermutation ns × (length ns ≤ most_permuted)
+short_letters k ns s h =
+    let f = letters_fine (length ns) [] k ns (omega arith) (empty-none (permutation_offences k ns) h) in
+    let few = f.few in
+    (record { one_line = record { letters = f.letters; once = f.once }; some = s; few = omega (arith, few) }, omega (arith, few))
+
+fewer_from : (i : ℕ) (w : List ℕ) → length (without_fixed_from i w) ≤ length w
+fewer_from i [] = omega arith
+fewer_from i (a ∷ w) = by (without_fixed_from (i + 1) w) (fewer_from (i + 1) w)
+  where
+    one : (b : Bool) → length (cond b [] (a ∷ [])) ≤ suc (length w)
+    one true = omega arith
+    one false = omega arith
+
+    by : (v : List ℕ) → length v ≤ length w → length (in_front_unless_fixed i a v) ≤ suc (length w)
+    by [] h = one (a == i)
+    by (b ∷ v) h = omega (arith, h)
+
+fewer_kept : (w : List ℕ) → length (kept w) ≤ length w
+fewer_kept [] = omega arith
+fewer_kept (a ∷ w) = let x = fewer_from 2 w in omega (arith, x)
+
+pub written_letters : (k : ℕ) (ns : List ℕ) → 0 < length ns → first_offence (permutation_offences k ns) ≡ None → IsWrittenPermutation (kept ns)
+written_letters k ns s h = let l = short_letters k ns s h in
+    record { kept = (kept_limits ns l.0).kept; few = (let x = fewer_kept ns in let y = l.1 in omega (arith, x, y)) }

@@ -1,0 +1,8 @@
+use Rattle.std.proofs.Common.{map}
+use Rattle.std.specs.Prelude.{string_bytes}
+use Rattle.sym_model.specs.WordForms.{numbers}
+use Rattle.calc_words.proofs.WordJudging.{Spelling}
+use Rattle.calc_words.proofs.letters.read_letters.Given as goal
+
+abbrev pub invariant-loop-i : goal.invariant-loop-i
+invariant-loop-i l = Spelling l.at (numbers (map string_bytes l.words)) l.i l.letters

@@ -1,0 +1,26 @@
+-- The bytes of a line as they are kept in its words: those past ASCII, which stand in no word of a command, as `?`, which
+-- does not either (this project's own).
+use Rattle.std.specs.Prelude.{ℕ, ◌==◌, nat_lt, Bool, true, false, ◌||◌, cond, List, [], ◌∷◌, map}
+use Rattle.sym_model.specs.BatchLine.{is_some_text}
+
+-- the byte that is kept
+abbrev pub seen_byte : ℕ → ℕ
+seen_byte byte = cond (nat_lt byte 128) byte 63
+
+-- the bytes that are kept
+abbrev pub seen : List ℕ → List ℕ
+seen text = map seen_byte text
+
+-- a word that has a byte, and no word otherwise
+abbrev pub word_with_bytes : List ℕ → List (List ℕ)
+word_with_bytes word = cond (is_some_text word) (word ∷ []) []
+
+-- whether the byte stands between words: a space or a tab
+abbrev pub is_space : ℕ → Bool
+is_space byte = (byte == 32) || (byte == 9)
+
+-- whether words are passed over: there is none, or the first begins with `#`
+abbrev pub is_passed_over : List (List ℕ) → Bool
+is_passed_over [] = true
+is_passed_over ([] ∷ words) = false
+is_passed_over ((byte ∷ text) ∷ words) = byte == 35

@@ -1,0 +1,53 @@
+-- The limits that the words of a command keep where they have no offence (this project's own).
+use Rattle.std.specs.Prelude.{◌≤◌, ℕ, List, length, Option, Some, None}
+use Rattle.sym_model.specs.Partition.{IsPartition, size, rows}
+use Rattle.sym_model.specs.Permutation.{IsKept}
+use Rattle.sym_model.specs.Sum.{Among}
+use Rattle.sym_model.specs.Expression.{degree}
+use Rattle.sym_model.specs.ExpressionOffence.{degree_limit}
+use Rattle.sym_model.specs.Command.{Command, mult, skew, coef, coprod, tab, quantum, fusion, schubert, schubmult, expand, rsk, work}
+use Rattle.sym_model.specs.CommandOffence.{most_parts, most_cells, most_permuted, most_letters, greatest_letter, most_rows, most_lines, greatest_seed}
+
+-- a partition of at most 64 parts and at most 512 cells
+pub record IsWritten (parts : List ℕ) : Type 0 where
+  pub partition : IsPartition parts
+  pub few : rows parts ≤ most_parts
+  pub small : size parts ≤ most_cells
+
+-- a permutation of at most 16 letters, as it is kept
+pub record IsWrittenPermutation (w : List ℕ) : Type 0 where
+  pub kept : IsKept w
+  pub few : length w ≤ most_permuted
+
+-- a word of at most 256 letters from 1 to 65,535
+pub record IsWrittenWord (word : List ℕ) : Type 0 where
+  pub letters : (a : ℕ) → Among a word → (1 ≤ a) × (a ≤ greatest_letter)
+  pub few : length word ≤ most_letters
+
+-- a number of rows or columns, or a level
+pub record IsRowNumber (n : ℕ) : Type 0 where
+  pub positive : 1 ≤ n
+  pub small : n ≤ most_rows
+
+-- a number of rows, where there is one
+abbrev pub IsRowLimit : Option ℕ → Type 0
+IsRowLimit None = Unit {0}
+IsRowLimit (Some n) = IsRowNumber n
+
+-- what a command names is within the limits of words
+abbrev pub KeepsLimits : Command → Type 0
+KeepsLimits (mult limit left right) = IsRowLimit limit × IsWritten left × IsWritten right
+KeepsLimits (skew limit outer inner) = IsRowLimit limit × IsWritten outer × IsWritten inner
+KeepsLimits (coef outer left right) = IsWritten outer × IsWritten left × IsWritten right
+KeepsLimits (coprod shape) = IsWritten shape
+KeepsLimits (tab outer inner after) = IsWritten outer × IsWritten inner
+KeepsLimits (quantum limit columns left right) =
+    IsRowNumber limit × IsRowNumber columns × IsWritten left × IsWritten right
+KeepsLimits (fusion limit level left right) =
+    IsRowNumber limit × IsRowNumber level × IsWritten left × IsWritten right
+KeepsLimits (schubert w) = IsWrittenPermutation w
+KeepsLimits (schubmult left right) = IsWrittenPermutation left × IsWrittenPermutation right
+KeepsLimits (expand target e) = degree e ≤ degree_limit target
+KeepsLimits (rsk word) = IsWrittenWord word
+KeepsLimits (work lines seed) = (1 ≤ lines) × (lines ≤ most_lines) × (seed ≤ greatest_seed)
+KeepsLimits _ = Unit {0}

@@ -1,0 +1,87 @@
+//! The words of `rsk`.
+ghost use Rattle.std.specs.Prelude.{◌≡◌, ◌<◌, ◌+◌, ◌^◌, ◌==◌, ◌||◌, IfOk, IfErr, ℕ, List, [], ◌∷◌, Some, length, map, string_bytes};
+ghost use Rattle.sym_model.specs.Command.{Command, rsk};
+ghost use Rattle.sym_model.specs.CommandOffence.{Offence, first_offence, offences_by, letter_rule, is_outside, greatest_letter, most_letters};
+ghost use Rattle.sym_model.specs.Entry.{HasFirstOffence, SpellsWithoutOffence};
+ghost use Rattle.sym_model.specs.Grammar.{rsk_entry};
+ghost use Rattle.sym_model.specs.SyntaxPlace.{IsSyntaxPlace};
+ghost use Rattle.sym_model.specs.WordForms.{numbers as numbers_of};
+ghost use Rattle.calc_words.specs.Reading.{IsRead, IsJudged, Accepts, Refuses, GoesWrong};
+
+use crate::numbers::value_of;
+use crate::offence::{Kind, offence, syntax};
+use crate::splitting::{behind, last_list};
+use calc_base::{Word, WordsFault};
+use std::alloc::Global;
+
+/// The most letters, and the greatest of them.
+const MOST_LETTERS: usize = 256;
+
+const GREATEST_LETTER: u128 = 65_535;
+
+/// Whether a letter behind so many is past a limit.
+fn is_past(count: usize, value: u128) -> bool
+    ensures { result ≡ (is_outside greatest_letter value || (count == most_letters)) }
+{
+    value == 0 || value > GREATEST_LETTER || count == MOST_LETTERS
+}
+
+/// The letters that have been judged.
+fn word_of(alloc: Global, letters: &[u16]) -> Result<Word, WordsFault>
+    ensures ok { IfOk result (λ w. w ≡ letters.now) }
+    ensures err { IfErr result (λ fault. fault ≡ WordsFault.NoMemory) }
+{
+    match Word::from_slice(alloc, letters) {
+        Ok(word) => Ok(word),
+        Err(_) => Err(WordsFault::NoMemory),
+    }
+}
+
+/// The letters that are these words, the first of which is the word `at`, or their first offence.
+fn read_letters(alloc: Global, at: u64, words: &[String]) -> Result<Word, WordsFault>
+    requires { at + length words.now < 2 ^ 64 }
+    ensures { IsJudged (λ w. w ≡ numbers_of (map string_bytes words.now))
+        (first_offence (offences_by letter_rule at (numbers_of (map string_bytes words.now)))) result }
+{
+    let mut letters: [u16; MOST_LETTERS] = [0; MOST_LETTERS];
+    for (i, word) in words.iter().enumerate() {
+        let place = at + i as u64;
+        let Some(value) = value_of(word.as_bytes()) else {
+            return Err(offence(place, Kind::Literal));
+        };
+        if is_past(i, value) {
+            return Err(offence(place, Kind::Range));
+        }
+        letters[i] = value as u16;
+    }
+    word_of(alloc, &letters[..words.len()])
+}
+
+/// Reads the words of `rsk`: that word and the letters of a word, which is the answer.
+///
+/// Words that are no such command are refused as `Syntax`, at the word where they go wrong. Otherwise the first offence is
+/// refused: a letter past 2^127 - 1 as `Literal`; one that is 0 or past 65,535, and the 257th, as `Range`.
+pub fn read_rsk(alloc: Global, words: &[String]) -> Result<Word, WordsFault>
+    ensures read { IsRead (rsk_entry ∷ []) rsk (map string_bytes words.now) result }
+    ensures accepts { (command : Command) → SpellsWithoutOffence (rsk_entry ∷ []) (map string_bytes words.now) command
+        → Accepts rsk command result }
+    ensures refuses { (offence : Offence) → HasFirstOffence (rsk_entry ∷ []) (map string_bytes words.now) (Some offence)
+        → Refuses offence result }
+    ensures goes_wrong { (word byte : ℕ) → IsSyntaxPlace (rsk_entry ∷ []) (map string_bytes words.now) word byte
+        → GoesWrong word byte result }
+{
+    rsk_words(alloc, words)
+}
+
+/// The words as they are read: what follows for each command and offence, the public call says.
+fn rsk_words(alloc: Global, words: &[String]) -> Result<Word, WordsFault>
+    ensures { IsRead (rsk_entry ∷ []) rsk (map string_bytes words.now) result }
+{
+    let Some(rest) = behind(words, "rsk") else {
+        return Err(syntax(0));
+    };
+    match last_list(rest) {
+        Ok(letters) => read_letters(alloc, 1, letters),
+        Err(left) => Err(syntax((words.len() - left) as u64)),
+    }
+}
