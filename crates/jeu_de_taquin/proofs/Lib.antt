@@ -1,0 +1,3 @@
+pub mod LoweredLists
+pub mod RowLists
+pub mod SlideChains

@@ -1,0 +1,7 @@
+//! Slides of skew tableaux, and the straight tableau that they reach.
+#![tactic(auto)]
+
+mod rectifying;
+mod sliding;
+
+pub use rectifying::rectify;
