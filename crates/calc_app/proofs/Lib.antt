@@ -1,5 +1,7 @@
 -- Lemmas of the crate.
-pub mod Built
 pub mod Replies
 pub mod Delivered
 pub mod Outcomes
+pub mod Expansions
+pub mod FewInversions
+pub mod Listings

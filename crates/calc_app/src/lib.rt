@@ -2,7 +2,12 @@
 //! puts its text, or the one line that says why there is none.
 #![tactic(auto)]
 
+mod expanding;
+mod listing;
 mod outcome;
+mod permutations;
+mod products;
+mod reductions;
 mod top;
 
 pub use top::run;

@@ -1,24 +1,19 @@
-// What comes of the words of a command, before anything is put.
-ghost use Rattle.std.specs.Prelude.{◌≡◌, ◌≤◌, ◌^◌, ℕ, List, Some, IfOk, IsErrOf, map, string_bytes};
-ghost use Rattle.basis_expand.specs.ReadableAtoms.{HasReadableAtoms};
-ghost use Rattle.calc_expressions.specs.Trees.{tree_of};
+//! What comes of the words of a command, before anything is put.
+ghost use Rattle.std.specs.Prelude.{ℕ, Some, map, string_bytes};
 ghost use Rattle.sym_model.specs.Command.{Command as PlainCommand};
 ghost use Rattle.sym_model.specs.CommandOffence.{Offence};
 ghost use Rattle.sym_model.specs.Entry.{SpellsWithoutOffence, HasFirstOffence};
-ghost use Rattle.sym_model.specs.Expansion.{monomials, IsExpansionOf};
-ghost use Rattle.sym_model.specs.Expression.{cleared_value, denominator};
 ghost use Rattle.calc_language.specs.BuiltCommands.{command_entries};
 ghost use Rattle.sym_model.specs.SyntaxPlace.{IsSyntaxPlace};
-ghost use Rattle.sym_model.specs.Weight.{weight};
-ghost use Rattle.calc_app.specs.Computed.{IsBuilt, expression_in, Computes, IsReplyTo, Accepts, Refuses, GoesWrong};
+ghost use Rattle.calc_language.specs.Reading.{command_of, IsWithinItsLimits};
+ghost use Rattle.calc_app.specs.Computed.{Computes, IsReplyTo, Accepts, Refuses, GoesWrong};
 
-use basis_expand::to_monomial;
-use calc_base::{NoMemory, SumFault, WordsFault};
-use calc_language::{Command, Formula, read_words};
-use coeff_rings::Frac;
+use crate::expanding::expanded;
+use crate::listing::Listing;
+use crate::{listing, permutations, products, reductions};
+use calc_base::{NoMemory, WordsFault};
+use calc_language::{Command, read_words};
 use expansion_printer::Answer;
-use partitions::Partition;
-use sparse_polys::Terms;
 use std::alloc::Global;
 
 /// What comes of the words of a command.
@@ -30,6 +25,8 @@ pub(crate) enum Outcome {
     Refused { fault: WordsFault },
     /// The answer is too large.
     Large,
+    /// The tableaux that are listed; none where the shape is no skew shape.
+    Listed { list: Option<Listing> },
 }
 
 /// What comes of the words: the whole answer, or why there is none.
@@ -49,43 +46,31 @@ pub(crate) fn outcome_of(alloc: Global, words: &[String]) -> Result<Outcome, NoM
     }
 }
 
-// What comes of a command: its answer, or that this is too large.
+/// What comes of a command: its answer, or that this is too large.
 fn reply_to(alloc: Global, command: &Command) -> Result<Outcome, NoMemory>
-    requires { IsBuilt command.now }
-    ensures { IsReplyTo command.now result }
+    requires { IsWithinItsLimits command.now }
+    ensures { IsReplyTo (command_of command.now) result }
 {
-    match expansion(alloc, formula_of(command)) {
-        Ok(terms) => Ok(Outcome::Answered {
-            answer: Answer::Expansion { terms },
-        }),
-        Err(SumFault::Large) => Ok(Outcome::Large),
-        Err(SumFault::NoMemory) => Err(NoMemory),
-    }
-}
-
-// The expression of a command.
-fn formula_of(command: &Command) -> &Formula
-    ensures { result.now.tree ≡ expression_in command.now }
-{
-    let Command::Expand { formula, .. } = command;
-    formula
-}
-
-// The expansion of a formula in m, in the printed order.
-fn expansion(alloc: Global, formula: &Formula) -> Result<Terms<Partition, Frac>, SumFault>
-    requires { HasReadableAtoms (tree_of formula.now.tree) }
-    ensures expands { IfOk result (λ terms. (n : ℕ) → IsExpansionOf monomials terms n
-        (cleared_value (tree_of formula.now.tree) n) (denominator (tree_of formula.now.tree))) }
-    ensures large { IsErrOf result SumFault.Large → 2 ^ 127 ≤ weight monomials (tree_of formula.now.tree) }
-{
-    let list = match to_monomial(alloc, formula) {
-        Ok(list) => list,
-        Err(fault) => return Err(fault),
-    };
-    // This tells the proof that no label stands twice in it.
-    list.len();
-    match list.sorted_terms() {
-        Ok(terms) => Ok(terms),
-        Err(NoMemory) => Err(SumFault::NoMemory),
+    match command {
+        Command::Mult { rows, left, right } => products::mult(alloc, *rows, left, right),
+        Command::Skew { rows, outer, inner } => products::skew(alloc, *rows, outer, inner),
+        Command::Coef { outer, left, right } => products::coef(alloc, outer, left, right),
+        Command::Coprod { shape } => products::coprod(alloc, shape),
+        Command::Quantum {
+            rows,
+            cols,
+            left,
+            right,
+        } => reductions::quantum(alloc, *rows, *cols, left, right),
+        Command::Fusion {
+            rows,
+            level,
+            left,
+            right,
+        } => reductions::fusion(alloc, *rows, *level, left, right),
+        Command::Schubert { perm } => permutations::schubert(alloc, perm),
+        Command::Schubmult { left, right } => permutations::schubmult(alloc, left, right),
+        Command::Tab { outer, inner } => listing::tab(alloc, outer, inner),
+        Command::Expand { target, formula } => expanded(alloc, *target, formula),
     }
 }

@@ -1,11 +1,11 @@
-// What no clause says: that memory is found. And each call of a sink failing in turn.
+//! What no clause says: that memory is found. And each call of a sink failing in turn.
 use crate::run;
-use calc_base::{MemSink, MemSource, Status};
+use calc_base::{FixedSink, MemSink, MemSource, Sink, Status};
 use std::alloc::Global;
 use std::test::Fail;
 
-// Runs the words with an empty source.
-fn run_words(alloc: Global, words: &[&str], sink: &mut MemSink) -> Result<Status, Fail> {
+/// Runs the words with an empty source.
+fn run_words<K: Sink>(alloc: Global, words: &[&str], sink: &mut K) -> Result<Status, Fail> {
     let mut owned = Vec::new(alloc);
     for word in words {
         owned.push(String::from_str(alloc, word)?)?;
@@ -43,5 +43,15 @@ fn a_refusal_is_finished_too(rt: HostRuntime) -> Result<(), Fail> {
     assert_eq!(rt; status, Status::SinkFault);
     assert_eq!(rt; sink.faults(), 1);
     assert_eq!(rt; sink.bytes(), text);
+    Ok(())
+}
+
+#[test]
+fn a_buffer_of_the_length_of_the_text_is_enough(rt: HostRuntime) -> Result<(), Fail> {
+    let mut buf = [0u8; 23];
+    let mut sink = FixedSink::new(&mut buf);
+    let status = run_words(rt.alloc(), &["expand", "p", "s[2,1]"], &mut sink)?;
+    assert_eq!(rt; status, Status::Done);
+    assert_eq!(rt; sink.bytes(), b"-1/3  (3)\n1/3  (1,1,1)\n".as_slice());
     Ok(())
 }

@@ -14,6 +14,7 @@ ghost use Rattle.sym_model.specs.SyntaxPlace.{IsSyntaxPlace};
 ghost use Rattle.calc_app.specs.Computed.{text_of, HasText, HasBlock, refusal_status, status_for};
 ghost use Rattle.calc_app.specs.Top.{Leaves, PrintsAnswerTo, IsAccepted, IsRefused};
 
+use crate::listing::put_listed;
 use crate::outcome::{Outcome, outcome_of};
 use calc_base::{Sink, Source, Status, WordsFault, finish_if};
 use expansion_printer::{print, print_large, print_refusal};
@@ -21,12 +22,13 @@ use std::alloc::Global;
 
 /// Runs the command that the words name, without the program's name, and puts its text to the sink.
 ///
-/// The one command is `expand m` with an expression of atoms in m, e, h and p. Its text is a line for each term of the
-/// expansion in the monomial basis.
+/// The commands are `mult`, `skew`, `coef`, `coprod`, `tab`, `quantum`, `fusion`, `schubert`, `schubmult`, and `expand` into m,
+/// e, h and p. The text is a line for each term of the answer, or of `tab` for each tableau, and `0` where there is none.
 ///
 /// In this order: the words are read, and refused by one line where they are no command (`Syntax`) or offend (`Range`, or
 /// `Past` for a number that is too large). The whole answer is computed, and refused by the line `! Large` (`Past`) only
-/// where the weight of the expression is 2^127 or more. Its text is put, then `finish` is called, after a refusal too.
+/// where a coefficient that is defined for it is past 2^127 - 1, or its weight is 2^127 or more; tableaux are put as they are
+/// listed. Its text is put, then `finish` is called, after a refusal too.
 /// `SinkFault` comes exactly where a call of the sink failed, and the sink is not called after it. Where memory is refused
 /// the answer is `NoMemory`, and nothing was put. The source is not touched.
 pub fn run<S: Source, K: Sink>(
@@ -35,8 +37,8 @@ pub fn run<S: Source, K: Sink>(
     source: &mut S,
     sink: &mut K,
 ) -> Status
-    // Where the answer is `Done`, the text read back is a canonical list of terms, and that list is
-    // the expression that the words spell, in every number of variables.
+    // Where the answer is `Done`, the text read back is a canonical list of terms, and that list is what the command that the
+    // words spell names, by the defining polynomials; of `tab` the text is the lines of the lattice tableaux in their order.
     ensures headline { result ≡ Status.Done → (before : List ℕ) → K.written sink.old ≡ Some before
         → PrintsAnswerTo (map string_bytes words.now) before (K.written sink.new) }
 
@@ -45,7 +47,8 @@ pub fn run<S: Source, K: Sink>(
     ensures leaves { Leaves K.written K.length K.settled sink.old sink.new
         (map string_bytes words.now) result }
 
-    // Words that spell a command without an offence are answered, and refused only where their weight is 2^127 or more.
+    // Words that spell a command without an offence are answered, and refused only where a coefficient that is defined for
+    // them is past 2^127 - 1, or their weight is 2^127 or more.
     ensures accepted { (command : Command) → SpellsWithoutOffence command_entries (map string_bytes words.now) command
         → IsAccepted command result }
 
@@ -63,43 +66,45 @@ pub fn run<S: Source, K: Sink>(
     ensures untouched { source.new ≡ source.old }
 {
     let _ = source;
-    let Ok(outcome) = outcome_of(alloc, words) else {
+    let Ok(mut outcome) = outcome_of(alloc, words) else {
         return Status::NoMemory;
     };
-    if deliver(&outcome, sink) {
-        status_if_put(&outcome)
+    let status = status_if_put(&outcome);
+    if deliver(&mut outcome, sink) {
+        status
     } else {
         Status::SinkFault
     }
 }
 
-// Puts the text and finishes the sink, and answers whether all went well.
-fn deliver<K: Sink>(outcome: &Outcome, sink: &mut K) -> bool
-    requires { HasText outcome.now }
-    ensures goes { Puts K.written K.length K.faults true sink.old result sink.new (text_of outcome.now) }
+/// Puts the text and finishes the sink, and answers whether all went well.
+fn deliver<K: Sink>(outcome: &mut Outcome, sink: &mut K) -> bool
+    requires { HasText outcome.old }
+    ensures goes { Puts K.written K.length K.faults true sink.old result sink.new (text_of outcome.old) }
     ensures settled { IsTrue result → K.settled sink.new ≡ true }
-    ensures printable { HasBlock outcome.now }
+    ensures printable { HasBlock outcome.old }
 {
     let well = match outcome {
         Outcome::Answered { answer } => print(answer, sink).is_ok(),
         Outcome::Refused { fault } => print_refusal(fault, sink).is_ok(),
         Outcome::Large => print_large(sink).is_ok(),
+        Outcome::Listed { list } => put_listed(list, sink),
     };
     finish_if(well, sink)
 }
 
-// The status at the end, where the sink does not fail.
+/// The status at the end, where the sink does not fail.
 fn status_if_put(outcome: &Outcome) -> Status
     ensures { result ≡ status_for outcome.now }
 {
     match outcome {
-        Outcome::Answered { .. } => Status::Done,
+        Outcome::Answered { .. } | Outcome::Listed { .. } => Status::Done,
         Outcome::Refused { fault } => refused(*fault),
         Outcome::Large => Status::Past,
     }
 }
 
-// The status of words that are refused.
+/// The status of words that are refused.
 fn refused(fault: WordsFault) -> Status
     ensures { result ≡ refusal_status fault }
 {

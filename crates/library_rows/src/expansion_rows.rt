@@ -1,12 +1,8 @@
 //! Rows of expansions in the monomial basis at the greatest nesting of an expression.
 
-ghost use Rattle.std.specs.Prelude.{IfOk};
-ghost use Rattle.calc_expressions.specs.Trees.{tree_of};
-ghost use Rattle.basis_expand.specs.ReadableAtoms.{HasReadableAtoms};
-
 use anyhow::Result;
 use basis_expand::to_monomial;
-use calc_language::{Expr, Formula};
+use calc_expressions::{Expr, Formula};
 use std::alloc::{AllocError, Global};
 
 /// Prints the rows of the crate `basis_expand`.
@@ -15,17 +11,15 @@ pub fn print(rt: &(impl Print + Alloc<A = Global>)) -> Result<()> {
     deepest(rt, 4097)
 }
 
-// Whether one, negated so often that its nesting is `nesting`, is an expression that is expanded.
+/// Whether one, negated so often that its nesting is `nesting`, is an expression that is expanded.
 fn deepest(rt: &(impl Print + Alloc<A = Global>), nesting: u16) -> Result<()> {
     let terms = expanded(rt.alloc(), negated_one(rt.alloc(), nesting)?);
     println!(rt; "one at nesting {nesting}: {terms}")?;
     Ok(())
 }
 
-// How the expansion of an expression goes.
-fn expanded(alloc: Global, tree: Expr) -> &'static str
-    requires { HasReadableAtoms (tree_of tree) }
-{
+/// How the expansion of an expression goes.
+fn expanded(alloc: Global, tree: Expr) -> &'static str {
     let Ok(formula) = Formula::from_tree(tree) else {
         return "no formula";
     };
@@ -36,10 +30,8 @@ fn expanded(alloc: Global, tree: Expr) -> &'static str
     }
 }
 
-// One, negated.
-fn negated_one(alloc: Global, nesting: u16) -> Result<Expr, AllocError>
-    ensures { IfOk result (λ e. HasReadableAtoms (tree_of e)) }
-{
+/// One, negated.
+fn negated_one(alloc: Global, nesting: u16) -> Result<Expr, AllocError> {
     let mut tree = Expr::Number { num: 1 };
     for _ in 1..nesting {
         tree = Expr::Negation {

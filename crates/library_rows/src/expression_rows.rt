@@ -1,92 +1,13 @@
-//! Rows of the words of commands: what a word is read as, its degree and weight, or why it is refused.
+//! Rows of expressions: their degree and weight, and which trees are formulas.
 use anyhow::Result;
-use calc_language::{Basis, Command, Expr, Formula, Weight, read_words};
+use calc_expressions::{Basis, Expr, Formula, Weight, read_expression};
 use partitions::Partition;
 use std::alloc::Global;
 
-/// Prints the rows of the crates `calc_expressions` and `calc_language`.
+/// Prints the rows of the crate `calc_expressions`.
 pub fn print(rt: &(impl Print + Alloc<A = Global>)) -> Result<()> {
-    no_commands(rt)?;
-    wrong_bytes(rt)?;
-    offences(rt)?;
-    limits_of_words(rt)?;
-    limits_of_degree(rt)?;
     formulas(rt)?;
     trees(rt)
-}
-
-fn no_commands(rt: &(impl Print + Alloc<A = Global>)) -> Result<()> {
-    row(rt, "no words", &[])?;
-    row(rt, "expend m 1", &["expend", "m", "1"])?;
-    row(rt, "expand", &["expand"])?;
-    row(rt, "expand q s[1]", &["expand", "q", "s[1]"])?;
-    row(rt, "expand m", &["expand", "m"])?;
-    row(rt, "expand m 1 2", &["expand", "m", "1", "2"])?;
-    row(rt, "expand m 1+ 2", &["expand", "m", "1+", "2"])
-}
-
-fn wrong_bytes(rt: &(impl Print + Alloc<A = Global>)) -> Result<()> {
-    expression(rt, "p[2,1")?;
-    expression(rt, "p[2]+s[1]")?;
-    expression(rt, "1/2/3")?;
-    expression(rt, "--1")?;
-    expression(rt, "2*-1")?;
-    expression(rt, "p[é]")?;
-    expression(rt, "1)")?;
-    expression(rt, "p[1,]")?;
-    row(rt, "the empty word", &["expand", "m", ""])?;
-    long(
-        rt,
-        "100,000 parentheses that open",
-        "",
-        ("(", 100_000),
-        "",
-        (")", 0),
-    )
-}
-
-fn offences(rt: &(impl Print + Alloc<A = Global>)) -> Result<()> {
-    expression(rt, "p[1,2]")?;
-    expression(rt, "1/0")?;
-    expression(rt, "p[1,2]+1/0")?;
-    expression(rt, "170141183460469231731687303715884105727")?;
-    expression(rt, "170141183460469231731687303715884105728")?;
-    expression(rt, "-170141183460469231731687303715884105728")?;
-    // one place: a number that is too large and greater than the one before it
-    expression(rt, "p[1,170141183460469231731687303715884105728]")
-}
-
-fn limits_of_words(rt: &(impl Print + Alloc<A = Global>)) -> Result<()> {
-    long(rt, "64 numbers", "p[1", (",0", 63), "]", ("", 0))?;
-    long(rt, "65 numbers", "p[1", (",0", 64), "]", ("", 0))?;
-    // one place: the 65th number, which is greater than the one before it
-    long(
-        rt,
-        "65 numbers, the last one 1",
-        "p[1",
-        (",0", 63),
-        ",1]",
-        ("", 0),
-    )?;
-    long(rt, "64 parentheses", "", ("(", 64), "1", (")", 64))?;
-    long(rt, "65 parentheses", "", ("(", 65), "1", (")", 65))?;
-    long(rt, "4,096 bytes", "-", ("1+", 2047), "1", ("", 0))?;
-    long(rt, "4,097 bytes", "", ("1+", 2048), "1", ("", 0))?;
-    long(
-        rt,
-        "4,097 bytes and 1/0 at the front",
-        "1/0",
-        ("+1", 2047),
-        "",
-        ("", 0),
-    )
-}
-
-fn limits_of_degree(rt: &(impl Print + Alloc<A = Global>)) -> Result<()> {
-    expression(rt, "p[20]")?;
-    expression(rt, "p[21]")?;
-    expression(rt, "m[20]*m[1]")?;
-    expression(rt, "m[20]+h[1]")
 }
 
 fn formulas(rt: &(impl Print + Alloc<A = Global>)) -> Result<()> {
@@ -95,8 +16,8 @@ fn formulas(rt: &(impl Print + Alloc<A = Global>)) -> Result<()> {
     expression(rt, "0/5")?;
     expression(rt, "170141183460469231731687303715884105727+1")?;
     // 2 to the power 126, and 2 to the power 127
-    long(rt, "126 times 2", "2", ("*2", 125), "", ("", 0))?;
-    long(rt, "127 times 2", "2", ("*2", 126), "", ("", 0))
+    long(rt, "126 times 2", "2", ("*2", 125))?;
+    long(rt, "127 times 2", "2", ("*2", 126))
 }
 
 fn trees(rt: &(impl Print + Alloc<A = Global>)) -> Result<()> {
@@ -117,40 +38,30 @@ fn tree(rt: &impl Print, what: &str, tree: Expr) -> Result<()> {
     }
 }
 
-/// Prints what an expression is read as.
+/// Prints what an expression is read as that is to be expanded in m.
 fn expression(rt: &(impl Print + Alloc<A = Global>), text: &str) -> Result<()> {
-    row(rt, text, &["expand", "m", text])
+    row(rt, text, text)
 }
 
-/// Prints what a word is read as that has a text and another one so many times, and the same after it.
+/// Prints what a word is read as that begins with a text and goes on with another one so many times.
 fn long(
     rt: &(impl Print + Alloc<A = Global>),
     what: &str,
     front: &str,
     many: (&str, u32),
-    middle: &str,
-    end: (&str, u32),
 ) -> Result<()> {
     let mut word = String::from_str(rt.alloc(), front)?;
     for _ in 0..many.1 {
         word.push_str(many.0)?;
     }
-    word.push_str(middle)?;
-    for _ in 0..end.1 {
-        word.push_str(end.0)?;
-    }
-    row(rt, what, &["expand", "m", word.as_str()])
+    row(rt, what, word.as_str())
 }
 
-/// Prints what words are read as.
-fn row(rt: &(impl Print + Alloc<A = Global>), what: &str, words: &[&str]) -> Result<()> {
-    let mut owned = Vec::new(rt.alloc());
-    for word in words {
-        owned.push(String::from_str(rt.alloc(), *word)?)?;
-    }
-    match read_words(rt.alloc(), &owned) {
-        Ok(Command::Expand { formula, .. }) => said(rt, what, &formula),
-        Err(fault) => Ok(println!(rt; "{what}: {fault}")?),
+/// Prints what a word is read as.
+fn row(rt: &(impl Print + Alloc<A = Global>), what: &str, word: &str) -> Result<()> {
+    match read_expression(rt.alloc(), Basis::M, word.as_bytes()) {
+        Ok(formula) => said(rt, what, &formula),
+        Err(_) => Ok(println!(rt; "{what}: refused")?),
     }
 }
 

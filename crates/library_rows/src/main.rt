@@ -2,7 +2,6 @@
 //! `stdout`, whose lines were written from the definitions and from outside values.
 #![tactic(auto)]
 
-mod command_rows;
 mod expansion_rows;
 mod expression_rows;
 mod partition_rows;
@@ -17,7 +16,6 @@ fn main(rt: HostRuntime) -> anyhow::Result<()> {
     permutation_rows::print(&rt)?;
     table_rows::print(&rt)?;
     expression_rows::print(&rt)?;
-    command_rows::print(&rt)?;
     plain_rows::print(&rt)?;
     expansion_rows::print(&rt)
 }

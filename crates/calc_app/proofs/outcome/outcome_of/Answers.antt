@@ -1,20 +1,17 @@
 use Rattle.std.proofs.Common.{◌≢◌, map, rules, tests}
 use Rattle.calc_base.specs.declared.words.WordsFault.TheVariants as fault
 use Rattle.std.specs.Prelude.{string_bytes}
-use Rattle.calc_app.proofs.Built.{built}
+use Rattle.calc_language.specs.Reading.{command_of}
 use Rattle.calc_app.proofs.Replies.{computes_reply, accepts_reply, refused_by, refused_at}
 use Rattle.calc_app.proofs.outcome.outcome_of.Goals as goal
 
-pub reply_to-requires : goal.reply_to-requires
-reply_to-requires c = built (map string_bytes c.args.words.now) c.in-Ok.command c.in-Ok.ensures.read
-
 pub returns-in-Ok-clause-computes : goal.returns-in-Ok-clause-computes
 returns-in-Ok-clause-computes c =
-    computes_reply (map string_bytes c.args.words.now) c.in-Ok.command c.reply_to.result c.in-Ok.ensures.read c.reply_to.ensures
+    computes_reply (map string_bytes c.args.words.now) (command_of c.in-Ok.command) c.reply_to.result c.in-Ok.ensures.read c.reply_to.ensures
 
 pub returns-in-Ok-clause-accepts : goal.returns-in-Ok-clause-accepts
 returns-in-Ok-clause-accepts c = λ command spelled.
-    accepts_reply c.in-Ok.command c.reply_to.result command c.reply_to.ensures (c.in-Ok.ensures.accepts command spelled)
+    accepts_reply (command_of c.in-Ok.command) c.reply_to.result command c.reply_to.ensures (c.in-Ok.ensures.accepts command spelled)
 
 pub returns-in-Ok-clause-refuses : goal.returns-in-Ok-clause-refuses
 returns-in-Ok-clause-refuses c = λ offence first. absurd (c.in-Ok.ensures.refuses offence first)

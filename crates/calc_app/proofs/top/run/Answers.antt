@@ -13,32 +13,32 @@ use Rattle.calc_app.proofs.top.run.Goals as goal
 pub returns-then-deliver-clause-headline : goal.returns-then-deliver-clause-headline
 returns-then-deliver-clause-headline g c = λ ended before told.
     prints_answer (map string_bytes c.args.words.now) c.in-Ok.outcome c.in-Ok.ensures.computes c.if-deliver.ensures.printable
-    (sym c.status_if_put.ensures ∙ ended) before _
+    (sym c.status_if_put-status.ensures ∙ ended) before _
     ((c.deliver.ensures.goes.whole c.if-deliver.true).bytes ∙ ap (λ t. grown t (text_of c.in-Ok.outcome)) told)
 
 pub returns-then-deliver-clause-leaves : goal.returns-then-deliver-clause-leaves
 returns-then-deliver-clause-leaves g c =
     leaves_whole g.K.Sink.written g.K.Sink.length g.K.Sink.settled c.args.sink.now c.deliver.new.sink
-    (map string_bytes c.args.words.now) c.in-Ok.outcome c.status_if_put.result
-    c.in-Ok.ensures.computes c.deliver.ensures.printable c.status_if_put.ensures
+    (map string_bytes c.args.words.now) c.in-Ok.outcome c.status_if_put-status.result
+    c.in-Ok.ensures.computes c.deliver.ensures.printable c.status_if_put-status.ensures
     (c.deliver.ensures.goes.whole c.if-deliver.true) (search (rules, tests))
 
 pub returns-then-deliver-clause-accepted : goal.returns-then-deliver-clause-accepted
 returns-then-deliver-clause-accepted g c = λ command spelled.
-    subst (IsAccepted command) (sym c.status_if_put.ensures)
+    subst (IsAccepted command) (sym c.status_if_put-status.ensures)
     (accepted command c.in-Ok.outcome (c.in-Ok.ensures.accepts command spelled))
 
 pub returns-then-deliver-clause-offended : goal.returns-then-deliver-clause-offended
 returns-then-deliver-clause-offended g c = λ offence first.
     let P : Status → Type 0 = λ s. IsRefused g.K.Sink.written g.K.Sink.length c.args.sink.now c.deliver.new.sink (ending_of offence.2) (offence_line offence) s in
-    subst P (sym c.status_if_put.ensures)
+    subst P (sym c.status_if_put-status.ensures)
     (refuses_offence g.K.Sink.written g.K.Sink.length c.args.sink.now c.deliver.new.sink offence c.in-Ok.outcome
     (c.in-Ok.ensures.refuses offence first) (c.deliver.ensures.goes.whole c.if-deliver.true))
 
 pub returns-then-deliver-clause-no_command : goal.returns-then-deliver-clause-no_command
 returns-then-deliver-clause-no_command g c = λ word byte place.
     let P : Status → Type 0 = λ s. IsRefused g.K.Sink.written g.K.Sink.length c.args.sink.now c.deliver.new.sink syntax (refusal_line (codes "Syntax") word byte) s in
-    subst P (sym c.status_if_put.ensures)
+    subst P (sym c.status_if_put-status.ensures)
     (refuses_place g.K.Sink.written g.K.Sink.length c.args.sink.now c.deliver.new.sink word byte c.in-Ok.outcome
     (c.in-Ok.ensures.goes_wrong word byte place) (c.deliver.ensures.goes.whole c.if-deliver.true))
 

@@ -1,0 +1,51 @@
+-- The lines of the tableaux that are listed.
+use Rattle.std.proofs.Common.{◌≡◌, ℕ, List, [], ◌∷◌, ◌++◌, Bool, true, false, cond, refl, sym, ◌∙◌, ap, subst}
+use Rattle.std.specs.Prelude.{map, length, nat_le}
+use Rattle.std.specs.List.{flat_map}
+use Rattle.sym_model.specs.Sum.{each, select}
+use Rattle.sym_model.specs.Schur.{contains, words}
+use Rattle.sym_model.specs.Partition.{cells, rows}
+use Rattle.sym_model.specs.GoodTableau.{good_readings, lattice_readings, column_reading, is_among, is_good}
+use Rattle.sym_model.specs.TableauList.{filling_of}
+use Rattle.sym_model.specs.TableauText.{tableau_line, readings_text}
+
+-- the line of a tableau of outer/inner with this column reading
+abbrev pub line : List ℕ → List ℕ → List ℕ → List ℕ
+line outer inner w = tableau_line (filling_of outer inner w)
+
+each-flat : {A : Type 0} (f : A → List ℕ) (xs : List A) → each f xs ≡ flat_map f xs
+each-flat f [] = refl
+each-flat f (x ∷ xs) = ap (λ t. f x ++ t) (each-flat f xs)
+
+pub readings_text-more : (outer inner w : List ℕ) (ws : List (List ℕ))
+    → line outer inner w ++ flat_map (line outer inner) ws ≡ readings_text outer inner (w ∷ ws)
+readings_text-more outer inner w ws = sym (each-flat (line outer inner) (w ∷ ws))
+
+-- ---- a shape that is not contained in the other has no tableaux
+
+among_none : (ws : List (List ℕ)) → select (λ w. is_among w []) ws ≡ []
+among_none [] = refl
+among_none (w ∷ ws) = among_none ws
+
+none_chosen : (x : Bool) (f : List (List ℕ) → List ℕ) (test : List (List ℕ) → Bool) (ws : List (List ℕ))
+    → select (λ w. is_among w (map f (cond x (select test []) []))) ws ≡ []
+none_chosen true f test ws = among_none ws
+none_chosen false f test ws = among_none ws
+
+pub none_outside : (outer inner : List ℕ) → contains outer inner ≡ false → lattice_readings outer inner ≡ []
+none_outside outer inner h =
+    rw h
+    (none_chosen (nat_le (rows []) (rows outer)) (column_reading outer inner) (is_good (rows outer) [] outer inner)
+    (words (rows outer) (length (cells outer inner))))
+
+-- the lines of a lister of good tableaux with an empty start and as many letters as the outer shape has rows
+pub listed-lines : (outer inner : List ℕ) (shape : List ℕ × List ℕ) (k : ℕ) (start : List ℕ) (rest : List (List ℕ))
+    → shape ≡ (outer, inner) → k ≡ rows outer → start ≡ [] → rest ≡ good_readings k start shape.0 shape.1
+    → readings_text shape.0 shape.1 rest ≡ readings_text outer inner (lattice_readings outer inner)
+listed-lines outer inner shape k start rest is letters empty readings =
+    let P : List ℕ × List ℕ → Type 0 = λ s.
+    readings_text s.0 s.1 (good_readings k start s.0 s.1) ≡ readings_text outer inner (lattice_readings outer inner) in
+    ap (readings_text shape.0 shape.1) readings
+    ∙ subst P (sym is)
+    (ap (λ j. readings_text outer inner (good_readings j start outer inner)) letters
+    ∙ ap (λ s. readings_text outer inner (good_readings (rows outer) s outer inner)) empty)
