@@ -1,3 +1,0 @@
-pub mod LoweredLists
-pub mod RowLists
-pub mod SlideChains
