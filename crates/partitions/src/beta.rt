@@ -1,4 +1,4 @@
-// Beta lists of partitions.
+//! Beta lists of partitions.
 ghost use Rattle.std.specs.Prelude.{◌≡◌, ◌+◌, ◌≤◌, length, IfOk};
 ghost use Rattle.sym_model.specs.BetaList.{beta, less_the_rest};
 ghost use Rattle.sym_model.specs.Partition.{rows};

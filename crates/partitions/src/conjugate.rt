@@ -1,4 +1,4 @@
-// The columns of a partition.
+//! The columns of a partition.
 ghost use Rattle.std.specs.Prelude.{◌≡◌, ◌≤◌, length, IfOk, IsOk};
 ghost use Rattle.sym_model.specs.Conjugate.{conjugate, count_from};
 ghost use Rattle.sym_model.specs.Partition.{Falls, columns};

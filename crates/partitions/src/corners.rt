@@ -1,4 +1,4 @@
-// Corners of a partition.
+//! Corners of a partition.
 ghost use Rattle.std.specs.Prelude.{◌≡◌, ◌+◌, ◌<◌, length, slice_index};
 ghost use Rattle.sym_model.specs.Partition.{IsPartition, without_last_zeros};
 ghost use Rattle.sym_model.specs.Slide.{lowered_at};

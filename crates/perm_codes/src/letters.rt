@@ -1,4 +1,4 @@
-// Lists of letters: what is read off them, and how they are made.
+//! Lists of letters: what is read off them, and how they are made.
 ghost use Rattle.std.specs.Prelude.{◌≡◌, ℕ, ◌+◌, ◌<◌, ◌≤◌, ◌==◌, ◌&&◌, nat_lt, length, take, swap, IsOk, IfOk, MatchOption};
 ghost use Rattle.std.specs.List.{list_any};
 ghost use Rattle.sym_model.specs.Sum.{Once};
