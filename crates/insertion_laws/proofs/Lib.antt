@@ -1,0 +1,7 @@
+pub mod InsertedRows
+pub mod RecordedSteps
+pub mod RowsBack
+pub mod Removals
+pub mod LastSteps
+pub mod TableauRows
+pub mod WordsAndPairs

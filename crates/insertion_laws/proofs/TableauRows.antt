@@ -1,0 +1,219 @@
+-- Straight tableaux and standard ones, row by row.
+use Rattle.std.proofs.Common.{◌≡◌, ◌≢◌, ℕ, zero, suc, ◌+◌, ◌<◌, ◌≤◌, ◌==◌, ◌&&◌, Bool, true, false, cond, List, [], ◌∷◌, ◌++◌, map, length, replicate, ◌∙◌, ap, ap₂, sym, refl, inl, inr, arith, nat_lt, nat_le}
+use Rattle.std.proofs.lemmas.Bool.{cases_lt, cases_eq, lt-ltb, le-ltb, le-leb, leb-true, ltb-true, eq-eqb, ne_eqb, and_from, and_parts}
+use Rattle.std.proofs.lemmas.List.{length-append}
+use Rattle.sym_model.specs.Partition.{Falls, ArePositive, size, after}
+use Rattle.sym_model.specs.Schur.{row_lengths, row_rises, columns_rise, semistandard, letters_of, times_in}
+use Rattle.sym_model.specs.StandardTableau.{IsStandard}
+use Rattle.sym_model.specs.Tableau.{IsStraightTableau, are_letters, shape_of}
+use Rattle.insertion_laws.specs.Rows.{RisesFrom, StandsOn, AreRows, AreBelow, RowsBelow}
+use Rattle.insertion_laws.specs.Pairs.{IsPairAt}
+use Rattle.insertion_laws.proofs.InsertedRows.{stands-length}
+
+-- ---- from rows to a tableau
+
+falls_from : (m : ℕ) (rows : List (List ℕ)) → AreRows m rows → Falls (shape_of rows)
+falls_from m [] h = tt
+falls_from m (row ∷ []) h = tt
+falls_from m (row ∷ r ∷ rows) h = (stands-length r row h.0.stands, falls_from m (r ∷ rows) h.1)
+
+positive_from : (m : ℕ) (rows : List (List ℕ)) → AreRows m rows → ArePositive (shape_of rows)
+positive_from m [] h = tt
+positive_from m (row ∷ rows) h = (h.0.filled, positive_from m rows h.1)
+
+straight_lengths : (outer : List ℕ) → row_lengths outer [] ≡ outer
+straight_lengths [] = refl
+straight_lengths (a ∷ outer) = ap (λ l. a ∷ l) (straight_lengths outer)
+
+letters_from : (c : ℕ) (row w : List ℕ) → 1 ≤ c → RisesFrom c row → are_letters w ≡ true → are_letters (row ++ w) ≡ true
+letters_from c [] w l h e = e
+letters_from c (a ∷ row) w l h e =
+    and_from (nat_le 1 a) (are_letters (row ++ w)) (le-leb 1 a (omega (arith, h.0))) (letters_from a row w (omega (arith, h.0)) h.1 e)
+
+all_letters : (rows : List (List ℕ)) → AreRows 1 rows → are_letters (letters_of rows) ≡ true
+all_letters [] h = refl
+all_letters (row ∷ rows) h = letters_from 1 row (letters_of rows) (omega arith) h.0.rises (all_letters rows h.1)
+
+rises_from : (c : ℕ) (row : List ℕ) → RisesFrom c row → row_rises row ≡ true
+rises_from c [] h = refl
+rises_from c (a ∷ []) h = refl
+rises_from c (a ∷ b ∷ row) h = and_from (nat_le a b) (row_rises (b ∷ row)) (le-leb a b h.1.0) (rises_from a (b ∷ row) h.1)
+
+columns_from : (lower upper : List ℕ) → StandsOn lower upper → columns_rise upper lower ≡ true
+columns_from [] [] h = refl
+columns_from [] (a ∷ upper) h = refl
+columns_from (b ∷ lower) [] h = refl
+columns_from (b ∷ lower) (a ∷ upper) h = and_from (nat_lt a b) (columns_rise upper lower) (lt-ltb a b h.0) (columns_from lower upper h.1)
+
+order_from : (m : ℕ) (rows : List (List ℕ)) → AreRows m rows → semistandard [] rows ≡ true
+order_from m [] h = refl
+order_from m (row ∷ []) h = rises_from m row h.0.rises
+order_from m (row ∷ lower ∷ rest) h =
+    and_from (row_rises row && columns_rise row lower) (semistandard [] (lower ∷ rest))
+    (and_from (row_rises row) (columns_rise row lower) (rises_from m row h.0.rises) (columns_from lower row h.0.stands))
+    (order_from m (lower ∷ rest) h.1)
+
+pub tableau_from : (rows : List (List ℕ)) → AreRows 1 rows → IsStraightTableau rows
+tableau_from rows h =
+    record {
+      outside = record { falls = falls_from 1 rows h; positive = positive_from 1 rows h };
+      inside = record { falls = tt; positive = tt };
+      holds = refl;
+      cells = sym (straight_lengths (shape_of rows));
+      letters = all_letters rows h;
+      order = order_from 1 rows h;
+    }
+
+-- ---- from a tableau to rows
+
+rises_after : (a : ℕ) (row : List ℕ) → row_rises (a ∷ row) ≡ true → RisesFrom a row
+rises_after a [] h = tt
+rises_after a (b ∷ row) h =
+    let p = and_parts (nat_le a b) (row_rises (b ∷ row)) h in
+    (leb-true a b p.0, rises_after b row p.1)
+
+rises_tells : (row w : List ℕ) → are_letters (row ++ w) ≡ true → row_rises row ≡ true → RisesFrom 1 row
+rises_tells [] w l h = tt
+rises_tells (a ∷ row) w l h = (leb-true 1 a (and_parts (nat_le 1 a) (are_letters (row ++ w)) l).0, rises_after a row h)
+
+letters_after : (row w : List ℕ) → are_letters (row ++ w) ≡ true → are_letters w ≡ true
+letters_after [] w h = h
+letters_after (a ∷ row) w h = letters_after row w (and_parts (nat_le 1 a) (are_letters (row ++ w)) h).1
+
+columns_tell : (lower upper : List ℕ) → length lower ≤ length upper → columns_rise upper lower ≡ true → StandsOn lower upper
+columns_tell [] upper l h = tt
+columns_tell (b ∷ lower) [] l h = absurd (omega arith)
+columns_tell (b ∷ lower) (a ∷ upper) l h =
+    let p = and_parts (nat_lt a b) (columns_rise upper lower) h in
+    (ltb-true a b p.0, columns_tell lower upper (omega arith) p.1)
+
+rows_tell :
+    (rows : List (List ℕ)) → Falls (shape_of rows) → ArePositive (shape_of rows) → are_letters (letters_of rows) ≡ true
+    → semistandard [] rows ≡ true → AreRows 1 rows
+rows_tell [] f p l o = tt
+rows_tell (row ∷ []) f p l o = (record { filled = p.0; rises = rises_tells row [] l o; stands = tt }, tt)
+rows_tell (row ∷ lower ∷ rest) f p l o =
+    let later = letters_of (lower ∷ rest) in
+    let q = and_parts (row_rises row && columns_rise row lower) (semistandard [] (lower ∷ rest)) o in
+    let r = and_parts (row_rises row) (columns_rise row lower) q.0 in (
+      record { filled = p.0; rises = rises_tells row later l r.0; stands = columns_tell lower row f.0 r.1 },
+      rows_tell (lower ∷ rest) f.1 p.1 (letters_after row later l) q.1,
+    )
+
+pub rows_from : (rows : List (List ℕ)) → IsStraightTableau rows → AreRows 1 rows
+rows_from rows h = rows_tell rows h.outside.falls h.outside.positive h.letters h.order
+
+-- ---- each number once
+
+pub length-letters : (rows : List (List ℕ)) → length (letters_of rows) ≡ size (shape_of rows)
+length-letters [] = refl
+length-letters (row ∷ rows) = omega (arith, length-append row (letters_of rows), length-letters rows)
+
+ones_from : (f : ℕ → ℕ) (a n : ℕ) → ((j : ℕ) → a < j → j ≤ a + n → f j ≡ 1) → map f (after a n) ≡ replicate n 1
+ones_from f a zero h = refl
+ones_from f a (suc n) h = ap₂ ◌∷◌ (h (a + 1) (omega arith) (omega arith)) (ones_from f (a + 1) n (λ j l m. h j (omega arith) (omega arith)))
+
+ones_tell : (f : ℕ → ℕ) (a n j : ℕ) → map f (after a n) ≡ replicate n 1 → a < j → j ≤ a + n → f j ≡ 1
+ones_tell f a zero j h l m = absurd (omega arith)
+ones_tell f a (suc n) j h l m = elim (cases_eq j (a + 1)) [
+  | inl e ↦ ap f e ∙ first
+  | inr e ↦ ones_tell f (a + 1) n j rest (omega arith) (omega arith)
+]
+  where
+    first : f (a + 1) ≡ 1
+    first = cc
+
+    rest : map f (after (a + 1) n) ≡ replicate n 1
+    rest = cc
+
+-- how many letters are smaller than k
+abbrev smaller : ℕ → List ℕ → ℕ
+smaller k [] = 0
+smaller k (a ∷ w) = cond (nat_lt a k) 1 0 + smaller k w
+
+one_smaller : (a k : ℕ) → cond (nat_lt a (k + 1)) 1 0 ≡ cond (nat_lt a k) 1 0 + cond (a == k) 1 0
+one_smaller a k = elim (cases_lt a k) [
+  | inl h ↦
+      let n : a ≢ k = omega arith in
+      ap {B = ℕ} (λ t. cond t 1 0) (lt-ltb a (k + 1) (omega arith))
+      ∙ sym (ap₂ (λ s t. cond s 1 0 + cond t 1 0) (lt-ltb a k h) (ne_eqb a k n))
+  | inr h ↦ elim (cases_eq a k) [
+    | inl e ↦
+        ap {B = ℕ} (λ t. cond t 1 0) (lt-ltb a (k + 1) (omega arith))
+        ∙ sym (ap₂ (λ s t. cond s 1 0 + cond t 1 0) (le-ltb a k h) (eq-eqb a k e))
+    | inr e ↦
+        ap {B = ℕ} (λ t. cond t 1 0) (le-ltb a (k + 1) (omega arith))
+        ∙ sym (ap₂ (λ s t. cond s 1 0 + cond t 1 0) (le-ltb a k h) (ne_eqb a k e))
+  ]
+]
+
+smaller-more : (k : ℕ) (w : List ℕ) → smaller (k + 1) w ≡ smaller k w + times_in k w
+smaller-more k [] = refl
+smaller-more k (a ∷ w) = omega (arith, one_smaller a k, smaller-more k w)
+
+none_smaller : (w : List ℕ) → are_letters w ≡ true → smaller 1 w ≡ 0
+none_smaller [] h = refl
+none_smaller (a ∷ w) h =
+    let p = and_parts (nat_le 1 a) (are_letters w) h in
+    omega (arith, ap {B = ℕ} (λ t. cond t 1 0) (le-ltb a 1 (leb-true 1 a p.0)), none_smaller w p.1)
+
+all_smaller : (n : ℕ) (w : List ℕ) → are_letters w ≡ true → ((j : ℕ) → 1 ≤ j → j ≤ n → times_in j w ≡ 1) → smaller (n + 1) w ≡ n
+all_smaller zero w h o = none_smaller w h
+all_smaller (suc n) w h o =
+    let e : n + 1 ≡ suc n = omega arith in
+    omega (
+      arith,
+      smaller-more (suc n) w,
+      ap (λ k. smaller k w) e,
+      all_smaller n w h (λ j l m. o j l (omega arith)),
+      o (suc n) (omega arith) (omega arith),
+    )
+
+few_smaller : (k : ℕ) (w : List ℕ) → smaller k w ≤ length w
+few_smaller k [] = omega arith
+few_smaller k (a ∷ w) = by (nat_lt a k) (few_smaller k w)
+  where
+    by : (t : Bool) → smaller k w ≤ length w → cond t 1 0 + smaller k w ≤ suc (length w)
+    by true h = omega arith
+    by false h = omega arith
+
+below_from : (k : ℕ) (w : List ℕ) → smaller k w ≡ length w → AreBelow k w
+below_from k [] h = tt
+below_from k (a ∷ w) h = elim (cases_lt a k) [
+  | inl l ↦ (l, below_from k w (omega (arith, ap {B = ℕ} (λ t. cond t 1 0) (lt-ltb a k l))))
+  | inr l ↦ absurd (omega (arith, ap {B = ℕ} (λ t. cond t 1 0) (le-ltb a k l), few_smaller k w))
+]
+
+below_split : (k : ℕ) (v w : List ℕ) → AreBelow k (v ++ w) → AreBelow k v × AreBelow k w
+below_split k [] w h = (tt, h)
+below_split k (a ∷ v) w h = let r = below_split k v w h.1 in ((h.0, r.0), r.1)
+
+below_rows : (k : ℕ) (q : List (List ℕ)) → AreBelow k (letters_of q) → RowsBelow k q
+below_rows k [] h = tt
+below_rows k (row ∷ q) h = let r = below_split k row (letters_of q) h in (r.0, below_rows k q r.1)
+
+-- ---- pairs of tableaux
+
+pub pair_from :
+    (p q : List (List ℕ)) → IsStraightTableau p → IsStandard q → shape_of p ≡ shape_of q → IsPairAt 1 (length (letters_of q)) p q
+pair_from p q t s e =
+    let w = letters_of q in
+    let n = length w in
+    let once : (j : ℕ) → 1 ≤ j → j ≤ n → times_in j w ≡ 1 =
+    λ (j : ℕ) (l : 1 ≤ j) (m : j ≤ n). ones_tell (λ k. times_in k w) 0 n j s.once (omega arith) (omega arith) in
+    record {
+      p_rows = rows_from p t;
+      q_rows = rows_from q s.tableau;
+      shapes = e;
+      below = below_rows (n + 1) q (below_from (n + 1) w (all_smaller n w s.tableau.letters once));
+      once = once;
+      cells = sym (length-letters q);
+    }
+
+pub standard_from : (m n : ℕ) (p q : List (List ℕ)) → IsPairAt m n p q → IsStandard q
+standard_from m n p q h =
+    let long : length (letters_of q) ≡ n = length-letters q ∙ h.cells in
+    record {
+      tableau = tableau_from q h.q_rows;
+      once = ones_from (λ k. times_in k (letters_of q)) 0 (length (letters_of q)) (λ j l r. h.once j (omega arith) (omega arith));
+    }

@@ -1,0 +1,3 @@
+pub mod Rows
+pub mod Removal
+pub mod Pairs

@@ -1,0 +1,62 @@
+-- Row insertion undone: the word of a pair of tableaux (Fulton, 1.1 and 4.1; Schensted).
+use Rattle.std.specs.Prelude.{ℕ, zero, suc, ◌==◌, nat_lt, cond, List, [], ◌∷◌, ◌++◌, length}
+use Rattle.sym_model.specs.Schur.{letters_of}
+
+-- the row with b put back: in place of the last letter smaller than it
+abbrev pub row_back : ℕ → List ℕ → List ℕ
+row_back b [] = []
+row_back b (a ∷ []) = b ∷ []
+row_back b (a ∷ c ∷ row) = cond (nat_lt c b) (a ∷ row_back b (c ∷ row)) (b ∷ c ∷ row)
+
+-- the letter that b takes the place of: the last one smaller than it
+abbrev pub letter_back : ℕ → List ℕ → ℕ
+letter_back b [] = 0
+letter_back b (a ∷ []) = a
+letter_back b (a ∷ c ∷ row) = cond (nat_lt c b) (letter_back b (c ∷ row)) a
+
+-- the row without its last letter
+abbrev pub without_last : List ℕ → List ℕ
+without_last [] = []
+without_last (a ∷ []) = []
+without_last (a ∷ b ∷ row) = a ∷ without_last (b ∷ row)
+
+-- its last letter
+abbrev pub last_of : List ℕ → ℕ
+last_of [] = 0
+last_of (a ∷ []) = a
+last_of (a ∷ b ∷ row) = last_of (b ∷ row)
+
+-- a row over other rows; a row without letters is none
+abbrev pub row_over : List ℕ → List (List ℕ) → List (List ℕ)
+row_over [] rows = rows
+row_over (a ∷ row) rows = (a ∷ row) ∷ rows
+
+-- the tableau after the last letter of row i, counted from 0, leaves it and goes up row by row, each time in place of the
+-- last smaller letter; and the letter that leaves the first row
+abbrev pub removed : ℕ → List (List ℕ) → List (List ℕ) × ℕ
+removed i [] = ([], 0)
+removed zero (row ∷ rows) = (row_over (without_last row) rows, last_of row)
+removed (suc i) (row ∷ rows) =
+    let below = removed i rows in
+    (row_back below.1 row ∷ below.0, letter_back below.1 row)
+
+-- the row, counted from 0, that ends with k
+abbrev pub row_ending : ℕ → List (List ℕ) → ℕ
+row_ending k [] = 0
+row_ending k (row ∷ rows) = cond (last_of row == k) 0 (suc (row_ending k rows))
+
+-- the rows without the k at the end of one of them
+abbrev pub without_step : ℕ → List (List ℕ) → List (List ℕ)
+without_step k [] = []
+without_step k (row ∷ rows) = cond (last_of row == k) (row_over (without_last row) rows) (row ∷ without_step k rows)
+
+-- the word of the last k steps back from p and q
+abbrev pub steps_back : ℕ → List (List ℕ) → List (List ℕ) → List ℕ
+steps_back zero p q = []
+steps_back (suc k) p q =
+    let off = removed (row_ending (suc k) q) p in
+    steps_back k off.0 (without_step (suc k) q) ++ off.1 ∷ []
+
+-- the word that insertion takes to p and q: the cells leave p in the order of falling numbers of q
+abbrev pub word_back : List (List ℕ) → List (List ℕ) → List ℕ
+word_back p q = steps_back (length (letters_of q)) p q

@@ -1,0 +1,58 @@
+-- Tableaux row by row, with letters from a bound on (this project's own).
+use Rattle.std.specs.Prelude.{cond, nat_lt, ℕ, zero, suc, ◌+◌, ◌<◌, ◌≤◌, ◌≡◌, List, [], ◌∷◌, length, ◌⊎◌}
+
+-- no letter is smaller than the one before it, nor the first one than c
+abbrev pub RisesFrom : ℕ → List ℕ → Type 0
+RisesFrom c [] = Unit {0}
+RisesFrom c (a ∷ row) = (c ≤ a) × RisesFrom a row
+
+-- each letter of the lower row has a smaller letter above it
+abbrev pub StandsOn : List ℕ → List ℕ → Type 0
+StandsOn [] upper = Unit {0}
+StandsOn (b ∷ lower) [] = ⊥
+StandsOn (b ∷ lower) (a ∷ upper) = (a < b) × StandsOn lower upper
+
+-- the first row; no letters where there is none
+abbrev pub first_row : List (List ℕ) → List ℕ
+first_row [] = []
+first_row (row ∷ rows) = row
+
+-- a row of a tableau with letters from m on, and the rows below it
+pub record IsRowOver (m : ℕ) (row : List ℕ) (below : List (List ℕ)) : Type 0 where
+  pub filled : 0 < length row
+  pub rises : RisesFrom m row
+  pub stands : StandsOn (first_row below) row
+
+-- the rows are those of a straight tableau with letters from m on
+abbrev pub AreRows : ℕ → List (List ℕ) → Type 0
+AreRows m [] = Unit {0}
+AreRows m (row ∷ rows) = IsRowOver m row rows × AreRows m rows
+
+-- each letter is smaller than k
+abbrev pub AreBelow : ℕ → List ℕ → Type 0
+AreBelow k [] = Unit {0}
+AreBelow k (a ∷ w) = (a < k) × AreBelow k w
+
+-- so it is in each row
+abbrev pub RowsBelow : ℕ → List (List ℕ) → Type 0
+RowsBelow k [] = Unit {0}
+RowsBelow k (row ∷ rows) = AreBelow k row × RowsBelow k rows
+
+-- the first shape is the second one and a cell at the end of one of its rows, or of a new row
+abbrev pub HasOneMore : List ℕ → List ℕ → Type 0
+HasOneMore [] small = ⊥
+HasOneMore (a ∷ large) [] = (a ≡ 1) × (large ≡ [])
+HasOneMore (a ∷ large) (b ∷ small) = ((a ≡ b + 1) × (large ≡ small)) ⊎ ((a ≡ b) × HasOneMore large small)
+
+-- the shape has a corner in that row, counted from 0: the next row is shorter
+abbrev pub HasCorner : ℕ → List ℕ → Type 0
+HasCorner i [] = ⊥
+HasCorner zero (a ∷ []) = Unit {0}
+HasCorner zero (a ∷ b ∷ shape) = b < a
+HasCorner (suc i) (a ∷ shape) = HasCorner i shape
+
+-- the first row, counted from 0, that is longer than in the second shape
+abbrev pub grown : List ℕ → List ℕ → ℕ
+grown [] small = 0
+grown (a ∷ large) [] = 0
+grown (a ∷ large) (b ∷ small) = cond (nat_lt b a) 0 (suc (grown large small))

@@ -1,0 +1,5 @@
+pub mod GrowingRows
+pub mod ShrinkingRows
+pub mod Overwriting
+pub mod MadeTableaux
+pub mod WordRuns

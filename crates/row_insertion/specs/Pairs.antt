@@ -1,0 +1,15 @@
+-- Pairs of tableaux of one straight shape (Fulton, 4.1).
+use Rattle.std.specs.Prelude.{◌≡◌, ℕ, List, []}
+use Rattle.sym_model.specs.Tableau.{SkewFilling}
+use Rattle.sym_model.specs.Insertion.{insertion_pair}
+
+-- both have one shape, which is straight
+pub record HaveOneShape (p q : SkewFilling) : Type 0 where
+  pub p_straight : p.inner ≡ []
+  pub q_straight : q.inner ≡ []
+  pub same : p.outer ≡ q.outer
+
+-- the word is the only one that insertion takes to these rows
+pub record IsTheWordOf (word : List ℕ) (p q : List (List ℕ)) : Type 0 where
+  pub inserted : insertion_pair word ≡ (p, q)
+  pub only : (other : List ℕ) → insertion_pair other ≡ (p, q) → other ≡ word

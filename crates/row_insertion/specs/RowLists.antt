@@ -1,0 +1,33 @@
+-- Rows of letters in vectors, and the cells that come to rows and leave them (this project's own).
+use Rattle.std.specs.Prelude.{◌-◌, slice_index_or, slice_set, ℕ, zero, suc, List, [], ◌∷◌, ◌++◌, map, Vec}
+use Rattle.std.specs.declared.alloc.Global.{Global}
+use Rattle.sym_model.specs.Tableau.{SkewFilling, shape_of}
+use Rattle.insertion_laws.specs.Removal.{without_last, row_over}
+
+-- the rows that a list of vectors stands for
+abbrev pub rows_in : List (Vec ℕ Global) → List (List ℕ)
+rows_in rows = map (λ row. row.items) rows
+
+-- row i, counted from 0
+abbrev pub row_at : List (List ℕ) → ℕ → List ℕ
+row_at rows i = slice_index_or rows i []
+
+-- the straight filling with these rows
+abbrev pub straight : List (List ℕ) → SkewFilling
+straight rows = record { outer = shape_of rows; inner = []; rows = rows }
+
+-- the rows with k at the end of row i, counted from 0, or in a new row where there is none
+abbrev pub with_end : ℕ → ℕ → List (List ℕ) → List (List ℕ)
+with_end i k [] = (k ∷ []) ∷ []
+with_end zero k (row ∷ rows) = (row ++ k ∷ []) ∷ rows
+with_end (suc i) k (row ∷ rows) = row ∷ with_end i k rows
+
+-- the filling with other numbers in one row, counted from 1
+abbrev pub with_row : SkewFilling → ℕ → List ℕ → SkewFilling
+with_row t row numbers = record { outer = t.outer; inner = t.inner; rows = slice_set t.rows (row - 1) numbers }
+
+-- the rows without the last number of row i, counted from 0; a row without numbers is none
+abbrev pub without_end : ℕ → List (List ℕ) → List (List ℕ)
+without_end i [] = []
+without_end zero (row ∷ rows) = row_over (without_last row) rows
+without_end (suc i) (row ∷ rows) = row ∷ without_end i rows

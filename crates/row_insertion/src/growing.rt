@@ -1,0 +1,55 @@
+//! Rows that grow by a cell, in place.
+ghost use Rattle.std.specs.Prelude.{◌≡◌, ◌≤◌, Some, IfOk, length, [], ◌∷◌, ◌++◌};
+ghost use Rattle.sym_model.specs.Insertion.{row_with, bumped, inserted};
+ghost use Rattle.sym_model.specs.Tableau.{shape_of};
+ghost use Rattle.insertion_laws.specs.Rows.{grown};
+ghost use Rattle.row_insertion.specs.RowLists.{rows_in, with_end};
+
+use std::alloc::AllocError;
+use std::mem;
+
+/// Inserts a letter into the rows of a tableau, and answers which row, counted from 0, has grown.
+pub(crate) fn insert(rows: &mut Vec<Vec<u16>>, letter: u16) -> Result<usize, AllocError>
+    ensures rows { IfOk result (λ at. rows_in rows.new.items ≡ inserted (rows_in rows.old.items) (Some letter)) }
+    ensures row { IfOk result (λ at. at ≡ grown (shape_of (rows_in rows.new.items)) (shape_of (rows_in rows.old.items))) }
+{
+    let mut letter = letter;
+    let count = rows.len();
+    for at in 0..count {
+        match put_in(&mut rows[at], letter)? {
+            Some(bumped) => letter = bumped,
+            None => return Ok(at),
+        }
+    }
+    push_at(rows, count, letter)?;
+    Ok(count)
+}
+
+/// Puts a letter into a row, in place of the first greater one, which is the answer, or at its end.
+fn put_in(row: &mut Vec<u16>, letter: u16) -> Result<Option<u16>, AllocError>
+    ensures row { IfOk result (λ other. row.new.items ≡ row_with letter row.old.items) }
+    ensures other { IfOk result (λ other. other ≡ bumped letter row.old.items) }
+{
+    for at in 0..row.len() {
+        if row[at] > letter {
+            return Ok(Some(mem::replace(&mut row[at], letter)));
+        }
+    }
+    row.push(letter)?;
+    Ok(None)
+}
+
+/// Puts a number at the end of a row, counted from 0; behind the last row it begins a new one.
+pub(crate) fn push_at(rows: &mut Vec<Vec<u16>>, at: usize, number: u16) -> Result<(), AllocError>
+    requires { at ≤ length rows.old.items }
+    ensures { IfOk result (λ done. rows_in rows.new.items ≡ with_end at number (rows_in rows.old.items)) }
+{
+    if at < rows.len() {
+        rows[at].push(number)?;
+        return Ok(());
+    }
+    let mut row = Vec::new(*rows.allocator());
+    row.push(number)?;
+    rows.push(row)?;
+    Ok(())
+}
