@@ -1,0 +1,4 @@
+pub mod Moves
+pub mod Neighbours
+pub mod Steps
+pub mod WholeSlides

@@ -1,0 +1,68 @@
+//! The empty cell of a slide on its way through the filling.
+ghost use Rattle.std.specs.Prelude.{◌≡◌, ◌+◌, ◌-◌, ◌<◌, ◌≤◌, length, take, slice_set};
+ghost use Rattle.sym_model.specs.Partition.{IsCell, part};
+ghost use Rattle.sym_model.specs.Slide.{HasInnerCorner};
+ghost use Rattle.skew_shapes.specs.CellFillings.{IsFilling, entry_at, row_of};
+ghost use Rattle.jeu_de_taquin.specs.EmptyCell.{next_of, slid_from};
+
+use skew_shapes::Filled;
+
+/// Which letter moves into the empty cell.
+#[derive(Clone, Copy)]
+enum Neighbour {
+    /// The one on the right.
+    Right(u16),
+    /// The one below.
+    Below(u16),
+    /// There is none.
+    Nobody,
+}
+
+/// The letter that moves into the empty cell in this row and this column: the smaller one of its right and its lower
+/// neighbour, on a tie the lower one.
+fn next_letter(filled: &Filled, row: u16, column: u16) -> Neighbour
+    requires row { row ≤ 512 }
+    requires column { column ≤ 4096 }
+    ensures { result ≡ next_of (entry_at filled.now row (column + 1)) (entry_at filled.now (row + 1) column) }
+{
+    let Some(below) = filled.entry(row + 1, column) else {
+        return match filled.entry(row, column + 1) {
+            Some(right) => Neighbour::Right(right),
+            None => Neighbour::Nobody,
+        };
+    };
+    match filled.entry(row, column + 1) {
+        Some(right) if right < below => Neighbour::Right(right),
+        _ => Neighbour::Below(below),
+    }
+}
+
+/// Moves letters into the empty cell in this row and this column, and into those that they leave, until the empty cell
+/// has no neighbour. The row in which it then stands, as the last cell.
+pub(crate) fn move_letters(filled: &mut Filled, row: u16, column: u16) -> u16
+    requires filling { IsFilling filled.old }
+    requires cell { IsCell filled.old.outer filled.old.inner row column }
+    ensures outer { filled.new.outer ≡ filled.old.outer }
+    ensures inner { filled.new.inner ≡ filled.old.inner }
+    ensures filling { IsFilling filled.new }
+    ensures corner { HasInnerCorner result filled.old.outer }
+    ensures cell { part filled.old.inner result < part filled.old.outer result }
+    ensures rows { slid_from filled.old row column
+        ≡ slice_set filled.new.rows (result - 1) (take (length (row_of filled.new.rows result) - 1) (row_of filled.new.rows result)) }
+{
+    let mut row = row;
+    let mut column = column;
+    loop {
+        match next_letter(filled, row, column) {
+            Neighbour::Right(letter) => {
+                filled.set(row, column, letter);
+                column += 1;
+            }
+            Neighbour::Below(letter) => {
+                filled.set(row, column, letter);
+                row += 1;
+            }
+            Neighbour::Nobody => return row,
+        }
+    }
+}

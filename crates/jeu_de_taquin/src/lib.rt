@@ -1,0 +1,7 @@
+//! Slides of skew tableaux, and rectification (Schützenberger's jeu de taquin).
+#![tactic(auto)]
+
+mod empty_cell;
+mod sliding;
+
+pub use sliding::{rectify, slide};

@@ -1,0 +1,36 @@
+//! One slide, and slides until the inner partition is empty.
+ghost use Rattle.std.specs.Prelude.{◌≡◌};
+ghost use Rattle.sym_model.specs.Slide.{HasInnerCorner, IsReached, slide};
+
+use crate::empty_cell::move_letters;
+use skew_shapes::Tableau;
+
+/// The slide of a tableau from the inner corner in this row: the corner becomes an empty cell, the smaller of its right
+/// and its lower neighbour moves into it, on a tie the lower one, and so on with the cell that is then empty; the last
+/// empty cell leaves the shape. It takes no memory.
+pub fn slide(t: Tableau, row: u16) -> Tableau
+    requires { HasInnerCorner row t.inner }
+    ensures { result ≡ slide row t }
+{
+    let column = t.shape().inner().part(row);
+    let mut filled = t.into_filled();
+    filled.add_inner_cell(row);
+    let last = move_letters(&mut filled, row, column);
+    filled.drop_outer_cell(last);
+    match filled.into_tableau() {
+        Ok(tableau) => tableau,
+        Err(_) => unreachable!(),
+    }
+}
+
+/// The tableau that slides lead to from this one when its inner partition has become empty. It takes no memory.
+pub fn rectify(t: Tableau) -> Tableau
+    ensures { IsReached t result }
+{
+    let mut t = t;
+    while t.shape().inner().rows() > 0 {
+        let row = t.shape().inner().rows();
+        t = slide(t, row);
+    }
+    t
+}

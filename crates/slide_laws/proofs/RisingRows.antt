@@ -1,0 +1,220 @@
+-- Rows and columns that rise, place by place.
+use Rattle.std.proofs.Common.{◌≡◌, ℕ, zero, suc, ◌+◌, ◌-◌, ◌<◌, ◌≤◌, true, ◌&&◌, nat_le, nat_lt, List, [], ◌∷◌, ◌++◌, length, drop, get_or, ◌∙◌, ap, refl, inl, inr, arith, length-append}
+use Rattle.std.proofs.lemmas.Bool.{cases_lt, leb-true, ltb-true, le-leb, lt-ltb, and_parts, and_from}
+use Rattle.std.proofs.lemmas.List.{get_or_append_left, get_or-append-add, get_or-drop, length-drop}
+use Rattle.sym_model.specs.Partition.{Falls, part}
+use Rattle.sym_model.specs.Schur.{row_rises, columns_rise, semistandard}
+use Rattle.sym_model.specs.Slide.{outer_parts}
+
+-- ---- places before and from a place on
+
+pub data Side (p k : ℕ) : Type 0 where
+  before : k < p → Side p k
+  from : (j : ℕ) → k ≡ p + j → Side p k
+
+pub side_of : (p k : ℕ) → Side p k
+side_of p k = elim (cases_lt k p) [ inl h ↦ before h | inr h ↦ from (k - p) (omega arith) ]
+
+-- ---- rows that rise
+
+-- no letter is smaller than the one before it
+abbrev pub Rises : List ℕ → Type 0
+Rises w = (k : ℕ) → k + 1 < length w → get_or w k 0 ≤ get_or w (k + 1) 0
+
+pub rises-tells : (w : List ℕ) → row_rises w ≡ true → Rises w
+rises-tells [] h k l = absurd (omega arith)
+rises-tells (a ∷ []) h k l = absurd (omega arith)
+rises-tells (a ∷ b ∷ w) h zero l = leb-true a b (and_parts (nat_le a b) (row_rises (b ∷ w)) h).0
+rises-tells (a ∷ b ∷ w) h (suc k) l =
+    let e : suc k + 1 ≡ suc (k + 1) = omega arith in
+    omega (arith, rises-tells (b ∷ w) (and_parts (nat_le a b) (row_rises (b ∷ w)) h).1 k (omega arith), ap (λ n. get_or (a ∷ b ∷ w) n 0) e)
+
+pub rises-next : (a : ℕ) (w : List ℕ) → Rises (a ∷ w) → Rises w
+rises-next a w h k l =
+    let e : suc k + 1 ≡ suc (k + 1) = omega arith in
+    omega (arith, h (suc k) (omega arith), ap (λ n. get_or (a ∷ w) n 0) e)
+
+pub rises-from : (w : List ℕ) → Rises w → row_rises w ≡ true
+rises-from [] h = refl
+rises-from (a ∷ []) h = refl
+rises-from (a ∷ b ∷ w) h =
+    and_from (nat_le a b) (row_rises (b ∷ w)) (le-leb a b (h 0 (omega arith))) (rises-from (b ∷ w) (rises-next a (b ∷ w) h))
+
+pub rises_left : (v w : List ℕ) → Rises (v ++ w) → Rises v
+rises_left v w h k l =
+    omega (
+      arith,
+      h k (omega (arith, length-append v w)),
+      get_or_append_left v w 0 k (omega arith),
+      get_or_append_left v w 0 (k + 1) l,
+    )
+
+pub rises_right : (v w : List ℕ) → Rises (v ++ w) → Rises w
+rises_right v w h k l =
+    let e : length v + k + 1 ≡ length v + (k + 1) = omega arith in
+    omega (
+      arith,
+      h (length v + k) (omega (arith, length-append v w)),
+      get_or-append-add v w k 0,
+      get_or-append-add v w (k + 1) 0,
+      ap (λ n. get_or (v ++ w) n 0) e,
+    )
+
+pub rises_front : (a : ℕ) (w : List ℕ) → (0 < length w → a ≤ get_or w 0 0) → Rises w → Rises (a ∷ w)
+rises_front a w h r zero l = h (omega arith)
+rises_front a w h r (suc k) l =
+    let e : suc k + 1 ≡ suc (k + 1) = omega arith in
+    omega (arith, r k (omega arith), ap (λ n. get_or (a ∷ w) n 0) e)
+
+pub rises_append :
+    (v w : List ℕ) → Rises v → Rises w → (0 < length v → 0 < length w → get_or v (length v - 1) 0 ≤ get_or w 0 0) → Rises (v ++ w)
+rises_append v w r s h k l = elim (side_of (length v) (k + 1)) [
+  | before m ↦
+      omega (arith, r k m, get_or_append_left v w 0 k (omega arith), get_or_append_left v w 0 (k + 1) m)
+  | from zero e ↦
+      let last : k ≡ length v - 1 = omega arith in
+      let next : k + 1 ≡ length v + 0 = omega arith in
+      omega (
+        arith,
+        h (omega arith) (omega (arith, length-append v w)),
+        get_or_append_left v w 0 k (omega arith),
+        ap (λ n. get_or v n 0) last,
+        get_or-append-add v w 0 0,
+        ap (λ n. get_or (v ++ w) n 0) next,
+      )
+  | from (suc j) e ↦
+      let this : k ≡ length v + j = omega arith in
+      let next : k + 1 ≡ length v + (j + 1) = omega arith in
+      omega (
+        arith,
+        s j (omega (arith, length-append v w)),
+        get_or-append-add v w j 0,
+        get_or-append-add v w (j + 1) 0,
+        ap (λ n. get_or (v ++ w) n 0) this,
+        ap (λ n. get_or (v ++ w) n 0) next,
+      )
+]
+
+-- ---- columns that rise
+
+-- each letter of the lower row is greater than the one above it; the upper row begins at the place s of the lower one
+abbrev pub StandsUnder : ℕ → List ℕ → List ℕ → Type 0
+StandsUnder s upper lower = (k : ℕ) → k < length upper → s + k < length lower → get_or upper k 0 < get_or lower (s + k) 0
+
+columns-tell : (upper lower : List ℕ) → columns_rise upper lower ≡ true → StandsUnder 0 upper lower
+columns-tell [] lower h k l m = absurd (omega arith)
+columns-tell (a ∷ upper) [] h k l m = absurd (omega arith)
+columns-tell (a ∷ upper) (b ∷ lower) h zero l m = ltb-true a b (and_parts (nat_lt a b) (columns_rise upper lower) h).0
+columns-tell (a ∷ upper) (b ∷ lower) h (suc k) l m =
+    let e : 0 + suc k ≡ suc (0 + k) = omega arith in
+    omega (
+      arith,
+      columns-tell upper lower (and_parts (nat_lt a b) (columns_rise upper lower) h).1 k (omega arith) (omega arith),
+      ap (λ n. get_or (b ∷ lower) n 0) e,
+    )
+
+columns-from : (upper lower : List ℕ) → StandsUnder 0 upper lower → columns_rise upper lower ≡ true
+columns-from [] lower h = refl
+columns-from (a ∷ upper) [] h = refl
+columns-from (a ∷ upper) (b ∷ lower) h =
+    and_from (nat_lt a b) (columns_rise upper lower) (lt-ltb a b (h 0 (omega arith) (omega arith)))
+    (columns-from upper lower
+    (λ k l m.
+    let e : 0 + suc k ≡ suc (0 + k) = omega arith in
+    omega (arith, h (suc k) (omega arith) (omega arith), ap (λ n. get_or (b ∷ lower) n 0) e)))
+
+pub stands-tells : (s : ℕ) (upper lower : List ℕ) → columns_rise upper (drop s lower) ≡ true → StandsUnder s upper lower
+stands-tells s upper lower h k l m =
+    let e : 0 + k ≡ k = omega arith in
+    omega (
+      arith,
+      columns-tell upper (drop s lower) h k l (omega (arith, length-drop s lower)),
+      get_or-drop s lower k 0,
+      ap (λ n. get_or (drop s lower) n 0) e,
+    )
+
+pub stands-from : (s : ℕ) (upper lower : List ℕ) → StandsUnder s upper lower → columns_rise upper (drop s lower) ≡ true
+stands-from s upper lower h =
+    columns-from upper (drop s lower)
+    (λ k l m.
+    let e : 0 + k ≡ k = omega arith in
+    omega (
+      arith,
+      h k l (omega (arith, length-drop s lower)),
+      get_or-drop s lower k 0,
+      ap (λ n. get_or (drop s lower) n 0) e,
+    ))
+
+-- ---- semistandard fillings, one row after another
+
+-- the first row; an empty one where there is none
+abbrev pub first_row : List (List ℕ) → List ℕ
+first_row rows = get_or rows 0 []
+
+-- the first row rises, the letters below it are greater, and the other rows are semistandard
+pub record IsOrdered (inner row : List ℕ) (below : List (List ℕ)) : Type 0 where
+  pub rises : Rises row
+  pub stands : StandsUnder (part inner 1 - part inner 2) row (first_row below)
+  pub later : semistandard (drop 1 inner) below ≡ true
+
+pub order-tells : (inner row : List ℕ) (below : List (List ℕ)) → semistandard inner (row ∷ below) ≡ true → IsOrdered inner row below
+order-tells inner row [] h = record {
+  rises = rises-tells row h;
+  stands = λ k l m. absurd (omega arith);
+  later = refl;
+}
+order-tells inner row (lower ∷ rest) h =
+    let s = part inner 1 - part inner 2 in
+    let p = and_parts (row_rises row && columns_rise row (drop s lower)) (semistandard (drop 1 inner) (lower ∷ rest)) h in
+    let q = and_parts (row_rises row) (columns_rise row (drop s lower)) p.0 in
+    record {
+      rises = rises-tells row q.0;
+      stands = stands-tells s row lower q.1;
+      later = p.1;
+    }
+
+pub order-from : (inner row : List ℕ) (below : List (List ℕ)) → IsOrdered inner row below → semistandard inner (row ∷ below) ≡ true
+order-from inner row [] h = rises-from row h.rises
+order-from inner row (lower ∷ rest) h =
+    let s = part inner 1 - part inner 2 in
+    and_from (row_rises row && columns_rise row (drop s lower)) (semistandard (drop 1 inner) (lower ∷ rest))
+    (and_from (row_rises row) (columns_rise row (drop s lower)) (rises-from row h.rises) (stands-from s row lower h.stands)) h.later
+
+-- the inner parts fall, and so do the ends of the rows
+abbrev pub HasShape : List ℕ → List (List ℕ) → Type 0
+HasShape inner [] = Unit {0}
+HasShape inner (row ∷ below) =
+    (part inner 2 ≤ part inner 1) × (part inner 2 + length (first_row below) ≤ part inner 1 + length row) × HasShape (drop 1 inner) below
+
+pub part_next : (inner : List ℕ) (k : ℕ) → get_or (drop 1 inner) k 0 ≡ get_or inner (k + 1) 0
+part_next inner k = let e : 1 + k ≡ k + 1 = omega arith in get_or-drop 1 inner k 0 ∙ ap (λ n. get_or inner n 0) e
+
+-- ---- the ends of the rows
+
+pub Falls-front : (a : ℕ) (parts : List ℕ) → get_or parts 0 0 ≤ a → Falls parts → Falls (a ∷ parts)
+Falls-front a [] h f = tt
+Falls-front a (b ∷ parts) h f = (h, f)
+
+pub ends-first : (inner : List ℕ) (rows : List (List ℕ)) → get_or (outer_parts inner rows) 0 0 ≤ part inner 1 + length (first_row rows)
+ends-first inner [] = omega arith
+ends-first inner (row ∷ rows) = omega arith
+
+pub ends-fall : (rows : List (List ℕ)) (inner : List ℕ) → HasShape inner rows → Falls (outer_parts inner rows)
+ends-fall [] inner h = tt
+ends-fall (row ∷ below) inner h =
+    Falls-front (part inner 1 + length row) (outer_parts (drop 1 inner) below)
+    (omega (arith, ends-first (drop 1 inner) below, part_next inner 0, h.1)) (ends-fall below (drop 1 inner) h.2)
+
+pub ends-at :
+    (rows : List (List ℕ)) (inner : List ℕ) (k : ℕ) → k < length rows
+    → get_or (outer_parts inner rows) k 0 ≡ get_or inner k 0 + length (get_or rows k [])
+ends-at [] inner k h = absurd (omega arith)
+ends-at (row ∷ rows) inner zero h = refl
+ends-at (row ∷ rows) inner (suc k) h =
+    let e : k + 1 ≡ suc k = omega arith in
+    ends-at rows (drop 1 inner) k (omega arith)
+    ∙ ap (λ x. x + length (get_or rows k [])) (part_next inner k ∙ ap (λ n. get_or inner n 0) e)
+
+pub length-ends : (inner : List ℕ) (rows : List (List ℕ)) → length (outer_parts inner rows) ≡ length rows
+length-ends inner [] = refl
+length-ends inner (row ∷ rows) = ap suc (length-ends (drop 1 inner) rows)

@@ -1,0 +1,89 @@
+-- A slide, one move of a letter after another.
+use Rattle.std.proofs.Common.{◌≡◌, ℕ, suc, ◌+◌, ◌-◌, ◌<◌, ◌≤◌, Bool, true, false, cond, nat_le, List, [], ◌∷◌, ◌++◌, length, take, drop, ◌∙◌, ap, ap₂, sym, refl, arith, append_assoc, append-nil}
+use Rattle.std.proofs.lemmas.Bool.{le-leb, lt-leb}
+use Rattle.std.proofs.lemmas.List.{drop-drop, length_push, length-drop}
+use Rattle.sym_model.specs.Partition.{part}
+use Rattle.sym_model.specs.Slide.{moves_up, moves_left, slid_rows}
+
+-- the place of the letter below the empty cell in its row, where there is one
+abbrev pub place_below : List ℕ → List ℕ → ℕ
+place_below inner left = part inner 1 + length left - part inner 2
+
+-- the slid rows where m letters move left, and the letter that may then move up stands at the place n of the next row
+abbrev pub rows_at : List ℕ → ℕ → ℕ → List ℕ → List ℕ → List ℕ → List (List ℕ) → List (List ℕ)
+rows_at inner n m left right row below =
+    (left ++ (take m right ++ (take 1 (drop n row) ++ drop m right)))
+    ∷ cond (nat_le (length row) n) (row ∷ below) (slid_rows (drop 1 inner) (take n row) (drop (n + 1) row) below)
+
+abbrev pub moved : List ℕ → List ℕ → List ℕ → List ℕ → ℕ
+moved inner left right row = moves_left right (drop (place_below inner left) row)
+
+pub rows_at-start :
+    (inner left right row : List ℕ) (below : List (List ℕ))
+    → slid_rows inner left right (row ∷ below)
+    ≡ rows_at inner (place_below inner left + moved inner left right row) (moved inner left right row) left right row below
+rows_at-start inner left right row below = refl
+
+rows_at-next :
+    (inner : List ℕ) (n k m a : ℕ) (left right row : List ℕ) (below : List (List ℕ)) → n ≡ k
+    → rows_at inner n (suc m) left (a ∷ right) row below ≡ rows_at inner k m (left ++ a ∷ []) right row below
+rows_at-next inner n k m a left right row below e =
+    ap (λ i. rows_at inner i (suc m) left (a ∷ right) row below) e
+    ∙ ap (λ (w : List ℕ). w ∷ cond (nat_le (length row) k) (row ∷ below) (slid_rows (drop 1 inner) (take k row) (drop (k + 1) row) below))
+    (sym (append_assoc left (a ∷ []) (take m right ++ (take 1 (drop k row) ++ drop m right))))
+
+-- the right neighbour moves left
+pub slid-moves_left :
+    (inner left right row : List ℕ) (a : ℕ) (below : List (List ℕ)) → part inner 2 ≤ part inner 1
+    → moves_up (a ∷ right) (drop (place_below inner left) row) ≡ false
+    → slid_rows inner left (a ∷ right) (row ∷ below) ≡ slid_rows inner (left ++ a ∷ []) right (row ∷ below)
+slid-moves_left inner left right row a below f h =
+    let p = place_below inner left in
+    let q = place_below inner (left ++ a ∷ []) in
+    let m = moves_left right (drop 1 (drop p row)) in
+    let next : place_below inner left + 1 ≡ place_below inner (left ++ a ∷ []) = omega (arith, length_push left a) in
+    let count : moved inner left (a ∷ right) row ≡ suc m = ap (λ b. cond b 0 (suc m)) h in
+    let same : m ≡ moved inner (left ++ a ∷ []) right row =
+    ap (moves_left right) (drop-drop 1 p row ∙ ap (λ n. drop n row) next) in
+    let places : p + suc m ≡ q + m = omega arith in
+    ap (λ n. rows_at inner (p + n) n left (a ∷ right) row below) count
+    ∙ rows_at-next inner (p + suc m) (q + m) m a left right row below places
+    ∙ ap (λ n. rows_at inner (q + n) n (left ++ a ∷ []) right row below) same
+
+pub slid-moves_left_last :
+    (inner left right : List ℕ) (a : ℕ) → slid_rows inner left (a ∷ right) [] ≡ slid_rows inner (left ++ a ∷ []) right []
+slid-moves_left_last inner left right a = ap (λ (w : List ℕ). w ∷ []) (sym (append_assoc left (a ∷ []) right))
+
+-- the lower neighbour moves up
+pub slid-moves_up :
+    (inner left right row lower : List ℕ) (b : ℕ) (below : List (List ℕ))
+    → drop (place_below inner left) row ≡ b ∷ lower → moves_up right (b ∷ lower) ≡ true
+    → slid_rows inner left right (row ∷ below)
+    ≡ (left ++ b ∷ right)
+    ∷ slid_rows (drop 1 inner) (take (place_below inner left) row) (drop (place_below inner left + 1) row) below
+slid-moves_up inner left right row lower b below e h =
+    let p = place_below inner left in
+    let count : moved inner left right row ≡ 0 = ap (moves_left right) e ∙ stays right lower b h in
+    let long : p < length row = omega (arith, length-drop p row, ap length e) in
+    let here : p + 0 ≡ p = omega arith in
+    ap (λ n. rows_at inner (p + n) n left right row below) count
+    ∙ ap (λ n. rows_at inner n 0 left right row below) here
+    ∙ ap₂ (λ (w : List ℕ) (t : Bool). (left ++ (take 1 w ++ right)) ∷ cond t (row ∷ below) (slid_rows (drop 1 inner) (take p row) (drop (p + 1) row) below))
+    e (lt-leb (length row) p long)
+  where
+    stays : (right lower : List ℕ) (b : ℕ) → moves_up right (b ∷ lower) ≡ true → moves_left right (b ∷ lower) ≡ 0
+    stays [] lower b h = refl
+    stays (a ∷ right) lower b h = ap (λ t. cond t 0 (suc (moves_left right lower))) h
+
+-- there is no neighbour
+pub slid-stops :
+    (inner left row : List ℕ) (below : List (List ℕ)) → drop (place_below inner left) row ≡ []
+    → slid_rows inner left [] (row ∷ below) ≡ left ∷ row ∷ below
+slid-stops inner left row below e =
+    let p = place_below inner left in
+    let here : p + 0 ≡ p = omega arith in
+    let short : length row ≤ p = omega (arith, length-drop p row, ap length e) in
+    ap (λ n. rows_at inner n 0 left [] row below) here
+    ∙ ap₂ (λ (w : List ℕ) (t : Bool). (left ++ (take 1 w ++ [])) ∷ cond t (row ∷ below) (slid_rows (drop 1 inner) (take p row) (drop (p + 1) row) below))
+    e (le-leb (length row) p short)
+    ∙ ap (λ (w : List ℕ). w ∷ row ∷ below) (append-nil left)
