@@ -5,3 +5,4 @@ pub mod CellReadings
 pub mod FilledReadings
 pub mod RowOrder
 pub mod StandardNumbers
+pub mod StripLists

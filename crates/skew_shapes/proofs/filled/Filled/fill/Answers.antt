@@ -1,11 +1,8 @@
-use Rattle.std.proofs.Common.{◌≡◌, ℕ, List, length, sym, ap, ◌∙◌, subst, arith}
-use Rattle.sym_model.specs.Partition.{size}
+use Rattle.std.proofs.Common.{◌≡◌, length, sym, ap, ◌∙◌, subst, arith}
 use Rattle.sym_model.specs.Tableau.{SkewFilling}
-use Rattle.sym_model.specs.TableauList.{letter_of_cell, reading_cells}
 use Rattle.partitions.proofs.Steps.{all_written}
 use Rattle.skew_shapes.specs.CellFillings.{filled_with}
-use Rattle.skew_shapes.specs.Rows.{IsKept, HasPlaces, HoldsLetters, number_in, filling_in}
-use Rattle.skew_shapes.proofs.CellRows.{rows_by-ext}
+use Rattle.skew_shapes.specs.Rows.{IsKept, HasPlaces, filling_in}
 use Rattle.skew_shapes.proofs.FilledReadings.{filled, moved}
 use Rattle.skew_shapes.proofs.filled.Filled.fill.Goals as goal
 

@@ -1,0 +1,385 @@
+-- The shapes that a horizontal strip makes of a partition (specs/HorizontalStrips).
+--     strips_on-tell, Among-strips_on    they are those with rows between the old ones
+--     strips_on-fall                     they stand in falling lexicographic order
+--     horizontal_strips                  they are the horizontal strips
+use Rattle.std.proofs.Common.{◌≡◌, ℕ, zero, suc, ◌+◌, ◌-◌, ◌<◌, ◌≤◌, ◌==◌, min, max, Bool, true, false, cond, List, [], ◌∷◌, ◌++◌, map, length, get_or, take, drop, take_all, refl, sym, ap, ap₂, ◌∙◌, subst, inl, inr, ⊎_elim, arith, append_assoc, eqb-true, add-one}
+use Rattle.std.specs.Prelude.{Option, Some, None, IsSome, slice_get}
+use Rattle.std.specs.Option.{option_to_list}
+use Rattle.std.proofs.lemmas.Bool.{cases_eq}
+use Rattle.std.proofs.lemmas.Cmp.{nat_cmp_total, tied_itself}
+use Rattle.std.specs.Cmp.{nat_cmp_is}
+use Rattle.std.specs.Ordering.{ordering_then}
+use Rattle.std.specs.declared.cmp.Ordering.TheVariants.{Less}
+use Rattle.sym_model.specs.Sum.{each, Among}
+use Rattle.sym_model.specs.Partition.{IsPartition, Falls, ArePositive, part, size, rows}
+use Rattle.sym_model.specs.PartitionList.{FallsLexicographically}
+use Rattle.sym_model.specs.PrintedOrder.{falling_lexicographic}
+use Rattle.sym_model.proofs.Sums.{Among-map, Among_from_map, Among-each, Among_from_each, Among_from_append}
+use Rattle.strip_laws.proofs.Strips.{horizontal_from_rows, horizontal_rows}
+use Rattle.partitions.specs.Limits.{IsWithinLimits}
+use Rattle.skew_shapes.specs.HorizontalStrips.{counting_down, strips_on, last_of, AreHorizontalStrips}
+
+-- ---- numbers that count down
+
+pub down-tells : (high n a : ℕ) → n ≤ high + 1 → Among a (counting_down high n) → (a ≤ high) × (high < a + n)
+down-tells high zero a h m = absurd m
+down-tells high (suc n) a h (inl e) = (omega arith, omega arith)
+down-tells high (suc n) a h (inr m) = let r = down-tells (high - 1) n a (omega arith) m in let r0 = r.0 in let r1 = r.1 in (omega arith, omega arith)
+
+pub among-down : (high n a : ℕ) → a ≤ high → high < a + n → Among a (counting_down high n)
+among-down high zero a h l = absurd (omega arith)
+among-down high (suc n) a h l = elim (cases_eq a high) [ inl e ↦ inl e | inr o ↦ inr (among-down (high - 1) n a (omega arith) (omega arith)) ]
+
+down-next : (high n : ℕ) → counting_down high (n + 1) ≡ counting_down high n ++ ((high - n) ∷ [])
+down-next high zero = ap (λ a. a ∷ []) (let e : high ≡ high - 0 = omega arith in e)
+down-next high (suc n) =
+    ap (counting_down high) (let s : suc n + 1 ≡ suc (n + 1) = omega arith in s)
+    ∙ ap (λ l. high ∷ l) (down-next (high - 1) n ∙ ap (λ a. counting_down (high - 1) n ++ (a ∷ [])) (let e : high - 1 - n ≡ high - suc n = omega arith in e))
+
+-- ---- rows between rows
+
+-- each row is at least the inner one, and at most the inner one above it, the first at most `most`
+abbrev IsOver : ℕ → List ℕ → List ℕ → Type 0
+IsOver most [] [] = Unit {0}
+IsOver most [] (b ∷ outer) = (0 < b) × (b ≤ most) × (outer ≡ [])
+IsOver most (a ∷ inner) [] = ⊥
+IsOver most (a ∷ inner) (b ∷ outer) = (a ≤ b) × (b ≤ most) × IsOver a inner outer
+
+over_size : (most : ℕ) (inner outer : List ℕ) → IsOver most inner outer → (size inner ≤ size outer) × (size outer ≤ most + size inner)
+over_size most [] [] o = (omega arith, omega arith)
+over_size most [] (b ∷ outer) o = let e = ap size o.2 in let l = o.1 in (omega arith, omega arith)
+over_size most (a ∷ inner) [] o = absurd o
+over_size most (a ∷ inner) (b ∷ outer) o =
+    let r = over_size a inner outer o.2 in
+    let l = o.0 in
+    let m = o.1 in
+    let x = r.0 in
+    let y = r.1 in
+    (omega arith, omega arith)
+
+-- what a list of shapes has
+pub record IsGrown (most left : ℕ) (inner outer : List ℕ) : Type 0 where
+  pub over : IsOver most inner outer
+  pub cells : size outer ≡ size inner + left
+  pub few : rows outer ≤ rows inner + left
+
+falls_tail : (a : ℕ) (inner : List ℕ) → Falls (a ∷ inner) → Falls inner
+falls_tail a [] f = tt
+falls_tail a (b ∷ inner) f = f.1
+
+pub strips_on-tell : (most left : ℕ) (inner outer : List ℕ) → Falls (most ∷ inner) → left ≤ most → Among outer (strips_on most left inner) → IsGrown most left inner outer
+strips_on-tell most left [] outer f h m = by (left == 0) refl m
+  where
+    by : (b : Bool) → (left == 0) ≡ b → Among outer (cond b ([] ∷ []) ((left ∷ []) ∷ [])) → IsGrown most left [] outer
+    by true e (inl i) =
+        let z : left ≡ 0 = eqb-true left 0 e in
+        subst (IsGrown most left []) (sym i) (record { over = tt; cells = omega arith; few = omega arith })
+    by true e (inr m) = absurd m
+    by false e (inl i) =
+        let p : 0 < left = positive left e in
+        subst (IsGrown most left []) (sym i) (record { over = (p, h, refl); cells = omega arith; few = omega arith })
+      where
+        positive : (n : ℕ) → (n == 0) ≡ false → 0 < n
+        positive zero e = absurd (let t : true ≡ false = e in cc)
+        positive (suc n) e = omega arith
+    by false e (inr m) = absurd m
+strips_on-tell most left (a ∷ inner) outer f h m =
+    let high = min most (a + left) in
+    let fall = f.0 in
+    let found = Among_from_each (λ row. map (λ rest. row ∷ rest) (strips_on a (left + a - row) inner)) outer (counting_down (min most (a + left)) (min most (a + left) + 1 - max left a)) m in
+    let b : ℕ = found.0 in
+    let range = down-tells (min most (a + left)) (min most (a + left) + 1 - max left a) found.0 (omega arith) found.1 in
+    let low = range.0 in
+    let top = range.1 in
+    let tail = Among_from_map (λ rest. found.0 ∷ rest) outer (strips_on a (left + a - found.0) inner) found.2 in
+    let r = strips_on-tell a (left + a - found.0) inner tail.0 f.1 (omega arith) tail.1 in
+    let s = r.cells in
+    let t = r.few in
+    subst (IsGrown most left (a ∷ inner)) (sym tail.2)
+    (record { over = (omega arith, omega arith, r.over); cells = omega arith; few = omega arith })
+
+pub Among-strips_on : (most left : ℕ) (inner outer : List ℕ) → Falls (most ∷ inner) → IsOver most inner outer → size outer ≡ size inner + left → Among outer (strips_on most left inner)
+Among-strips_on most left [] [] f o s = ap_zero left (omega arith)
+  where
+    ap_zero : (n : ℕ) → n ≡ 0 → Among [] (cond (n == 0) ([] ∷ []) ((n ∷ []) ∷ []))
+    ap_zero zero e = inl refl
+    ap_zero (suc n) e = absurd (omega arith)
+Among-strips_on most left [] (b ∷ outer) f o s =
+    let e = o.2 in
+    let z = ap size o.2 in
+    let p = o.0 in
+    by (left == 0) refl (ap₂ ◌∷◌ (let q : b ≡ left = omega arith in q) e) (omega arith)
+  where
+    by : (t : Bool) → (left == 0) ≡ t → b ∷ outer ≡ left ∷ [] → 0 < left → Among (b ∷ outer) (cond t ([] ∷ []) ((left ∷ []) ∷ []))
+    by true z e p = absurd (let q = eqb-true left 0 z in omega arith)
+    by false z e p = inl e
+Among-strips_on most left (a ∷ inner) [] f o s = absurd o
+Among-strips_on most left (a ∷ inner) (b ∷ outer) f o s =
+    let fall = f.0 in
+    let l = o.0 in
+    let m = o.1 in
+    let z = over_size a inner outer o.2 in
+    let x = z.0 in
+    let y = z.1 in
+    Among-each (λ row. map (λ rest. row ∷ rest) (strips_on a (left + a - row) inner)) b (b ∷ outer) (counting_down (min most (a + left)) (min most (a + left) + 1 - max left a))
+    (among-down (min most (a + left)) (min most (a + left) + 1 - max left a) b (omega arith) (omega arith))
+    (Among-map (λ rest. b ∷ rest) outer (strips_on a (left + a - b) inner) (Among-strips_on a (left + a - b) inner outer f.1 o.2 (omega arith)))
+
+-- ---- the order
+
+pub fall-append : (xs ys : List (List ℕ)) → FallsLexicographically xs → FallsLexicographically ys
+    → ((x y : List ℕ) → Among x xs → Among y ys → falling_lexicographic x y ≡ Less) → FallsLexicographically (xs ++ ys)
+fall-append [] ys f g c = g
+fall-append (x ∷ xs) ys f g c = (
+  λ y m. ⊎_elim (λ n. f.0 y n) (λ n. c x y (inl refl) n) (Among_from_append y xs ys m),
+  fall-append xs ys f.1 g (λ a b m n. c a b (inr m) n),
+)
+
+pub fall-map : (a : ℕ) (xs : List (List ℕ)) → FallsLexicographically xs → FallsLexicographically (map (λ x. a ∷ x) xs)
+fall-map a [] f = tt
+fall-map a (x ∷ xs) f = (
+  λ y m.
+      let found = Among_from_map (λ z. a ∷ z) y xs m in
+      subst (λ z. falling_lexicographic (a ∷ x) z ≡ Less) (sym found.2)
+      (ap (λ o. ordering_then o (falling_lexicographic x found.0)) (tied_itself nat_cmp_total a) ∙ f.0 found.0 found.1),
+  fall-map a xs f.1,
+)
+
+pub greater_first : (a b : ℕ) (x y : List ℕ) → b < a → falling_lexicographic (a ∷ x) (b ∷ y) ≡ Less
+greater_first a b x y h = ap (λ o. ordering_then o (falling_lexicographic x y)) (sym (nat_cmp_is b a Less h))
+
+pub fall-each : (rest : ℕ → List (List ℕ)) (high n : ℕ) → n ≤ high + 1 → ((a : ℕ) → Among a (counting_down high n) → FallsLexicographically (rest a))
+    → FallsLexicographically (each (λ a. map (λ x. a ∷ x) (rest a)) (counting_down high n))
+fall-each rest high zero h f = tt
+fall-each rest high (suc n) h f =
+    fall-append (map (λ x. high ∷ x) (rest high)) (each (λ a. map (λ x. a ∷ x) (rest a)) (counting_down (high - 1) n))
+    (fall-map high (rest high) (f high (inl refl)))
+    (fall-each rest (high - 1) n (omega arith) (λ a m. f a (inr m)))
+    (λ x y m p.
+    let left = Among_from_map (λ z. high ∷ z) x (rest high) m in
+    let found = Among_from_each (λ a. map (λ z. a ∷ z) (rest a)) y (counting_down (high - 1) n) p in
+    let b : ℕ = found.0 in
+    let right = Among_from_map (λ z. found.0 ∷ z) y (rest found.0) found.2 in
+    let below = down-tells (high - 1) n found.0 (omega arith) found.1 in
+    let b0 = below.0 in
+    let b1 = below.1 in
+    let less = greater_first high found.0 left.0 right.0 (omega arith) in
+    subst (λ z. falling_lexicographic z y ≡ Less) (sym left.2)
+    (subst (λ z. falling_lexicographic (high ∷ left.0) z ≡ Less) (sym right.2) less))
+
+pub strips_on-fall : (most left : ℕ) (inner : List ℕ) → FallsLexicographically (strips_on most left inner)
+strips_on-fall most left [] = by (left == 0)
+  where
+    by : (b : Bool) → FallsLexicographically (cond b ([] ∷ []) ((left ∷ []) ∷ []))
+    by true = (λ y m. absurd m, tt)
+    by false = (λ y m. absurd m, tt)
+strips_on-fall most left (a ∷ inner) =
+    fall-each (λ row. strips_on a (left + a - row) inner) (min most (a + left)) (min most (a + left) + 1 - max left a) (omega arith)
+    (λ row m. strips_on-fall a (left + a - row) inner)
+
+-- ---- they are horizontal strips
+
+over-falls : (most : ℕ) (inner outer : List ℕ) → ArePositive inner → IsOver most inner outer → IsPartition outer
+over-falls most [] [] p o = record { falls = tt; positive = tt }
+over-falls most [] (b ∷ outer) p o = subst (λ l. IsPartition (b ∷ l)) (sym o.2) (record { falls = tt; positive = (o.0, tt) })
+over-falls most (a ∷ inner) [] p o = absurd o
+over-falls most (a ∷ inner) (b ∷ outer) p o =
+    let r = over-falls a inner outer p.1 o.2 in
+    record { falls = first inner outer o.2 r.falls; positive = (let x = p.0 in let y = o.0 in omega arith, r.positive) }
+  where
+    first : (inner outer : List ℕ) → IsOver a inner outer → Falls outer → Falls (b ∷ outer)
+    first inner [] q f = tt
+    first [] (c ∷ outer) q f = (let x = q.1 in let y = o.0 in omega arith, f)
+    first (d ∷ inner) (c ∷ outer) q f = (let x = q.1 in let y = o.0 in omega arith, f)
+
+over-holds : (most : ℕ) (inner outer : List ℕ) → IsOver most inner outer → (j : ℕ) → get_or inner j 0 ≤ get_or outer j 0
+over-holds most [] outer o j = omega arith
+over-holds most (a ∷ inner) [] o j = absurd o
+over-holds most (a ∷ inner) (b ∷ outer) o zero = o.0
+over-holds most (a ∷ inner) (b ∷ outer) o (suc j) = over-holds a inner outer o.2 j
+
+over-first : (most : ℕ) (inner outer : List ℕ) → IsOver most inner outer → get_or outer 0 0 ≤ most
+over-first most [] [] o = omega arith
+over-first most [] (b ∷ outer) o = o.1
+over-first most (a ∷ inner) [] o = absurd o
+over-first most (a ∷ inner) (b ∷ outer) o = o.1
+
+over-below : (most : ℕ) (inner outer : List ℕ) → IsOver most inner outer → (j : ℕ) → get_or outer (suc j) 0 ≤ get_or inner j 0
+over-below most [] [] o j = omega arith
+over-below most [] (b ∷ outer) o j = let e = ap (λ l. get_or l j 0) o.2 in omega arith
+over-below most (a ∷ inner) [] o j = absurd o
+over-below most (a ∷ inner) (b ∷ outer) o zero = over-first a inner outer o.2
+over-below most (a ∷ inner) (b ∷ outer) o (suc j) = over-below a inner outer o.2 j
+
+rows-over : (most : ℕ) (inner outer : List ℕ) → ArePositive outer → ((j : ℕ) → get_or inner j 0 ≤ get_or outer j 0) → ((j : ℕ) → get_or outer (suc j) 0 ≤ get_or inner j 0)
+    → ArePositive inner → get_or outer 0 0 ≤ most → IsOver most inner outer
+rows-over most [] [] p holds below q l = tt
+rows-over most [] (b ∷ []) p holds below q l = (p.0, l, refl)
+rows-over most [] (b ∷ c ∷ outer) p holds below q l = absurd (let x = below 0 in let y = p.1.0 in omega arith)
+rows-over most (a ∷ inner) [] p holds below q l = absurd (let x = holds 0 in let y = q.0 in omega arith)
+rows-over most (a ∷ inner) (b ∷ outer) p holds below q l =
+    (holds 0, l, rows-over a inner outer p.1 (λ j. holds (suc j)) (λ j. below (suc j)) q.1 (below 0))
+
+pub part-get : (parts : List ℕ) (j : ℕ) → part parts (j + 1) ≡ get_or parts j 0
+part-get parts j = ap (λ n. get_or parts n 0) (let e : j + 1 - 1 ≡ j = omega arith in e)
+
+pub sizes_within : (x y : List ℕ) → ((j : ℕ) → get_or x j 0 ≤ get_or y j 0) → size x ≤ size y
+sizes_within [] y h = omega arith
+sizes_within (a ∷ x) [] h = let p = h 0 in let r = sizes_within x [] (λ j. h (suc j)) in omega arith
+sizes_within (a ∷ x) (b ∷ y) h = let p = h 0 in let r = sizes_within x y (λ j. h (suc j)) in omega arith
+
+first_within : (inner outer : List ℕ) (k : ℕ) → ((j : ℕ) → get_or inner j 0 ≤ get_or outer j 0) → size outer ≡ size inner + k → get_or outer 0 0 ≤ get_or inner 0 0 + k
+first_within inner [] k h s = omega arith
+first_within [] (b ∷ outer) k h s = omega arith
+first_within (a ∷ inner) (b ∷ outer) k h s = let r = sizes_within inner outer (λ j. h (suc j)) in omega arith
+
+pub most_falls : (inner : List ℕ) (k : ℕ) → IsPartition inner → Falls ((part inner 1 + k) ∷ inner)
+most_falls [] k p = tt
+most_falls (a ∷ inner) k p = (omega arith, p.falls)
+
+pub horizontal_strips : (inner : List ℕ) (k : ℕ) → IsPartition inner → AreHorizontalStrips inner k (strips_on (part inner 1 + k) k inner)
+horizontal_strips inner k p = record {
+  falls = strips_on-fall (part inner 1 + k) k inner;
+  members = λ ν. (
+    λ m.
+        let g = strips_on-tell (part inner 1 + k) k inner ν (most_falls inner k p) (omega arith) m in
+        let is = over-falls (part inner 1 + k) inner ν p.positive g.over in (
+          is,
+          g.cells,
+          horizontal_from_rows ν inner is.falls (λ i. over-holds (part inner 1 + k) inner ν g.over (i - 1))
+              (λ i h. let e = part-get ν i in let b = over-below (part inner 1 + k) inner ν g.over (i - 1) in let s : suc (i - 1) ≡ i = omega arith in
+              let f = ap (λ n. get_or ν n 0) s in omega arith),
+        ),
+    λ is.
+        let holds = λ (j : ℕ). (let h = is.2.holds (j + 1) in let a = part-get inner j in let b = part-get ν j in let l : get_or inner j 0 ≤ get_or ν j 0 = omega arith in l) in
+        let below = λ (j : ℕ). (let h = horizontal_rows ν inner is.0.falls p.falls is.2 (j + 1) (omega arith) in let a = part-get inner j in let b = part-get ν (j + 1) in
+        let e : j + 1 ≡ suc j = omega arith in let f = ap (λ n. get_or ν n 0) e in let l : get_or ν (suc j) 0 ≤ get_or inner j 0 = omega arith in l) in
+        Among-strips_on (part inner 1 + k) k inner ν (most_falls inner k p)
+        (rows-over (part inner 1 + k) inner ν is.0.positive holds below p.positive (first_within inner ν k holds is.1)) is.1,
+  );
+}
+
+-- ---- a list of shapes, one first row after another
+
+each_append : (f : ℕ → List (List ℕ)) (xs ys : List ℕ) → each f (xs ++ ys) ≡ each f xs ++ each f ys
+each_append f [] ys = refl
+each_append f (x ∷ xs) ys = ap (λ l. f x ++ l) (each_append f xs ys) ∙ sym (append_assoc (f x) (each f xs) (each f ys))
+
+pub map_append : (g : List ℕ → List ℕ) (xs ys : List (List ℕ)) → map g (xs ++ ys) ≡ map g xs ++ map g ys
+map_append g [] ys = refl
+map_append g (x ∷ xs) ys = ap (λ l. g x ∷ l) (map_append g xs ys)
+
+pub prefix_longer : (rows : List ℕ) (row : ℕ) (xs : List (List ℕ)) → map (λ rest. (rows ++ (row ∷ [])) ++ rest) xs ≡ map (λ rest. rows ++ rest) (map (λ rest. row ∷ rest) xs)
+prefix_longer rows row [] = refl
+prefix_longer rows row (x ∷ xs) = ap₂ ◌∷◌ (append_assoc rows (row ∷ []) x) (prefix_longer rows row xs)
+
+pub append_none : (xs : List (List ℕ)) → xs ++ [] ≡ xs
+append_none [] = refl
+append_none (x ∷ xs) = ap (λ l. x ∷ l) (append_none xs)
+
+-- the first part, and those behind it as a slice holds them
+pub split_rows : (parts : List ℕ) → 1 ≤ length parts → get_or parts 0 0 ∷ take (length parts - 1) (drop 1 parts) ≡ parts
+split_rows [] h = absurd (omega arith)
+split_rows (k ∷ parts) h = ap (λ r. k ∷ r) (take_all (length (k ∷ parts) - 1) parts (omega arith))
+
+pub no_rows : (parts : List ℕ) → length parts < 1 → [] ≡ parts
+no_rows [] h = refl
+no_rows (k ∷ parts) h = absurd (omega arith)
+
+-- the shapes with one of the first rows so far
+abbrev pub grown : ℕ → ℕ → List ℕ → ℕ → List (List ℕ)
+grown a left inner row = map (λ rest. row ∷ rest) (strips_on a (left + a - row) inner)
+
+pub each-next : (later : ℕ → List (List ℕ)) (high n : ℕ) (rows longer : List ℕ) (before cur new : List (List ℕ))
+    → cur ≡ before ++ map (λ rest. rows ++ rest) (each (λ row. map (λ rest. row ∷ rest) (later row)) (counting_down high n))
+    → longer ≡ rows ++ ((high - n) ∷ []) → new ≡ cur ++ map (λ rest. longer ++ rest) (later (high - n))
+    → new ≡ before ++ map (λ rest. rows ++ rest) (each (λ row. map (λ rest. row ∷ rest) (later row)) (counting_down high (n + 1)))
+each-next later high n rows longer before cur new c l e =
+    e
+    ∙ ap₂ (λ (x : List (List ℕ)) (y : List ℕ). x ++ map (λ rest. y ++ rest) (later (high - n))) c l
+    ∙ ap (λ x. (before ++ map (λ rest. rows ++ rest) (each (λ row. map (λ rest. row ∷ rest) (later row)) (counting_down high n))) ++ x) (prefix_longer rows (high - n) (later (high - n)))
+    ∙ append_assoc before (map (λ rest. rows ++ rest) (each (λ row. map (λ rest. row ∷ rest) (later row)) (counting_down high n))) (map (λ rest. rows ++ rest) (map (λ rest. (high - n) ∷ rest) (later (high - n))))
+    ∙ ap (λ x. before ++ x)
+    (sym (map_append (λ rest. rows ++ rest) (each (λ row. map (λ rest. row ∷ rest) (later row)) (counting_down high n)) (map (λ rest. (high - n) ∷ rest) (later (high - n))))
+    ∙ ap (map (λ rest. rows ++ rest))
+    (ap (λ x. each (λ row. map (λ rest. row ∷ rest) (later row)) (counting_down high n) ++ x) (sym (append_none (map (λ rest. (high - n) ∷ rest) (later (high - n)))))
+    ∙ sym (each_append (λ row. map (λ rest. row ∷ rest) (later row)) (counting_down high n) ((high - n) ∷ []))
+    ∙ ap (each (λ row. map (λ rest. row ∷ rest) (later row))) (sym (down-next high n))))
+
+-- a shape with a further row is one of those that are listed
+pub listed_further : (most left a row n : ℕ) (inner rest : List ℕ) → n < min most (a + left) + 1 - max left a → row ≡ min most (a + left) - n → Among rest (strips_on a (left + a - row) inner)
+    → Among (row ∷ rest) (strips_on most left (a ∷ inner))
+listed_further most left a row n inner rest h e m =
+    Among-each (λ r. map (λ rest. r ∷ rest) (strips_on a (left + a - r) inner)) row (row ∷ rest) (counting_down (min most (a + left)) (min most (a + left) + 1 - max left a))
+    (among-down (min most (a + left)) (min most (a + left) + 1 - max left a) row (omega arith) (omega arith))
+    (Among-map (λ rest. row ∷ rest) rest (strips_on a (left + a - row) inner) m)
+
+pub map_rest : (xs : List (List ℕ)) → map (λ (rest : List ℕ). [] ++ rest) xs ≡ xs
+map_rest [] = refl
+map_rest (x ∷ xs) = ap (λ l. x ∷ l) (map_rest xs)
+
+-- the shapes stay within the limits where the cells and rows that are asked for do
+pub grown_limits : (inner : List ℕ) (k : ℕ) → IsPartition inner → size inner + k ≤ 4096 → rows inner + k ≤ 512
+    → (rest : List ℕ) → Among rest (strips_on (part inner 1 + k) k inner) → IsWithinLimits rest
+grown_limits inner k p cells few rest m =
+    let g = strips_on-tell (part inner 1 + k) k inner rest (most_falls inner k p) (omega arith) m in
+    let a = g.cells in
+    let b = g.few in
+    record { partition = over-falls (part inner 1 + k) inner rest p.positive g.over; few = omega arith; small = omega arith }
+
+-- behind the last row
+pub last_empty : (left : ℕ) → left ≡ 0 → strips_on left left [] ≡ [] ∷ []
+last_empty left e = ap (λ n. strips_on n n []) e
+
+pub last_row : (left : ℕ) → 0 < left → strips_on left left [] ≡ (left ∷ []) ∷ []
+last_row left h = by (left == 0) refl
+  where
+    by : (b : Bool) → (left == 0) ≡ b → cond b ([] ∷ []) ((left ∷ []) ∷ []) ≡ (left ∷ []) ∷ []
+    by true e = absurd (let z = eqb-true left 0 e in omega arith)
+    by false e = refl
+
+-- the shapes with all first rows are all of them
+pub grown_all : (most left a n : ℕ) (below rows inner : List ℕ) (before cur : List (List ℕ)) → a ∷ below ≡ inner → n ≡ min most (a + left) + 1 - max left a
+    → cur ≡ before ++ map (λ rest. rows ++ rest) (each (grown a left below) (counting_down (min most (a + left)) n)) → cur ≡ before ++ map (λ rest. rows ++ rest) (strips_on most left inner)
+grown_all most left a n below rows inner before cur split e c =
+    c ∙ ap (λ k. before ++ map (λ rest. rows ++ rest) (each (grown a left below) (counting_down (min most (a + left)) k))) e
+    ∙ ap (λ l. before ++ map (λ rest. rows ++ rest) (strips_on most left l)) split
+
+-- ---- a list as it comes
+
+next_here : (i : ℕ) (xs : List (List ℕ)) → i < length xs → drop i xs ≡ option_to_list (slice_get xs i) ++ drop (suc i) xs
+next_here i [] h = absurd (omega arith)
+next_here zero (x ∷ xs) h = refl
+next_here (suc i) (x ∷ xs) h = next_here i xs (omega arith)
+
+pub next_shape : (i : ℕ) (xs : List (List ℕ)) → i < length xs → drop i xs ≡ option_to_list (last_of (i + 1) xs) ++ drop (i + 1) xs
+next_shape i xs h = subst (λ j. drop i xs ≡ option_to_list (last_of j xs) ++ drop j xs) (sym (add-one i)) (next_here i xs h)
+
+some_here : (i : ℕ) (xs : List (List ℕ)) → i < length xs → IsSome (slice_get xs i)
+some_here i [] h = absurd (omega arith)
+some_here zero (x ∷ xs) h = refl
+some_here (suc i) (x ∷ xs) h = some_here i xs (omega arith)
+
+pub some_shape : (i : ℕ) (xs : List (List ℕ)) → i < length xs → IsSome (last_of (i + 1) xs)
+some_shape i xs h = subst (λ j. IsSome (last_of j xs)) (sym (add-one i)) (some_here i xs h)
+
+none_here : (i : ℕ) (xs : List (List ℕ)) → length xs ≤ i → slice_get xs i ≡ None
+none_here i [] h = refl
+none_here zero (x ∷ xs) h = absurd (omega arith)
+none_here (suc i) (x ∷ xs) h = none_here i xs (omega arith)
+
+pub none_shape : (n : ℕ) (xs : List (List ℕ)) → n ≡ length xs → last_of (n + 1) xs ≡ None
+none_shape n xs e = subst (λ j. last_of j xs ≡ None) (sym (add-one n)) (none_here n xs (omega arith))
+
+none_left : (i : ℕ) (xs : List (List ℕ)) → length xs ≤ i → drop i xs ≡ []
+none_left zero [] h = refl
+none_left (suc i) [] h = refl
+none_left zero (x ∷ xs) h = absurd (omega arith)
+none_left (suc i) (x ∷ xs) h = none_left i xs (omega arith)
+
+pub ended : (i n : ℕ) (xs : List (List ℕ)) → length xs ≤ i → n ≡ length xs → drop i xs ≡ option_to_list (last_of (n + 1) xs) ++ drop (n + 1) xs
+ended i n xs h e = none_left i xs h ∙ sym (ap₂ (λ (o : Option (List ℕ)) (l : List (List ℕ)). option_to_list o ++ l) (none_shape n xs e) (none_left (n + 1) xs (omega arith)))
+
+pub no_some : (o : Option (List ℕ)) → o ≡ None → IsSome o → ⊥
+no_some None e s = cc
+no_some (Some x) e s = cc

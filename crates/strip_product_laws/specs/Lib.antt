@@ -1,0 +1,2 @@
+pub mod StripLists
+pub mod StripTerms
