@@ -6,7 +6,7 @@ use Rattle.sym_model.specs.Sum.{select, Among}
 use Rattle.sym_model.specs.Partition.{IsCell, Falls, part, rows, after, cells}
 use Rattle.sym_model.specs.Polynomial.{same}
 use Rattle.sym_model.specs.Schur.{words, row_lengths, fillings_of, semistandard, contains, tableaux, letters_of}
-use Rattle.sym_model.specs.GoodTableau.{column_reading, is_among, is_good, good_tableaux, good_readings}
+use Rattle.sym_model.specs.GoodTableau.{column_reading, is_among, is_good, good_tableaux}
 use Rattle.sym_model.specs.Tableau.{are_letters}
 use Rattle.sym_model.specs.TableauList.{reading_cells, letter_of_cell, filling_of}
 use Rattle.sym_model.proofs.Exponents.{same_true, same_refl, tests_agree}
@@ -15,8 +15,6 @@ use Rattle.sym_model.proofs.AfterLists.{after_among, among_after, length_after}
 use Rattle.skew_shapes.specs.CellFillings.{filled_with, is_tableau}
 use Rattle.skew_shapes.specs.Rows.{row_by, rows_by}
 use Rattle.skew_shapes.proofs.CellRows.{lengths-rows_by, map_after-at}
-use Rattle.tableau_iter.specs.Positions.{is_good_word}
-use Rattle.tableau_iter.specs.Walks.{completions}
 use Rattle.tableau_iter.proofs.Orders.{Among-reading, length-reading, reading-whole, filling_of-reading}
 
 -- ---- letters from 1 to n
@@ -43,7 +41,7 @@ word_tells n (suc k) w m =
     let high : found.0 ≤ n = omega (arith, past.1) in
     (ap length tail.2 ∙ ap suc rest.0, subst (AreWithin n) (sym tail.2) ((low, high), rest.1))
 
-word_from : (n k : ℕ) (w : List ℕ) → length w ≡ k → AreWithin n w → Among w (words n k)
+pub word_from : (n k : ℕ) (w : List ℕ) → length w ≡ k → AreWithin n w → Among w (words n k)
 word_from n zero [] l h = inl refl
 word_from n (suc k) [] l h = absurd (omega arith)
 word_from n zero (a ∷ w) l h = absurd (omega arith)
@@ -149,7 +147,7 @@ rows-by_cells outer inner T l =
 
 -- ---- the words of the list
 
-is_among-from : (w : List ℕ) (xs : List (List ℕ)) → Among w xs → is_among w xs ≡ true
+pub is_among-from : (w : List ℕ) (xs : List (List ℕ)) → Among w xs → is_among w xs ≡ true
 is_among-from w [] m = elim m [ ]
 is_among-from w (x ∷ xs) (inl e) = ap (λ b. b || is_among w xs) (ap (same w) (sym e) ∙ same_refl w)
 is_among-from w (x ∷ xs) (inr m) = by (same w x) (is_among-from w xs m)
@@ -158,7 +156,7 @@ is_among-from w (x ∷ xs) (inr m) = by (same w x) (is_among-from w xs m)
     by true e = refl
     by false e = e
 
-is_among-tells : (w : List ℕ) (xs : List (List ℕ)) → is_among w xs ≡ true → Among w xs
+pub is_among-tells : (w : List ℕ) (xs : List (List ℕ)) → is_among w xs ≡ true → Among w xs
 is_among-tells w [] e = absurd (true≢false (sym e))
 is_among-tells w (x ∷ xs) e = by (same w x) refl e (λ h. is_among-tells w xs h)
   where
@@ -180,52 +178,66 @@ rows_positive : (n : ℕ) (rows : List (List ℕ)) → RowsWithin n rows → are
 rows_positive n [] h = refl
 rows_positive n (row ∷ rows) h = letters_append row (letters_of rows) (letters_positive n row h.0) (rows_positive n rows h.1)
 
-select-among : (test other : List ℕ → Bool) (xs : List (List ℕ)) → ((x : List ℕ) → Among x xs → test x ≡ other x) → select test xs ≡ select other xs
+pub select-among : (test other : List ℕ → Bool) (xs : List (List ℕ)) → ((x : List ℕ) → Among x xs → test x ≡ other x) → select test xs ≡ select other xs
 select-among test other [] h = refl
 select-among test other (x ∷ xs) h = ap₂ (λ b l. cond b (x ∷ l) l) (h x (inl refl)) (select-among test other xs (λ y m. h y (inr m)))
 
-good-listed :
-    (k : ℕ) (start outer inner w : List ℕ) → Falls outer → contains outer inner ≡ true → rows start ≤ k
+-- a word among the readings of the tableaux that pass a test
+selected-listed :
+    (k : ℕ) (test : List (List ℕ) → Bool) (outer inner w : List ℕ) → Falls outer → contains outer inner ≡ true
     → Among w (words k (length (cells outer inner)))
-    → is_among w (map (column_reading outer inner) (good_tableaux k start outer inner)) ≡ is_good_word k start outer inner w
-good-listed k start outer inner w f holds few m =
-    let readings = map (column_reading outer inner) (good_tableaux k start outer inner) in
-    let listed = select (is_good k start outer inner) (tableaux k outer inner) in
+    → is_among w (map (column_reading outer inner) (select test (tableaux k outer inner))) ≡ (is_tableau (filled_with outer inner w) && test (filling_of outer inner w))
+selected-listed k test outer inner w f holds m =
+    let readings = map (column_reading outer inner) (select test (tableaux k outer inner)) in
     let all = select (semistandard inner) (fillings_of k (row_lengths outer inner)) in
-    let good_is : good_tableaux k start outer inner ≡ select (is_good k start outer inner) (tableaux k outer inner) =
-    ap (λ b. cond b listed []) (le-leb (rows start) k few) in
     let tableaux_are : tableaux k outer inner ≡ select (semistandard inner) (fillings_of k (row_lengths outer inner)) =
     ap (λ b. cond b all []) holds in
     let word = word_tells k (length (cells outer inner)) w m in
     let long : length w ≡ length (reading_cells outer inner) = word.0 ∙ sym (length-reading outer inner f) in
     let T = filling_of outer inner w in
-    tests_agree (is_among w readings) (is_good_word k start outer inner w)
+    tests_agree (is_among w readings) (is_tableau (filled_with outer inner w) && test T)
     (λ e.
-    let found = Among_from_map (column_reading outer inner) w (good_tableaux k start outer inner) (is_among-tells w readings e) in
+    let found = Among_from_map (column_reading outer inner) w (select test (tableaux k outer inner)) (is_among-tells w readings e) in
     let S = found.0 in
-    let good = Among_from_select (is_good k start outer inner) S (tableaux k outer inner) (subst (Among S) good_is found.1) in
+    let good = Among_from_select test S (tableaux k outer inner) found.1 in
     let tableau = Among_from_select (semistandard inner) S (fillings_of k (row_lengths outer inner)) (subst (Among S) tableaux_are good.0) in
     let shape = filling_tells k (row_lengths outer inner) S tableau.0 in
     let same : filling_of outer inner w ≡ found.0 =
     ap (filling_of outer inner) (found.2 ∙ ap (column_reading outer inner) (rows-by_cells outer inner S shape.0))
     ∙ filling_of-reading (letter_of inner S) outer inner f ∙ sym (rows-by_cells outer inner S shape.0) in
-    ap (λ X. (are_letters (letters_of X) && semistandard inner X) && is_good k start outer inner X) same
-    ∙ ap₂ (λ a b. (a && b) && is_good k start outer inner S) (rows_positive k S shape.1) tableau.1 ∙ good.1)
+    ap (λ X. (are_letters (letters_of X) && semistandard inner X) && test X) same
+    ∙ ap₂ (λ a b. (a && b) && test S) (rows_positive k S shape.1) tableau.1 ∙ good.1)
     (λ e.
-    let both = and_parts (is_tableau (filled_with outer inner w)) (is_good k start outer inner T) e in
+    let both = and_parts (is_tableau (filled_with outer inner w)) (test T) e in
     let order = and_parts (are_letters (letters_of T)) (semistandard inner T) both.0 in
     let lengths = lengths-rows_by (λ row column. letter_of_cell row column (reading_cells outer inner) w) outer inner in
     let filling = filling_from k (row_lengths outer inner) T lengths (filling-within k outer inner w f long word.1) in
     let tableau = subst (Among T) (sym tableaux_are) (Among-select (semistandard inner) T (fillings_of k (row_lengths outer inner)) filling order.1) in
-    let good = subst (Among T) (sym good_is) (Among-select (is_good k start outer inner) T (tableaux k outer inner) tableau both.1) in
     is_among-from w readings
     (subst (λ v. Among v readings) (reading-whole outer inner w long)
-    (Among-map (column_reading outer inner) T (good_tableaux k start outer inner) good)))
+    (Among-map (column_reading outer inner) T (select test (tableaux k outer inner)) (Among-select test T (tableaux k outer inner) tableau both.1))))
 
--- the list of the good readings by the test of words
-pub good_readings-completions :
-    (k : ℕ) (start outer inner : List ℕ) → Falls outer → contains outer inner ≡ true → rows start ≤ k
-    → completions (is_good_word k start outer inner) k (length (cells outer inner)) [] ≡ good_readings k start outer inner
-good_readings-completions k start outer inner f holds few =
-    sym (select-among (λ w. is_among w (map (column_reading outer inner) (good_tableaux k start outer inner))) (is_good_word k start outer inner)
-    (words k (length (cells outer inner))) (λ w m. good-listed k start outer inner w f holds few m))
+pub good-listed :
+    (k : ℕ) (start outer inner w : List ℕ) → Falls outer → contains outer inner ≡ true → rows start ≤ k
+    → Among w (words k (length (cells outer inner)))
+    → is_among w (map (column_reading outer inner) (good_tableaux k start outer inner))
+    ≡ (is_tableau (filled_with outer inner w) && is_good k start outer inner (filling_of outer inner w))
+good-listed k start outer inner w f holds few m =
+    let listed = select (is_good k start outer inner) (tableaux k outer inner) in
+    ap (λ l. is_among w (map (column_reading outer inner) l)) (ap (λ b. cond b listed []) (le-leb (rows start) k few))
+    ∙ selected-listed k (is_good k start outer inner) outer inner w f holds m
+
+pub tableau-listed :
+    (k : ℕ) (outer inner w : List ℕ) → Falls outer → contains outer inner ≡ true → Among w (words k (length (cells outer inner)))
+    → is_among w (map (column_reading outer inner) (tableaux k outer inner)) ≡ is_tableau (filled_with outer inner w)
+tableau-listed k outer inner w f holds m =
+    ap (λ l. is_among w (map (column_reading outer inner) l)) (sym (all (tableaux k outer inner)))
+    ∙ selected-listed k (λ T. true) outer inner w f holds m ∙ and_true (is_tableau (filled_with outer inner w))
+  where
+    all : (xs : List (List (List ℕ))) → select (λ T. true) xs ≡ xs
+    all [] = refl
+    all (x ∷ xs) = ap (λ l. x ∷ l) (all xs)
+
+    and_true : (b : Bool) → (b && true) ≡ b
+    and_true true = refl
+    and_true false = refl

@@ -4,3 +4,12 @@ pub mod Orders
 pub mod GoodWords
 pub mod Sums
 pub mod Neighbours
+pub mod Resuming
+pub mod Places
+pub mod Tableaux
+pub mod FrontContents
+pub mod LetterCounts
+pub mod FittingWords
+pub mod LetterChoice
+pub mod Boards
+pub mod Starts

@@ -1,13 +1,13 @@
 -- Neighbours in a tableau, and their letters in its column reading.
-use Rattle.std.proofs.Common.{◌≡◌, ℕ, zero, suc, ◌+◌, ◌-◌, ◌<◌, ◌≤◌, Bool, true, false, ◌&&◌, cond, leb, ltb, nat_lt, List, [], ◌∷◌, ◌++◌, map, length, take, drop, get_or, ◌∙◌, ap, ap₂, sym, refl, subst, arith, append-nil, length-append, eqb, inl, inr, ◌⊎◌}
-use Rattle.std.proofs.lemmas.Bool.{and_parts, leb-true, ltb-true, lt-ltb, eqb-true}
-use Rattle.std.proofs.lemmas.List.{get_or-drop, length-drop, length-map, take_all, length-take, get_or-take, get_or_append_left}
+use Rattle.std.proofs.Common.{◌≡◌, ℕ, zero, suc, ◌+◌, ◌-◌, ◌<◌, ◌≤◌, Bool, true, ◌&&◌, cond, leb, ltb, nat_lt, List, [], ◌∷◌, ◌++◌, map, length, drop, get_or, ◌∙◌, ap, ap₂, sym, refl, subst, arith, append-nil, inl, inr}
+use Rattle.std.proofs.lemmas.Bool.{and_parts, leb-true, ltb-true, lt-ltb}
+use Rattle.std.proofs.lemmas.List.{get_or-drop, length-drop, length-map, take_all}
 use Rattle.sym_model.specs.Sum.{Among, Once}
 use Rattle.sym_model.specs.Partition.{IsCell, Falls, part, after}
-use Rattle.sym_model.specs.Schur.{words, row_rises, columns_rise, semistandard, letters_of}
-use Rattle.sym_model.specs.GoodTableau.{every, is_good}
+use Rattle.sym_model.specs.Schur.{row_rises, columns_rise, semistandard, letters_of}
+use Rattle.sym_model.specs.GoodTableau.{every}
 use Rattle.sym_model.specs.Tableau.{are_letters}
-use Rattle.sym_model.specs.TableauList.{reading_cells, letter_of_cell, filling_of}
+use Rattle.sym_model.specs.TableauList.{reading_cells, letter_of_cell}
 use Rattle.sym_model.proofs.AfterLists.{length_after}
 use Rattle.strip_laws.proofs.Strips.{falls_part}
 use Rattle.skew_shapes.specs.CellFillings.{filled_with, is_tableau, row_of}
@@ -15,15 +15,11 @@ use Rattle.skew_shapes.specs.Rows.{row_by, rows_by}
 use Rattle.skew_shapes.specs.RowTests.{row_passes, stands_below}
 use Rattle.skew_shapes.proofs.CellRows.{map_after-at, row_of-rows_by, cell_row}
 use Rattle.skew_shapes.proofs.RowOrder.{tests-rows}
-use Rattle.tableau_iter.specs.Positions.{Clash, clashes_at, comes_next, is_good_word}
-use Rattle.tableau_iter.specs.Walks.{completions}
-use Rattle.tableau_iter.proofs.GoodWords.{word_tells}
 use Rattle.tableau_iter.proofs.Orders.{Once-reading, letters-front, reading_cell}
-use Rattle.tableau_iter.proofs.Sums.{select-none}
 
 -- ---- tests at a place
 
-every_after-at : (test : ℕ → Bool) (a k i : ℕ) → every test (after a k) ≡ true → i < k → test (a + i + 1) ≡ true
+pub every_after-at : (test : ℕ → Bool) (a k i : ℕ) → every test (after a k) ≡ true → i < k → test (a + i + 1) ≡ true
 every_after-at test a zero i e h = absurd (omega arith)
 every_after-at test a (suc k) zero e h =
     let same : a + 0 + 1 ≡ a + 1 = omega arith in
@@ -126,7 +122,7 @@ right-at_least f outer inner i j e c d =
 
 -- ---- the letters of the word
 
-get-map : (g : ℕ × ℕ → ℕ) (xs : List (ℕ × ℕ)) (q : ℕ) (d : ℕ × ℕ) → q < length xs → get_or (map g xs) q 0 ≡ g (get_or xs q d)
+pub get-map : (g : ℕ × ℕ → ℕ) (xs : List (ℕ × ℕ)) (q : ℕ) (d : ℕ × ℕ) → q < length xs → get_or (map g xs) q 0 ≡ g (get_or xs q d)
 get-map g [] q d h = absurd (omega arith)
 get-map g (x ∷ xs) zero d h = refl
 get-map g (x ∷ xs) (suc q) d h = get-map g xs q d (omega arith)
@@ -146,15 +142,15 @@ letter-at outer inner w q i j l h e =
     ∙ get-map (λ (c : ℕ × ℕ). letter_of_cell c.0 c.1 (reading_cells outer inner) w) cells q (i, j) (omega arith)
     ∙ ap (λ (c : ℕ × ℕ). letter_of_cell c.0 c.1 (reading_cells outer inner) w) e
 
-Among-get : (cells : List (ℕ × ℕ)) (q : ℕ) (d : ℕ × ℕ) → q < length cells → Among (get_or cells q d) cells
+pub Among-get : (cells : List (ℕ × ℕ)) (q : ℕ) (d : ℕ × ℕ) → q < length cells → Among (get_or cells q d) cells
 Among-get [] q d h = absurd (omega arith)
 Among-get (c ∷ cells) zero d h = inl refl
 Among-get (c ∷ cells) (suc q) d h = inr (Among-get cells q d (omega arith))
 
-same_pair : (i j : ℕ) (c : ℕ × ℕ) → i ≡ c.0 → j ≡ c.1 → ◌≡◌ {A = ℕ × ℕ} (i, j) c
+pub same_pair : (i j : ℕ) (c : ℕ × ℕ) → i ≡ c.0 → j ≡ c.1 → ◌≡◌ {A = ℕ × ℕ} (i, j) c
 same_pair i j c e f = ap₂ {C = ℕ × ℕ} (λ u v. (u, v)) e f
 
-cell-at :
+pub cell-at :
     (cells : List (ℕ × ℕ)) (lines ranks : List ℕ) (q i j : ℕ) → lines ≡ map (λ (c : ℕ × ℕ). c.0) cells → ranks ≡ map (λ (c : ℕ × ℕ). c.1) cells
     → q < length cells → get_or lines q 0 ≡ i → get_or ranks q 0 ≡ j → get_or cells q (i, j) ≡ (i, j)
 cell-at cells lines ranks q i j el er h a b =
@@ -162,7 +158,7 @@ cell-at cells lines ranks q i j el er h a b =
     (sym a ∙ ap (λ xs. get_or xs q 0) el ∙ get-map (λ (c : ℕ × ℕ). c.0) cells q (i, j) h)
     (sym b ∙ ap (λ xs. get_or xs q 0) er ∙ get-map (λ (c : ℕ × ℕ). c.1) cells q (i, j) h))
 
-is_cell :
+pub is_cell :
     (outer inner : List ℕ) (q i j : ℕ) → q < length (reading_cells outer inner) → get_or (reading_cells outer inner) q (i, j) ≡ (i, j) → IsCell outer inner i j
 is_cell outer inner q i j h e =
     reading_cell outer inner (i, j)
@@ -170,7 +166,7 @@ is_cell outer inner q i j h e =
 
 -- ---- letters that can't stand so
 
-no_above :
+pub no_above :
     (outer inner w : List ℕ) (q p i j : ℕ) → Falls inner → length w ≡ length (reading_cells outer inner) → q < length w → p < length w
     → get_or (reading_cells outer inner) q (i, j) ≡ (i, j) → get_or (reading_cells outer inner) p (i + 1, j) ≡ (i + 1, j) → get_or w p 0 ≤ get_or w q 0
     → is_tableau (filled_with outer inner w) ≡ true → ⊥
@@ -184,7 +180,7 @@ no_above outer inner w q p i j falls l h m d e clash good =
       letter-at outer inner w p (i + 1) j l m e,
     )
 
-no_right :
+pub no_right :
     (outer inner w : List ℕ) (q p i j : ℕ) → length w ≡ length (reading_cells outer inner) → q < length w → p < length w
     → get_or (reading_cells outer inner) q (i, j + 1) ≡ (i, j + 1) → get_or (reading_cells outer inner) p (i, j) ≡ (i, j) → get_or w q 0 < get_or w p 0
     → is_tableau (filled_with outer inner w) ≡ true → ⊥
@@ -197,65 +193,3 @@ no_right outer inner w q p i j l h m d e clash good =
       letter-at outer inner w q i (j + 1) l h d,
       letter-at outer inner w p i j l m e,
     )
-
-next_is : (a b : ℕ) → comes_next a b ≡ true → b ≡ a + 1
-next_is a b e =
-    let parts = and_parts (nat_lt a b) (eqb (b - a) 1) e in
-    omega (arith, ltb-true a b parts.0, eqb-true (b - a) 1 parts.1)
-
-choice : (b x y : Bool) → cond b x y ≡ true → ((b ≡ true) × (x ≡ true)) ⊎ (y ≡ true)
-choice true x y e = inl (refl, e)
-choice false x y e = inr e
-
-clash-never :
-    (outer inner word lines ranks w : List ℕ) (p q : ℕ) → Falls inner → length w ≡ length (reading_cells outer inner)
-    → lines ≡ map (λ (c : ℕ × ℕ). c.0) (reading_cells outer inner) → ranks ≡ map (λ (c : ℕ × ℕ). c.1) (reading_cells outer inner)
-    → q < p → p < length w → get_or w p 0 ≡ get_or word p 0 → get_or w q 0 ≡ get_or word q 0
-    → clashes_at lines ranks word p q ≡ true → is_tableau (filled_with outer inner w) ≡ true → ⊥
-clash-never outer inner word lines ranks w p q falls l el er b h here there clash good =
-    elim (choice (eqb (get_or ranks q 0) (get_or ranks p 0))
-    (comes_next (get_or lines q 0) (get_or lines p 0) && leb (get_or word p 0) (get_or word q 0))
-    (eqb (get_or lines q 0) (get_or lines p 0) && (comes_next (get_or ranks p 0) (get_or ranks q 0) && nat_lt (get_or word q 0) (get_or word p 0)))
-    clash) [
-      | inl e ↦
-          let parts = and_parts (comes_next (get_or lines q 0) (get_or lines p 0)) (leb (get_or word p 0) (get_or word q 0)) e.1 in
-          let low = leb-true (get_or word p 0) (get_or word q 0) parts.1 in
-          no_above outer inner w q p (get_or lines q 0) (get_or ranks q 0) falls l (omega arith) h
-          (cell-at (reading_cells outer inner) lines ranks q (get_or lines q 0) (get_or ranks q 0) el er (omega arith) refl refl)
-          (cell-at (reading_cells outer inner) lines ranks p (get_or lines q 0 + 1) (get_or ranks q 0) el er (omega arith)
-          (next_is (get_or lines q 0) (get_or lines p 0) parts.0) (sym (eqb-true (get_or ranks q 0) (get_or ranks p 0) e.0)))
-          (omega (arith, low, here, there)) good
-      | inr e ↦
-          let parts =
-          and_parts (eqb (get_or lines q 0) (get_or lines p 0)) (comes_next (get_or ranks p 0) (get_or ranks q 0) && nat_lt (get_or word q 0) (get_or word p 0)) e in
-          let later = and_parts (comes_next (get_or ranks p 0) (get_or ranks q 0)) (nat_lt (get_or word q 0) (get_or word p 0)) parts.1 in
-          let low = ltb-true (get_or word q 0) (get_or word p 0) later.1 in
-          no_right outer inner w q p (get_or lines p 0) (get_or ranks p 0) l (omega arith) h
-          (cell-at (reading_cells outer inner) lines ranks q (get_or lines p 0) (get_or ranks p 0 + 1) el er (omega arith)
-          (eqb-true (get_or lines q 0) (get_or lines p 0) parts.0) (next_is (get_or ranks p 0) (get_or ranks q 0) later.0))
-          (cell-at (reading_cells outer inner) lines ranks p (get_or lines p 0) (get_or ranks p 0) el er (omega arith) refl refl)
-          (omega (arith, low, here, there)) good
-    ]
-
-pub no_completion-clash :
-    (k : ℕ) (start outer inner word lines ranks : List ℕ) (p : ℕ) → Falls inner → length word ≡ length (reading_cells outer inner)
-    → lines ≡ map (λ (c : ℕ × ℕ). c.0) (reading_cells outer inner) → ranks ≡ map (λ (c : ℕ × ℕ). c.1) (reading_cells outer inner)
-    → p < length word → Clash lines ranks word p
-    → completions (is_good_word k start outer inner) k (length word - (p + 1)) (take (p + 1) word) ≡ []
-no_completion-clash k start outer inner word lines ranks p falls l el er h clash =
-    let before = clash.before in
-    let long : length (take (p + 1) word) ≡ p + 1 = omega (arith, length-take (p + 1) word) in
-    select-none (λ w. is_good_word k start outer inner (take (p + 1) word ++ w)) (words k (length word - (p + 1)))
-    (λ w m.
-    let rest = (word_tells k (length word - (p + 1)) w m).0 in
-    let whole : length (take (p + 1) word ++ w) ≡ length (reading_cells outer inner) = omega (arith, length-append (take (p + 1) word) w) in
-    let same : (q : ℕ) → q ≤ p → get_or (take (p + 1) word ++ w) q 0 ≡ get_or word q 0 =
-    λ q b. get_or_append_left (take (p + 1) word) w 0 q (omega arith) ∙ get_or-take (p + 1) word q 0 (omega arith) in
-    ap (λ b. b && is_good k start outer inner (filling_of outer inner (take (p + 1) word ++ w)))
-    (never (is_tableau (filled_with outer inner (take (p + 1) word ++ w)))
-    (clash-never outer inner word lines ranks (take (p + 1) word ++ w) p clash.other falls whole el er before (omega arith) (same p (omega arith))
-    (same clash.other (omega arith)) clash.clash)))
-  where
-    never : (b : Bool) → (b ≡ true → ⊥) → b ≡ false
-    never true f = absurd (f refl)
-    never false f = refl

@@ -17,7 +17,7 @@ use Rattle.skew_shapes.proofs.CellCounts.{row_cells, each-append}
 
 -- ---- the cells of the reading
 
-Among-reversed : (x : ℕ) (xs : List ℕ) → Among x xs → Among x (reverse xs)
+pub Among-reversed : (x : ℕ) (xs : List ℕ) → Among x xs → Among x (reverse xs)
 Among-reversed x [] m = elim m [ ]
 Among-reversed x (y ∷ xs) m = subst (Among x) (sym (reverse-append (y ∷ []) xs)) (by m (λ n. Among-reversed x xs n))
   where
@@ -60,7 +60,7 @@ reading_cell outer inner c m =
     let found = Among_from_each (column_cells outer inner) c (reverse (after 0 (columns outer))) m in
     (column_cell outer inner found.0 c found.2).0
 
-columns_far : (outer : List ℕ) (i : ℕ) → Falls outer → 1 ≤ i → part outer i ≤ columns outer
+pub columns_far : (outer : List ℕ) (i : ℕ) → Falls outer → 1 ≤ i → part outer i ≤ columns outer
 columns_far outer i f h = falls_far outer f 1 i (omega arith) h
 
 pub Among-reading :
@@ -190,7 +190,7 @@ letter-read f (d ∷ cells) c m = elim (cases_eq d.0 c.0) [
 
 -- ---- the reading as prefixes of the word
 
-after-split : (a m n : ℕ) → after a (m + n) ≡ after a m ++ after (a + m) n
+pub after-split : (a m n : ℕ) → after a (m + n) ≡ after a m ++ after (a + m) n
 after-split a zero n = ap₂ (λ x k. after x k) (omega arith) (omega arith)
 after-split a (suc m) n =
     let e : suc m + n ≡ suc (m + n) = omega arith in

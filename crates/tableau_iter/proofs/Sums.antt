@@ -1,28 +1,19 @@
 -- Start plus the content of the fronts of a word.
-use Rattle.std.proofs.Common.{◌≡◌, ℕ, zero, suc, ◌+◌, ◌-◌, ◌<◌, ◌≤◌, Bool, ◌&&◌, List, [], ◌∷◌, ◌++◌, map, length, get_or, reverse, ◌∙◌, ap, ap₂, sym, refl, arith, length-append, true, false, ◌||◌, cond, inl, inr, take}
-use Rattle.std.proofs.lemmas.Bool.{cases_eq, ne_eqb, true≢false}
-use Rattle.std.proofs.lemmas.List.{length-take}
-use Rattle.std.proofs.Math.Seq.{take-append_seam}
-use Rattle.sym_model.specs.Bases.{has}
+use Rattle.std.proofs.Common.{◌≡◌, ℕ, zero, suc, ◌+◌, ◌-◌, ◌<◌, ◌≤◌, Bool, ◌&&◌, List, [], ◌∷◌, map, length, get_or, reverse, ◌∙◌, ap, ap₂, sym, refl, arith, length-append, false, cond, inl, inr, take}
 use Rattle.sym_model.specs.Sum.{each, select, Among}
-use Rattle.sym_model.specs.Partition.{Falls, columns, rows, after, cells}
+use Rattle.sym_model.specs.Partition.{columns, rows, after}
 use Rattle.sym_model.specs.Polynomial.{join}
-use Rattle.sym_model.specs.Schur.{words, content, times_in}
+use Rattle.sym_model.specs.Schur.{content, times_in}
 use Rattle.sym_model.specs.GoodTableau.{every, is_falling, is_good, reading_right_of}
 use Rattle.sym_model.specs.TableauList.{column_cells, reading_cells, filling_of}
 use Rattle.skew_shapes.specs.Rows.{cells_right_of}
 use Rattle.skew_shapes.proofs.CellRows.{map_after-ext}
-use Rattle.skew_shapes.proofs.CellReadings.{right-more, right-all}
-use Rattle.partitions.proofs.Conjugates.{map_after-more}
-use Rattle.skew_shapes.specs.CellFillings.{filled_with, is_tableau}
-use Rattle.tableau_iter.specs.Walks.{completions}
-use Rattle.tableau_iter.specs.Positions.{AreWithinLength, falls_at, is_good_word}
-use Rattle.tableau_iter.proofs.GoodWords.{list_by, word_tells}
-use Rattle.tableau_iter.proofs.Orders.{length-reading, reading_split, reading-prefix}
+use Rattle.tableau_iter.proofs.GoodWords.{list_by}
+use Rattle.tableau_iter.proofs.Orders.{reading_split, reading-prefix}
 
 -- ---- start plus a content, place by place
 
-join_after :
+pub join_after :
     (start : List ℕ) (g : ℕ → ℕ) (a k : ℕ) → length start ≤ k
     → join start (map g (after a k)) ≡ map (λ j. get_or start (j - (a + 1)) 0 + g j) (after a k)
 join_after [] g a k h = map_after-ext g (λ j. get_or {A = ℕ} [] (j - (a + 1)) 0 + g j) a k (λ j l m. omega arith)
@@ -47,36 +38,14 @@ sums-join sums start word k l h e =
 
 -- ---- the ends of the columns
 
-pub column_step :
-    (outer inner : List ℕ) (column count left : ℕ) → column < columns outer → left ≡ length (cells_right_of outer inner column)
-    → count ≡ length (column_cells outer inner (column + 1)) → left ≡ length (cells_right_of outer inner (column + 1)) + count
-column_step outer inner column count left h l c =
-    let here : column + 1 - 1 ≡ column = omega arith in
-    let more = right-more outer inner (column + 1) (omega arith) (omega arith) in
-    omega (
-      arith,
-      l,
-      c,
-      ap (λ n. length (cells_right_of outer inner n)) here,
-      ap (λ (cells : List (ℕ × ℕ)). length cells) more,
-      length-append (cells_right_of outer inner (column + 1)) (column_cells outer inner (column + 1)),
-    )
+-- no number is greater than the length
+abbrev pub AreWithinLength : List ℕ → ℕ → Type 0
+AreWithinLength [] n = Unit {0}
+AreWithinLength (a ∷ numbers) n = (a ≤ n) × AreWithinLength numbers n
 
-pub ends-more :
-    (outer inner ends new : List ℕ) (column left : ℕ)
-    → ends ≡ map (λ j. length (cells_right_of outer inner j)) (0 ∷ after 0 column) → left ≡ length (cells_right_of outer inner (column + 1))
-    → new ≡ ends ++ left ∷ [] → new ≡ map (λ j. length (cells_right_of outer inner j)) (0 ∷ after 0 (column + 1))
-ends-more outer inner ends new column left e l p =
-    p ∙ ap₂ (λ xs n. xs ++ n ∷ []) e l
-    ∙ ap (λ xs. length (cells_right_of outer inner 0) ∷ xs) (sym (map_after-more (λ j. length (cells_right_of outer inner j)) column))
-
-pub all-cells : (outer inner : List ℕ) → Falls outer → length (cells outer inner) ≡ length (cells_right_of outer inner 0)
-all-cells outer inner f = sym (length-reading outer inner f) ∙ sym (ap (λ (cells : List (ℕ × ℕ)). length cells) (right-all outer inner))
-
-pub within_at : (ends : List ℕ) (n i : ℕ) → AreWithinLength ends n → get_or ends i 0 ≤ n
-within_at [] n i h = omega arith
-within_at (a ∷ ends) n zero h = h.0
-within_at (a ∷ ends) n (suc i) h = within_at ends n i h.1
+-- whether start plus the content of a front of the word falls
+abbrev pub falls_at : ℕ → List ℕ → List ℕ → ℕ → Bool
+falls_at k start word end = is_falling (join start (content k (take end word)))
 
 within_map : (g : ℕ → ℕ) (a k n : ℕ) → ((j : ℕ) → j ≤ a + k → g j ≤ n) → AreWithinLength (map g (after a k)) n
 within_map g a zero n h = tt
@@ -118,45 +87,9 @@ is_good-ends k start outer inner word l =
     (every-after (λ j. falls_at k start word (length (cells_right_of outer inner j)))
     (λ j. is_falling (join start (content k (reading_right_of j outer inner (filling_of outer inner word))))) 0 (columns outer) same)
 
--- ---- fronts that can't be continued
-
-every_has : (test : ℕ → Bool) (e : ℕ) (xs : List ℕ) → has e xs ≡ true → test e ≡ false → every test xs ≡ false
-every_has test e [] h f = absurd (true≢false (sym h))
-every_has test e (x ∷ xs) h f = elim (cases_eq x e) [
-  | inl s ↦ ap (λ b. b && every test xs) (ap test s ∙ f)
-  | inr n ↦
-      ap (λ b. test x && b) (every_has test e xs (sym (ap (λ b. b || has e xs) (ne_eqb x e n)) ∙ h) f) ∙ never (test x)
-]
-  where
-    never : (b : Bool) → (b && false) ≡ false
-    never true = refl
-    never false = refl
+-- ---- words of which none passes
 
 pub select-none : (test : List ℕ → Bool) (xs : List (List ℕ)) → ((x : List ℕ) → Among x xs → test x ≡ false) → select test xs ≡ []
 select-none test [] h = refl
 select-none test (x ∷ xs) h =
     ap (λ b. cond b (x ∷ select test xs) (select test xs)) (h x (inl refl)) ∙ select-none test xs (λ y m. h y (inr m))
-
-pub no_completion :
-    (k : ℕ) (start outer inner word : List ℕ) (count : ℕ) → length word ≡ length (reading_cells outer inner) → count ≤ length word
-    → has count (map (λ j. length (cells_right_of outer inner j)) (0 ∷ after 0 (columns outer))) ≡ true
-    → falls_at k start word count ≡ false
-    → completions (is_good_word k start outer inner) k (length word - count) (take count word) ≡ []
-no_completion k start outer inner word count l h e f =
-    let front = take count word in
-    let long : length (take count word) ≡ count = omega (arith, length-take count word) in
-    select-none (λ w. is_good_word k start outer inner (front ++ w)) (words k (length word - count))
-    (λ w m.
-    let rest = (word_tells k (length word - count) w m).0 in
-    let whole : length (take count word ++ w) ≡ length (reading_cells outer inner) = omega (arith, length-append front w) in
-    let same : take count (take count word ++ w) ≡ take count word =
-    ap (λ n. take n (front ++ w)) (sym long) ∙ take-append_seam front w in
-    let fails : falls_at k start (take count word ++ w) count ≡ false = ap (λ v. is_falling (join start (content k v))) same ∙ f in
-    ap (λ b. is_tableau (filled_with outer inner (front ++ w)) && b)
-    (sym (is_good-ends k start outer inner (front ++ w) whole)
-    ∙ every_has (falls_at k start (front ++ w)) count (map (λ j. length (cells_right_of outer inner j)) (0 ∷ after 0 (columns outer))) e fails)
-    ∙ never (is_tableau (filled_with outer inner (front ++ w))))
-  where
-    never : (b : Bool) → (b && false) ≡ false
-    never true = refl
-    never false = refl

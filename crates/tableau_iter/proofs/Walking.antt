@@ -1,11 +1,12 @@
 -- The words that pass a test, one after the other.
-use Rattle.std.proofs.Common.{◌≡◌, ℕ, suc, ◌+◌, ◌-◌, ◌<◌, ◌≤◌, Bool, true, false, cond, List, [], ◌∷◌, ◌++◌, map, length, ◌∙◌, ap, ap₂, sym, refl, arith, append_assoc, append-nil}
+use Rattle.std.proofs.Common.{◌≡◌, ℕ, zero, suc, ◌+◌, ◌-◌, ◌<◌, ◌≤◌, Bool, true, false, ◌&&◌, cond, List, [], ◌∷◌, ◌++◌, map, length, ◌∙◌, ap, ap₂, sym, refl, arith, append_assoc, append-nil}
 use Rattle.sym_model.specs.Sum.{each, select}
 use Rattle.sym_model.specs.Partition.{after}
 use Rattle.sym_model.specs.Schur.{words}
+use Rattle.tableau_iter.specs.Fits.{all_fit}
 use Rattle.tableau_iter.specs.Walks.{completions, continued, later}
 
-select-append : {A : Type 0} (test : A → Bool) (xs ys : List A) → select test (xs ++ ys) ≡ select test xs ++ select test ys
+pub select-append : {A : Type 0} (test : A → Bool) (xs ys : List A) → select test (xs ++ ys) ≡ select test xs ++ select test ys
 select-append test [] ys = refl
 select-append test (x ∷ xs) ys = by (test x) (select-append test xs ys)
   where
@@ -25,6 +26,15 @@ select-map test g (x ∷ xs) = by (test (g x)) (select-map test g xs)
     by : (b : Bool) → select test (map g xs) ≡ map g (select (λ x. test (g x)) xs)
         → cond b (g x ∷ select test (map g xs)) (select test (map g xs)) ≡ map g (cond b (x ∷ select (λ x. test (g x)) xs) (select (λ x. test (g x)) xs))
     by true e = ap (λ l. g x ∷ l) e
+    by false e = e
+
+pub select-select : {A : Type 0} (f g : A → Bool) (xs : List A) → select g (select f xs) ≡ select (λ (x : A). f x && g x) xs
+select-select f g [] = refl
+select-select f g (x ∷ xs) = by (f x) (select-select f g xs)
+  where
+    by : (b : Bool) → select g (select f xs) ≡ select (λ x. f x && g x) xs
+        → select g (cond b (x ∷ select f xs) (select f xs)) ≡ cond (b && g x) (x ∷ select (λ x. f x && g x) xs) (select (λ x. f x && g x) xs)
+    by true e = ap (λ l. cond (g x) (x ∷ l) l) e
     by false e = e
 
 pub select-ext : (test other : List ℕ → Bool) (xs : List (List ℕ)) → ((x : List ℕ) → test x ≡ other x) → select test xs ≡ select other xs
@@ -106,6 +116,47 @@ pub completions-end :
     (test : List ℕ → Bool) (k : ℕ) (front : List ℕ) → test front ≡ true → completions test k 0 front ≡ [] ∷ []
 completions-end test k front e = ap (λ b. cond b ([] ∷ []) []) (ap test (append-nil front) ∙ e)
 
-pub completions-fail :
-    (test : List ℕ → Bool) (k : ℕ) (front : List ℕ) → test front ≡ false → completions test k 0 front ≡ []
-completions-fail test k front e = ap (λ b. cond b ([] ∷ []) []) (ap test (append-nil front) ∙ e)
+-- ---- letters that do not fit
+
+pub all_fit-append :
+    (fits : List ℕ → ℕ → Bool) (front v w : List ℕ) → all_fit fits front (v ++ w) ≡ (all_fit fits front v && all_fit fits (front ++ v) w)
+all_fit-append fits front [] w = ap (λ f. all_fit fits f w) (sym (append-nil front))
+all_fit-append fits front (a ∷ v) w =
+    ap (λ b. fits front a && b) (all_fit-append fits (front ++ a ∷ []) v w)
+    ∙ regroup (fits front a) (all_fit fits (front ++ a ∷ []) v) (all_fit fits ((front ++ a ∷ []) ++ v) w)
+    ∙ ap (λ f. (fits front a && all_fit fits (front ++ a ∷ []) v) && all_fit fits f w) (append_assoc front (a ∷ []) v)
+  where
+    regroup : (a b c : Bool) → (a && (b && c)) ≡ ((a && b) && c)
+    regroup true b c = refl
+    regroup false b c = refl
+
+pub all_fit-one :
+    (fits : List ℕ → ℕ → Bool) (front : List ℕ) (a : ℕ) → all_fit fits [] front ≡ true → fits front a ≡ true → all_fit fits [] (front ++ a ∷ []) ≡ true
+all_fit-one fits front a e f = all_fit-append fits [] front (a ∷ []) ∙ ap₂ (λ x y. x && (y && true)) e f
+
+pub misfit :
+    (fits : List ℕ → ℕ → Bool) (k n : ℕ) (front : List ℕ) (b : ℕ) → fits front b ≡ false → completions (all_fit fits []) k n (front ++ b ∷ []) ≡ []
+misfit fits k n front b e =
+    none (λ w. all_fit fits [] ((front ++ b ∷ []) ++ w)) (words k n)
+    (λ w.
+    all_fit-append fits [] (front ++ b ∷ []) w
+    ∙ ap (λ x. x && all_fit fits (front ++ b ∷ []) w)
+    (all_fit-append fits [] front (b ∷ []) ∙ ap (λ y. all_fit fits [] front && (y && true)) e ∙ never (all_fit fits [] front)))
+  where
+    none : (test : List ℕ → Bool) (xs : List (List ℕ)) → ((w : List ℕ) → test w ≡ false) → select test xs ≡ []
+    none test [] h = refl
+    none test (x ∷ xs) h = ap (λ b. cond b (x ∷ select test xs) (select test xs)) (h x) ∙ none test xs h
+
+    never : (b : Bool) → (b && false) ≡ false
+    never true = refl
+    never false = refl
+
+pub continued-skip :
+    (test : List ℕ → Bool) (k n : ℕ) (front : List ℕ) (a gap c : ℕ) → a + gap ≡ c → c ≤ k
+    → ((b : ℕ) → a < b → b ≤ c → completions test k n (front ++ b ∷ []) ≡ []) → continued test k n front a ≡ continued test k n front c
+continued-skip test k n front a zero c e h none =
+    let same : a ≡ c = omega arith in
+    ap (continued test k n front) same
+continued-skip test k n front a (suc gap) c e h none =
+    continued-passed test k n front a (omega arith) (none (a + 1) (omega arith) (omega arith))
+    ∙ continued-skip test k n front (a + 1) gap c (omega arith) h (λ b l m. none b (omega arith) m)

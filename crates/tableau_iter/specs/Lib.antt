@@ -1,3 +1,5 @@
 pub mod Walks
 pub mod Positions
 pub mod Listings
+pub mod Fits
+pub mod NextLetters

@@ -1,99 +1,85 @@
--- A word in the cells of a skew shape, and whether it is the column reading of a good tableau (this project's own).
-use Rattle.std.specs.Prelude.{◌≡◌, ℕ, ◌+◌, ◌-◌, ◌<◌, ◌≤◌, ◌==◌, nat_lt, nat_le, Bool, true, ◌&&◌, cond, slice_index, List, [], ◌∷◌, map, length, take, drop}
-use Rattle.sym_model.specs.Partition.{after, columns, rows, size}
+-- A word in the cells of a skew shape that is changed letter by letter, and the letters that fit in it (this project's own).
+use Rattle.std.specs.Prelude.{◌≡◌, ℕ, ◌+◌, ◌<◌, ◌≤◌, Bool, true, slice_index, List, [], ◌∷◌, length, take, drop}
+use Rattle.sym_model.specs.Partition.{rows, size}
 use Rattle.sym_model.specs.Polynomial.{join}
 use Rattle.sym_model.specs.Schur.{content}
-use Rattle.sym_model.specs.GoodTableau.{is_falling, is_good}
-use Rattle.sym_model.specs.TableauList.{reading_cells, filling_of}
-use Rattle.sym_model.specs.Tableau.{SkewFilling}
+use Rattle.sym_model.specs.TableauList.{reading_cells}
 use Rattle.skew_shapes.specs.Shapes.{IsSkew}
-use Rattle.skew_shapes.specs.Rows.{cells_right_of}
-use Rattle.skew_shapes.specs.CellFillings.{filled_with, is_tableau}
+use Rattle.tableau_iter.specs.declared.rule.Rule.{Rule}
+use Rattle.tableau_iter.specs.Fits.{Neighbours, AreCells, AreNear, all_fit, fits_by}
 use Rattle.tableau_iter.specs.Walks.{later}
 
--- the shape, the start, the number of letters, and a word with a letter for each cell
-pub record Position : Type 0 where
-  pub outer : List ℕ
-  pub inner : List ℕ
+-- what says which letters fit behind a front: the rule and its numbers, the start, the number of letters, the neighbours
+pub record Setting : Type 0 where
+  pub rule : Rule
+  pub counts : List ℕ
   pub start : List ℕ
   pub letters : ℕ
+  pub near : Neighbours
+
+abbrev pub fits_in : Setting → List ℕ → ℕ → Bool
+fits_in s = fits_by s.rule s.counts s.start s.letters s.near
+
+-- a word in a setting, and start plus the content of a front of it
+pub record Position : Type 0 where
+  pub setting : Setting
   pub word : List ℕ
+  pub sums : List ℕ
 
--- whether a word is the column reading of a good tableau of the shape
-abbrev pub is_good_word : ℕ → List ℕ → List ℕ → List ℕ → List ℕ → Bool
-is_good_word k start outer inner w =
-    is_tableau (filled_with outer inner w) && is_good k start outer inner (filling_of outer inner w)
-
--- whether this is so for the shape of a position
+-- whether all letters of a word fit
 abbrev pub passes : Position → List ℕ → Bool
-passes p w = is_good_word p.letters p.start p.outer p.inner w
+passes p w = all_fit (fits_in p.setting) [] w
 
--- two positions have one shape, start and number of letters, words of one length, and one front up to the place
+-- the letters up to the place fit, and the numbers are start plus their content
+pub record IsReady (place : ℕ) (p : Position) : Type 0 where
+  pub fits : passes p (take place p.word) ≡ true
+  pub sums : p.sums ≡ join p.setting.start (content p.setting.letters (take place p.word))
+
+-- two positions have one setting, words of one length, and one front up to the place
 pub record IsSameUpTo (place : ℕ) (old new : Position) : Type 0 where
-  pub outer : new.outer ≡ old.outer
-  pub inner : new.inner ≡ old.inner
-  pub start : new.start ≡ old.start
-  pub letters : new.letters ≡ old.letters
+  pub setting : new.setting ≡ old.setting
   pub length : length new.word ≡ length old.word
   pub front : take place new.word ≡ take place old.word
-
--- the position with another word
-abbrev pub with_word : Position → List ℕ → Position
-with_word p w = record { outer = p.outer; inner = p.inner; start = p.start; letters = p.letters; word = w }
 
 -- the words behind the front of a position, from the place on, are listed as this one and then what comes after it
 abbrev pub Begins : ℕ → Position → List (List ℕ) → Type 0
 Begins place p list =
-    list ≡ drop place p.word ∷ later (passes p) p.letters (take place p.word) (drop place p.word)
-
--- whether start plus the content of a front of the word falls
-abbrev pub falls_at : ℕ → List ℕ → List ℕ → ℕ → Bool
-falls_at k start word end = is_falling (join start (content k (take end word)))
-
--- no number is greater than the length
-abbrev pub AreWithinLength : List ℕ → ℕ → Type 0
-AreWithinLength [] n = Unit {0}
-AreWithinLength (a ∷ numbers) n = (a ≤ n) × AreWithinLength numbers n
+    list ≡ drop place p.word ∷ later (passes p) p.setting.letters (take place p.word) (drop place p.word)
 
 -- what a board holds
-pub record IsBoard (filled : SkewFilling) (start ends sums word lines ranks : List ℕ) : Type 0 where
-  pub shape : IsSkew filled.outer filled.inner
-  pub cells : length word ≡ length (reading_cells filled.outer filled.inner)
+pub record IsBoard (near : Neighbours) (start sums word : List ℕ) : Type 0 where
+  pub above : length near.above ≡ length word
+  pub right : length near.right ≡ length word
+  pub most : length near.most ≡ length word
+  pub above_back : (p : ℕ) → p < length word → slice_index near.above p ≤ p
+  pub right_back : (p : ℕ) → p < length word → slice_index near.right p ≤ p
+  pub within : (p : ℕ) → p < length word → slice_index near.most p ≤ length sums
   pub small : size start + length word ≤ 4096
   pub fits : rows start ≤ length sums
-  pub few : length sums ≤ 512
-  pub ends_are :
-      ends ≡ map (λ j. length (cells_right_of filled.outer filled.inner j)) (0 ∷ after 0 (columns filled.outer))
-  pub lines_are : lines ≡ map (λ (c : ℕ × ℕ). c.0) (reading_cells filled.outer filled.inner)
-  pub ranks_are : ranks ≡ map (λ (c : ℕ × ℕ). c.1) (reading_cells filled.outer filled.inner)
+  pub few : length sums ≤ 4096
 
-abbrev pub position_of : SkewFilling → List ℕ → List ℕ → List ℕ → Position
-position_of filled start sums word =
-    record {
-      outer = filled.outer;
-      inner = filled.inner;
-      start = start;
-      letters = length sums;
-      word = word;
-    }
+abbrev pub near_of : List ℕ → List ℕ → List ℕ → Neighbours
+near_of above right most = record { above = above; right = right; most = most }
 
--- a number is the one before another
-abbrev pub comes_next : ℕ → ℕ → Bool
-comes_next first second = nat_lt first second && ((second - first) == 1)
+abbrev pub setting_of : Rule → List ℕ → List ℕ → ℕ → Neighbours → Setting
+setting_of rule counts start letters near =
+    record { rule = rule; counts = counts; start = start; letters = letters; near = near }
 
--- the letter at a place is not greater than the one at another place, whose cell is the one above; or it is greater, and
--- the other cell is the one on the right
-abbrev pub clashes_at : List ℕ → List ℕ → List ℕ → ℕ → ℕ → Bool
-clashes_at lines ranks word place other =
-    cond (slice_index ranks other == slice_index ranks place)
-    (comes_next (slice_index lines other) (slice_index lines place)
-    && nat_le (slice_index word place) (slice_index word other))
-    ((slice_index lines other == slice_index lines place)
-    && (comes_next (slice_index ranks place) (slice_index ranks other)
-    && nat_lt (slice_index word other) (slice_index word place)))
+abbrev pub position_of : Rule → List ℕ → List ℕ → Neighbours → List ℕ → List ℕ → Position
+position_of rule counts start near sums word =
+    record { setting = setting_of rule counts start (length sums) near; word = word; sums = sums }
 
--- this is so for an earlier place
-pub record Clash (lines ranks word : List ℕ) (place : ℕ) : Type 0 where
-  pub other : ℕ
-  pub before : other < place
-  pub clash : clashes_at lines ranks word place other ≡ true
+-- these are the neighbours in the shape, with so many letters
+pub record IsNearIn (k : ℕ) (outer inner : List ℕ) (near : Neighbours) : Type 0 where
+  pub lines : List ℕ
+  pub ranks : List ℕ
+  pub cells : AreCells outer inner lines ranks
+  pub near_cells : AreNear k lines ranks near
+
+-- a board for a shape with no letter in it
+pub record IsNewBoard (rule : Rule) (counts start : List ℕ) (k : ℕ) (outer inner : List ℕ) (p : Position) : Type 0 where
+  pub shape : IsSkew outer inner
+  pub setting : p.setting ≡ setting_of rule counts start k p.setting.near
+  pub near_in : IsNearIn k outer inner p.setting.near
+  pub cells : length p.word ≡ length (reading_cells outer inner)
+  pub ready : IsReady 0 p

@@ -1,77 +1,79 @@
 //! A word in the cells of a skew shape.
-ghost use Rattle.std.specs.Prelude.{◌≡◌, ℕ, ◌+◌, ◌-◌, ◌<◌, ◌≤◌, [], length, take, slice_index, slice_set, IfOk};
-ghost use Rattle.std.specs.Bool.{OnFalse, OnTrue};
-ghost use Rattle.tableau_iter.specs.Walks.{completions};
+ghost use Rattle.std.specs.Prelude.{◌≡◌, ℕ, ◌+◌, ◌-◌, ◌<◌, ◌≤◌, false, true, [], ◌∷◌, ◌++◌, length, take, slice_index, IfOk, MatchOption};
 ghost use Rattle.sym_model.specs.Partition.{cells, rows, size};
-ghost use Rattle.tableau_iter.specs.Positions.{Position, passes, with_word};
+ghost use Rattle.sym_model.specs.Polynomial.{join};
+ghost use Rattle.sym_model.specs.Schur.{content};
+ghost use Rattle.tableau_iter.specs.NextLetters.{IsNextLetter};
+ghost use Rattle.tableau_iter.specs.Positions.{IsNearIn, IsNewBoard, IsReady, IsSameUpTo, fits_in, near_of};
 
-use crate::cells::{cell_numbers, has_clash};
-use crate::goodness::{column_ends, is_good, may_go_on};
+use crate::cells::cell_numbers;
+use crate::near::{ceiling, earlier_places, floor, greatest_letters};
+use crate::rule::{Rule, allows, next_allowed};
 use calc_base::NoMemory;
-use partitions::Partition;
-use skew_shapes::{Filled, Skew};
-use std::alloc::Global;
+use skew_shapes::Skew;
+use std::alloc::{AllocError, Global};
 use std::marker::Model;
 
-/// A word with a letter for each cell of a skew shape, in the order of the column reading; and what tells whether it is
-/// the reading of a good tableau.
+/// For each place of the column reading one more than the place of the cell above and of the cell on the right, 0 where
+/// there is none; and the greatest letter that leaves letters for the cells below.
+#[derive(Drop)]
+struct Near {
+    above: Vec<u16>,
+    right: Vec<u16>,
+    most: Vec<u16>,
+}
+
+/// A word with a letter for each cell of a skew shape, in the order of the column reading, that is changed letter by
+/// letter; and start plus the content of its front up to a place.
 #[derive(Drop)]
 pub(crate) struct Board {
-    filled: Filled,
+    rule: Rule,
+    counts: Vec<u16>,
     start: Vec<u16>,
-    /// How many letters stand right of each column, from column 0 on.
-    ends: Vec<u16>,
-    /// A place for each letter.
+    near: Near,
     sums: Vec<u16>,
     word: Vec<u16>,
-    /// The row of the cell of each letter.
-    lines: Vec<u16>,
-    /// The column of the cell of each letter.
-    ranks: Vec<u16>,
 }
 
 impl Model for Board {
-    ghost use Rattle.tableau_iter.specs.Positions.{Position, IsBoard, position_of};
+    ghost use Rattle.tableau_iter.specs.Positions.{IsBoard, Position, near_of, position_of};
 
     ghost Value = { Position };
 
-    ghost view = { λ b. position_of b.filled b.start.items b.sums.items b.word.items };
+    ghost view = { λ b. position_of b.rule b.counts.items b.start.items
+        (near_of b.near.above.items b.near.right.items b.near.most.items) b.sums.items b.word.items };
 
-    ghost invariant = { λ b. IsBoard b.filled b.start.items b.ends.items b.sums.items b.word.items b.lines.items b.ranks.items };
+    ghost invariant = { λ b. IsBoard (near_of b.near.above.items b.near.right.items b.near.most.items)
+        b.start.items b.sums.items b.word.items };
 }
 
 impl Board {
-    /// A word of zeros in the cells of the shape.
+    /// A word of zeros in the cells of the shape, none of them a letter.
     pub(crate) fn new(
         alloc: Global,
         shape: &Skew,
-        start: &Partition,
+        start: &[u16],
         letters: u16,
+        rule: Rule,
+        counts: &[u16],
     ) -> Result<Board, NoMemory>
         requires rows { rows start.now ≤ letters }
-        requires few { letters ≤ 512 }
+        requires few { letters ≤ 4096 }
         requires small { size start.now + length (cells shape.now.0 shape.now.1) ≤ 4096 }
-        ensures outer { IfOk result (λ b. b.outer ≡ shape.now.0) }
-        ensures inner { IfOk result (λ b. b.inner ≡ shape.now.1) }
-        ensures start { IfOk result (λ b. b.start ≡ start.now) }
-        ensures letters { IfOk result (λ b. b.letters ≡ letters) }
-        ensures cells { IfOk result (λ b. length b.word ≡ length (cells shape.now.0 shape.now.1)) }
+        ensures { IfOk result (λ b. IsNewBoard rule counts.now start.now letters shape.now.0 shape.now.1 b) }
     {
-        let filled = Filled::with_reading(alloc, shape.copy()?, &[])?;
-        let start = Vec::from_slice(alloc, start.parts())?;
-        let ends = column_ends(alloc, shape)?;
-        let sums = vec![in alloc; 0u16; usize::from(letters)]?;
+        let near = near_cells(alloc, shape, letters)?;
+        let sums = start_sums(alloc, start, letters)?;
         let word = vec![in alloc; 0u16; usize::from(shape.cells())]?;
-        let lines = cell_numbers(alloc, shape, true)?;
-        let ranks = cell_numbers(alloc, shape, false)?;
+        let counts = Vec::from_slice(alloc, counts)?;
+        let start = Vec::from_slice(alloc, start)?;
         Ok(Board {
-            filled,
+            rule,
+            counts,
             start,
-            ends,
+            near,
             sums,
             word,
-            lines,
-            ranks,
         })
     }
 
@@ -83,21 +85,6 @@ impl Board {
         self.word.len()
     }
 
-    /// The greatest letter.
-    pub(crate) fn letters(&self) -> u16
-        ensures { result ≡ self.now.letters }
-    {
-        self.sums.len() as u16
-    }
-
-    /// The letter at a place.
-    pub(crate) fn letter(&self, place: usize) -> u16
-        requires { place < length self.now.word }
-        ensures { result ≡ slice_index self.now.word place }
-    {
-        self.word[place]
-    }
-
     /// The word.
     pub(crate) fn word(&self) -> &[u16]
         ensures { result.now ≡ self.now.word }
@@ -105,56 +92,87 @@ impl Board {
         &self.word
     }
 
-    /// The start.
-    pub(crate) fn start(&self) -> &[u16]
-        ensures { result.now ≡ self.now.start }
+    /// Start plus the content of a front of the word.
+    pub(crate) fn sums(&self) -> &[u16]
+        ensures { result.now ≡ self.now.sums }
     {
-        &self.start
+        &self.sums
     }
 
-    /// Puts a letter at a place.
-    pub(crate) fn put(&mut self, place: usize, letter: u16)
-        requires { place < length self.old.word }
-        ensures { self.new ≡ with_word self.old (slice_set self.old.word place letter) }
+    /// The least letter greater than `tried` that fits at a place.
+    pub(crate) fn next_letter(&self, place: usize, tried: u16) -> Option<u16>
+        requires place { place < length self.now.word }
+        requires ready { IsReady place self.now }
+        ensures { MatchOption result
+            ((b : ℕ) → tried < b → b ≤ self.now.setting.letters → fits_in self.now.setting (take place self.now.word) b ≡ false)
+            (IsNextLetter (fits_in self.now.setting (take place self.now.word)) tried self.now.setting.letters) }
     {
-        self.word[place] = letter;
+        let least = floor(&self.near.above, &self.word, place);
+        let most = ceiling(&self.near.right, &self.near.most, &self.word, place);
+        next_allowed(self.rule, &self.counts, &self.sums, tried.max(least), most)
     }
 
-    /// True only where no word with these letters up to the place, and at it, is the column reading of a good tableau,
-    /// since the letter does not go with the one above it or with the one on its right.
-    pub(crate) fn clashes(&self, place: usize) -> bool
-        requires { place < length self.now.word }
-        ensures { OnTrue result
-            (completions (passes self.now) self.now.letters (length self.now.word - (place + 1)) (take (place + 1) self.now.word) ≡ []) }
+    /// Whether a letter fits at a place.
+    pub(crate) fn admits(&self, place: usize, letter: u16) -> bool
+        requires place { place < length self.now.word }
+        requires ready { IsReady place self.now }
+        ensures { result ≡ fits_in self.now.setting (take place self.now.word) letter }
     {
-        has_clash(&self.lines, &self.ranks, &self.word, place)
-    }
-
-    /// False only where no word with these letters up to the place, and at it, is the column reading of a good tableau.
-    pub(crate) fn may_go_on(&mut self, place: usize) -> bool
-        requires { place < length self.old.word }
-        ensures none { OnFalse result
-            (completions (passes self.old) self.old.letters (length self.old.word - (place + 1)) (take (place + 1) self.old.word) ≡ []) }
-        ensures same { self.new ≡ self.old }
-    {
-        may_go_on(
-            &self.word,
-            place + 1,
-            &self.start,
-            &self.ends,
-            &mut self.sums,
-        )
-    }
-
-    /// Whether the word is the column reading of a good tableau.
-    pub(crate) fn passes(&mut self) -> bool
-        ensures value { result ≡ passes self.old self.old.word }
-        ensures same { self.new ≡ self.old }
-    {
-        self.filled.fill(&self.word);
-        if !self.filled.is_tableau() {
+        let least = floor(&self.near.above, &self.word, place);
+        let most = ceiling(&self.near.right, &self.near.most, &self.word, place);
+        if letter <= least || most < letter {
             return false;
         }
-        is_good(&self.word, &self.start, &self.ends, &mut self.sums)
+        allows(self.rule, &self.counts, &self.sums, letter)
     }
+
+    /// Puts a letter that fits at a place.
+    pub(crate) fn put(&mut self, place: usize, letter: u16)
+        requires place { place < length self.old.word }
+        requires ready { IsReady place self.old }
+        requires fits { fits_in self.old.setting (take place self.old.word) letter ≡ true }
+        ensures same { IsSameUpTo place self.old self.new }
+        ensures front { take (place + 1) self.new.word ≡ take place self.old.word ++ letter ∷ [] }
+        ensures ready { IsReady (place + 1) self.new }
+    {
+        self.word[place] = letter;
+        self.sums[usize::from(letter) - 1] += 1;
+    }
+
+    /// Takes the letter at a place off.
+    pub(crate) fn take_off(&mut self, place: usize) -> u16
+        requires place { place < length self.old.word }
+        requires ready { IsReady (place + 1) self.old }
+        ensures letter { result ≡ slice_index self.old.word place }
+        ensures same { IsSameUpTo (place + 1) self.old self.new }
+        ensures ready { IsReady place self.new }
+    {
+        let letter = self.word[place];
+        self.sums[usize::from(letter) - 1] -= 1;
+        letter
+    }
+}
+
+/// The neighbours of the cells of a shape, where there are so many letters.
+fn near_cells(alloc: Global, shape: &Skew, letters: u16) -> Result<Near, AllocError>
+    ensures { IfOk result (λ n. IsNearIn letters shape.now.0 shape.now.1 (near_of n.above.items n.right.items n.most.items)) }
+{
+    let lines = cell_numbers(alloc, shape, true)?;
+    let ranks = cell_numbers(alloc, shape, false)?;
+    let above = earlier_places(alloc, &lines, &ranks, 1, 0)?;
+    let right = earlier_places(alloc, &lines, &ranks, 0, 1)?;
+    let most = greatest_letters(alloc, &above, letters)?;
+    Ok(Near { above, right, most })
+}
+
+/// The start with a place for each letter.
+fn start_sums(alloc: Global, start: &[u16], letters: u16) -> Result<Vec<u16>, AllocError>
+    requires { rows start.now ≤ letters }
+    ensures { IfOk result (λ sums. sums.items ≡ join start.now (content letters [])) }
+{
+    let mut sums = Vec::with_capacity(alloc, usize::from(letters))?;
+    for at in 0..usize::from(letters) {
+        sums.push(start.get(at).copied().unwrap_or(0))?;
+    }
+    Ok(sums)
 }

@@ -1,11 +1,8 @@
-//! Rows and columns of cells, and letters that can't stand beside each other.
-ghost use Rattle.std.specs.Prelude.{◌≡◌, ℕ, ◌<◌, ◌≤◌, ◌++◌, cond, map, length, IfOk, OnOk};
-ghost use Rattle.std.specs.Bool.{OnTrue};
+//! Rows and columns of the cells of a skew shape.
+ghost use Rattle.std.specs.Prelude.{◌≡◌, ℕ, ◌+◌, ◌<◌, ◌≤◌, ◌++◌, cond, map, length, IfOk, OnOk};
 ghost use Rattle.sym_model.specs.TableauList.{column_cells, reading_cells};
 ghost use Rattle.skew_shapes.specs.Rows.{reaches};
-ghost use Rattle.tableau_iter.specs.Positions.{Clash, clashes_at, comes_next};
 
-use crate::goodness::has_cell;
 use skew_shapes::Skew;
 use std::alloc::{AllocError, Global};
 
@@ -15,7 +12,8 @@ pub(crate) fn cell_numbers(
     shape: &Skew,
     of_row: bool,
 ) -> Result<Vec<u16>, AllocError>
-    ensures { IfOk result (λ v. v.items ≡ map (λ (c : ℕ × ℕ). cond of_row c.0 c.1) (reading_cells shape.now.0 shape.now.1)) }
+    ensures value { IfOk result (λ v. v.items ≡ map (λ (c : ℕ × ℕ). cond of_row c.0 c.1) (reading_cells shape.now.0 shape.now.1)) }
+    ensures few { IfOk result (λ v. length v.items ≤ 4096) }
 {
     let mut numbers = Vec::with_capacity(alloc, usize::from(shape.cells()))?;
     push_columns(
@@ -73,40 +71,10 @@ fn chosen(is_first: bool, first: u16, second: u16) -> u16
     if is_first { first } else { second }
 }
 
-/// Whether the letter at the place is not greater than the letter above, or greater than the one on its right, where
-/// these stand earlier.
-pub(crate) fn has_clash(rows: &[u16], columns: &[u16], word: &[u16], place: usize) -> bool
-    requires place { place < length word.now }
-    requires rows { length rows.now ≡ length word.now }
-    requires columns { length columns.now ≡ length word.now }
-    ensures { OnTrue result (Clash rows.now columns.now word.now place) }
+/// Whether the row at this place, counted from 0, has a cell in the column.
+fn has_cell(outer: &[u16], inner: &[u16], row: usize, column: u16) -> bool
+    requires { row < length outer.now }
+    ensures { result ≡ reaches outer.now inner.now column (row + 1) }
 {
-    for other in 0..place {
-        if clash_at(rows, columns, word, place, other) {
-            return true;
-        }
-    }
-    false
-}
-
-fn clash_at(rows: &[u16], columns: &[u16], word: &[u16], place: usize, other: usize) -> bool
-    requires place { place < length word.now }
-    requires other { other < place }
-    requires rows { length rows.now ≡ length word.now }
-    requires columns { length columns.now ≡ length word.now }
-    ensures { result ≡ clashes_at rows.now columns.now word.now place other }
-{
-    if columns[other] == columns[place] {
-        is_next(rows[other], rows[place]) && word[place] <= word[other]
-    } else {
-        rows[other] == rows[place]
-            && is_next(columns[place], columns[other])
-            && word[other] < word[place]
-    }
-}
-
-fn is_next(first: u16, second: u16) -> bool
-    ensures { result ≡ comes_next first second }
-{
-    first < second && second - first == 1
+    inner.get(row).copied().unwrap_or(0) < column && column <= outer[row]
 }

@@ -1,7 +1,7 @@
-//! The words of good tableaux, one after the other: each found in place of the one before it.
-ghost use Rattle.std.specs.Prelude.{◌≡◌, ◌+◌, ◌-◌, ◌<◌, ◌≤◌, [], length, take, drop};
+//! The words whose letters all fit, one after the other: each found in place of the one before it.
+ghost use Rattle.std.specs.Prelude.{◌≡◌, ◌+◌, ◌-◌, ◌<◌, ◌≤◌, true, false, [], length, take, drop};
 ghost use Rattle.std.specs.Bool.{OnTrue, OnFalse};
-ghost use Rattle.tableau_iter.specs.Positions.{Begins, IsSameUpTo, passes};
+ghost use Rattle.tableau_iter.specs.Positions.{Begins, IsReady, IsSameUpTo, passes};
 ghost use Rattle.tableau_iter.specs.Walks.{completions, continued, later};
 
 use crate::board::Board;
@@ -11,14 +11,17 @@ use crate::board::Board;
 pub(crate) fn first(board: &mut Board, place: usize) -> bool
     requires few { length board.old.word ≤ 4096 }
     requires place { place ≤ length board.old.word }
+    requires ready { IsReady place board.old }
     ensures found { OnTrue result (Begins place board.new
-        (completions (passes board.old) board.old.letters (length board.old.word - place) (take place board.old.word))) }
+        (completions (passes board.old) board.old.setting.letters (length board.old.word - place) (take place board.old.word))) }
     ensures none { OnFalse result
-        (completions (passes board.old) board.old.letters (length board.old.word - place) (take place board.old.word) ≡ []) }
+        (completions (passes board.old) board.old.setting.letters (length board.old.word - place) (take place board.old.word) ≡ []) }
     ensures same { IsSameUpTo place board.old board.new }
+    ensures whole { OnTrue result (IsReady (length board.new.word) board.new) }
+    ensures back { OnFalse result (IsReady place board.new) }
 {
     if place == board.len() {
-        return board.passes();
+        return true;
     }
     first_after(board, place, 0)
 }
@@ -29,27 +32,23 @@ pub(crate) fn first(board: &mut Board, place: usize) -> bool
 fn first_after(board: &mut Board, place: usize, least: u16) -> bool
     requires few { length board.old.word ≤ 4096 }
     requires place { place < length board.old.word }
+    requires ready { IsReady place board.old }
     ensures found { OnTrue result (Begins place board.new
-        (continued (passes board.old) board.old.letters (length board.old.word - (place + 1)) (take place board.old.word) least)) }
+        (continued (passes board.old) board.old.setting.letters (length board.old.word - (place + 1)) (take place board.old.word) least)) }
     ensures none { OnFalse result
-        (continued (passes board.old) board.old.letters (length board.old.word - (place + 1)) (take place board.old.word) least ≡ []) }
+        (continued (passes board.old) board.old.setting.letters (length board.old.word - (place + 1)) (take place board.old.word) least ≡ []) }
     ensures same { IsSameUpTo place board.old board.new }
+    ensures whole { OnTrue result (IsReady (length board.new.word) board.new) }
+    ensures back { OnFalse result (IsReady place board.new) }
 {
     let mut tried = least;
-    while tried < board.letters() {
-        board.put(place, tried + 1);
-        if board.clashes(place) {
-            tried += 1;
-            continue;
-        }
-        if !board.may_go_on(place) {
-            tried += 1;
-            continue;
-        }
+    while let Some(letter) = board.next_letter(place, tried) {
+        board.put(place, letter);
         if first(board, place + 1) {
             return true;
         }
-        tried += 1;
+        board.take_off(place);
+        tried = letter;
     }
     false
 }
@@ -58,18 +57,39 @@ fn first_after(board: &mut Board, place: usize, least: u16) -> bool
 pub(crate) fn next(board: &mut Board, place: usize) -> bool
     requires few { length board.old.word ≤ 4096 }
     requires place { place ≤ length board.old.word }
+    requires ready { IsReady (length board.old.word) board.old }
     ensures found { OnTrue result (Begins place board.new
-        (later (passes board.old) board.old.letters (take place board.old.word) (drop place board.old.word))) }
+        (later (passes board.old) board.old.setting.letters (take place board.old.word) (drop place board.old.word))) }
     ensures none { OnFalse result
-        (later (passes board.old) board.old.letters (take place board.old.word) (drop place board.old.word) ≡ []) }
+        (later (passes board.old) board.old.setting.letters (take place board.old.word) (drop place board.old.word) ≡ []) }
     ensures same { IsSameUpTo place board.old board.new }
+    ensures whole { OnTrue result (IsReady (length board.new.word) board.new) }
+    ensures back { OnFalse result (IsReady place board.new) }
 {
     if place == board.len() {
         return false;
     }
-    let letter = board.letter(place);
     if next(board, place + 1) {
         return true;
     }
+    let letter = board.take_off(place);
     first_after(board, place, letter)
+}
+
+/// Puts the letters of a word one by one; false where one does not fit.
+pub(crate) fn put_all(board: &mut Board, word: &[u16]) -> bool
+    requires word { length word.now ≡ length board.old.word }
+    requires ready { IsReady 0 board.old }
+    ensures fits { result ≡ passes board.old word.now }
+    ensures word { OnTrue result (board.new.word ≡ word.now) }
+    ensures same { IsSameUpTo 0 board.old board.new }
+    ensures whole { OnTrue result (IsReady (length board.new.word) board.new) }
+{
+    for place in 0..word.len() {
+        if !board.admits(place, word[place]) {
+            return false;
+        }
+        board.put(place, word[place]);
+    }
+    true
 }

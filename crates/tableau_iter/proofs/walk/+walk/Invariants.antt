@@ -1,6 +1,6 @@
 -- The letters up to the place stay; those tried lead to nothing.
 use Rattle.std.proofs.Common.{◌≡◌, ◌+◌, ◌-◌, ◌*◌, length, take}
-use Rattle.tableau_iter.specs.Positions.{IsSameUpTo, passes}
+use Rattle.tableau_iter.specs.Positions.{IsReady, IsSameUpTo, passes}
 use Rattle.tableau_iter.specs.Walks.{continued}
 use Rattle.tableau_iter.proofs.walk.+walk.Given as goal
 
@@ -10,13 +10,14 @@ decreases-first l = 2 * (length l.board.now.word - l.place) + 1
 abbrev pub decreases-first_after : goal.decreases-first_after
 decreases-first_after l = 2 * (length l.board.now.word - l.place)
 
-abbrev pub invariant-first_after-loop-tried : goal.invariant-first_after-loop-tried
-invariant-first_after-loop-tried l = record {
+abbrev pub invariant-first_after-loop-letter : goal.invariant-first_after-loop-letter
+invariant-first_after-loop-letter l = record {
   same : IsSameUpTo l.place l.fn.board l.board;
+  ready : IsReady l.place l.board;
   rest :
-      continued (passes l.fn.board) l.fn.board.letters (length l.fn.board.word - (l.place + 1)) (take l.place l.fn.board.word) l.least
-      ≡ continued (passes l.fn.board) l.fn.board.letters (length l.fn.board.word - (l.place + 1)) (take l.place l.fn.board.word) l.tried;
+      continued (passes l.fn.board) l.fn.board.setting.letters (length l.fn.board.word - (l.place + 1)) (take l.place l.fn.board.word) l.least
+      ≡ continued (passes l.fn.board) l.fn.board.setting.letters (length l.fn.board.word - (l.place + 1)) (take l.place l.fn.board.word) l.tried;
 }
 
-abbrev pub decreases-first_after-loop-tried : goal.decreases-first_after-loop-tried
-decreases-first_after-loop-tried l = l.board.letters - l.tried
+abbrev pub decreases-first_after-loop-letter : goal.decreases-first_after-loop-letter
+decreases-first_after-loop-letter l = l.board.setting.letters - l.tried

@@ -1,22 +1,15 @@
-use Rattle.std.proofs.Common.{◌≡◌, ◌≤◌, [], length, ap, ap₂, sym, ◌∙◌, subst, arith}
+use Rattle.std.proofs.Common.{◌≤◌, List, ℕ, length, ap, sym, ◌∙◌, subst}
 use Rattle.sym_model.specs.GoodTableau.{good_readings}
-use Rattle.sym_model.specs.Partition.{cells, rows}
-use Rattle.skew_shapes.specs.Shapes.{IsSkew}
-use Rattle.tableau_iter.specs.Positions.{Position, passes}
-use Rattle.tableau_iter.specs.Walks.{completions}
-use Rattle.tableau_iter.proofs.GoodWords.{good_readings-completions}
+use Rattle.sym_model.specs.Partition.{Falls}
+use Rattle.tableau_iter.specs.Listings.{Listed}
+use Rattle.tableau_iter.proofs.Starts.{good-list}
 use Rattle.tableau_iter.proofs.lattice.Lattice.new.Goals as goal
 
 pub returns-clause-rest : goal.returns-clause-rest
 returns-clause-rest c =
-    let b = c.in_ok-board.board in
     let told = c.in_ok-board.ensures in
-    let skew : IsSkew c.in_ok-board.board.outer c.in_ok-board.board.inner =
-    subst (λ (p : Position). IsSkew p.outer p.inner) c.board.view_is c.board.invariant.shape in
-    let few : rows c.in_ok-board.board.start ≤ c.in_ok-board.board.letters = omega (arith, ap length told.start, told.letters, c.requires.start) in
-    let count : length c.in_ok-board.board.word ≡ length (cells c.in_ok-board.board.outer c.in_ok-board.board.inner) =
-    told.cells ∙ sym (ap₂ (λ x y. length (cells x y)) told.outer told.inner) in
-    ap (λ n. completions (passes b) b.letters n []) count
-    ∙ good_readings-completions b.letters b.start b.outer b.inner skew.outside.partition.falls skew.holds few
-    ∙ ap₂ (λ k s. good_readings k s b.outer b.inner) told.letters told.start
-    ∙ ap₂ (λ x y. good_readings c.args.rows c.args.start.now x y) told.outer told.inner
+    ap (λ (l : Listed). l.rest) c.at.ensures
+    ∙ good-list _ _ c.args.rows c.args.shape.now.0 c.args.shape.now.1 c.in_ok-board.board told
+    (subst Falls (sym c.parts.ensures.value) c.parts.ensures.limits.partition.falls)
+    (subst (λ (s : List ℕ). length s ≤ c.args.rows) (sym c.parts.ensures.value) c.requires.start)
+    ∙ ap (λ s. good_readings c.args.rows s c.args.shape.now.0 c.args.shape.now.1) c.parts.ensures.value

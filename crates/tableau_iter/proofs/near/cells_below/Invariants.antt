@@ -1,0 +1,10 @@
+-- The places passed so far are each below the one before.
+use Rattle.std.proofs.Common.{◌≡◌, ◌+◌}
+use Rattle.tableau_iter.specs.Fits.{IsRun}
+use Rattle.tableau_iter.proofs.near.cells_below.Given as goal
+
+abbrev pub invariant-loop-next : goal.invariant-loop-next
+invariant-loop-next l = record {
+  count : l.next ≡ l.place + 1 + l.count;
+  run : IsRun l.above l.place l.count;
+}

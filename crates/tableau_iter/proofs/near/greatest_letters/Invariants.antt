@@ -1,0 +1,10 @@
+-- The letters so far.
+use Rattle.std.proofs.Common.{◌≡◌, ℕ, ◌<◌, length, get_or}
+use Rattle.tableau_iter.specs.Fits.{IsGreatest}
+use Rattle.tableau_iter.proofs.near.greatest_letters.Given as goal
+
+abbrev pub invariant-loop-place : goal.invariant-loop-place
+invariant-loop-place l = record {
+  places : length l.most.items ≡ l.place;
+  are : (p : ℕ) → p < l.place → IsGreatest l.letters l.above p (get_or l.most.items p 0);
+}

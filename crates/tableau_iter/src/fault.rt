@@ -1,0 +1,32 @@
+//! Why a list is not gone on with.
+ghost use Rattle.std.specs.Prelude.{◌≡◌};
+ghost use Rattle.tableau_iter.specs.declared.fault.ResumeFault.TheVariants.{NoMemory as no_memory};
+
+use calc_base::NoMemory;
+use std::alloc::AllocError;
+use thiserror::Error;
+
+/// Why a list of tableaux is not gone on with after a word.
+#[derive(Clone, Copy, Debug, PartialEq, Eq, Hash, Error)]
+pub enum ResumeFault {
+    #[error("the word is not in the list")]
+    NotInList,
+    #[error("out of memory")]
+    NoMemory,
+}
+
+impl From<AllocError> for ResumeFault {
+    ghost from_gives = { λ _ e. e ≡ no_memory };
+
+    fn from(_: AllocError) -> Self {
+        ResumeFault::NoMemory
+    }
+}
+
+impl From<NoMemory> for ResumeFault {
+    ghost from_gives = { λ _ e. e ≡ no_memory };
+
+    fn from(_: NoMemory) -> Self {
+        ResumeFault::NoMemory
+    }
+}

@@ -1,0 +1,85 @@
+//! The words whose letters all fit in a board, as a lister.
+ghost use Rattle.std.specs.Prelude.{◌≡◌, ℕ, [], ◌∷◌, length, IfSome, IsSome};
+ghost use Rattle.std.specs.Bool.{OnTrue, OnFalse};
+ghost use Rattle.sym_model.specs.Polynomial.{join};
+ghost use Rattle.sym_model.specs.Schur.{content};
+ghost use Rattle.tableau_iter.specs.Listings.{IsReadyAt, listed_at, rest_at};
+ghost use Rattle.tableau_iter.specs.Positions.{IsReady, IsSameUpTo, passes};
+ghost use Rattle.tableau_iter.specs.Walks.{later};
+
+use crate::board::Board;
+use crate::stage::Stage;
+use crate::walk::{first, next};
+use calc_base::Lister;
+use std::marker::Model;
+
+/// A board, and how far the lister of the words whose letters all fit in it has come.
+#[derive(Drop)]
+pub(crate) struct Walker {
+    board: Board,
+    stage: Stage,
+}
+
+impl Model for Walker {
+    ghost use Rattle.tableau_iter.specs.Listings.{IsReadyAt, Listed, listed_at};
+
+    ghost Value = { Listed };
+
+    ghost view = { λ w. listed_at w.stage w.board };
+
+    ghost invariant = { λ w. IsReadyAt w.stage w.board };
+}
+
+impl Walker {
+    /// The lister of a board at a stage.
+    pub(crate) fn at(board: Board, stage: Stage) -> Walker
+        requires { IsReadyAt stage board }
+        ensures { result ≡ listed_at stage board }
+    {
+        Walker { board, stage }
+    }
+
+    /// Start plus the content of the current word.
+    pub(crate) fn sums(&self) -> &[u16]
+        requires { IsSome self.now.item }
+        ensures { IfSome self.now.item (λ w. result.now ≡ join self.now.start (content self.now.letters w)) }
+    {
+        self.board.sums()
+    }
+}
+
+impl Lister for Walker {
+    ghost rest = { λ w. w.rest };
+
+    ghost item = { λ w. w.item };
+
+    fn advance(&mut self) -> bool {
+        if !step(&mut self.board, self.stage) {
+            self.stage = Stage::Ended;
+            return false;
+        }
+        self.stage = Stage::Listing;
+        true
+    }
+
+    fn current(&self) -> &[u16] {
+        self.board.word()
+    }
+}
+
+/// Puts the word that comes next in place of this one; false where none is left.
+fn step(board: &mut Board, stage: Stage) -> bool
+    requires { IsReadyAt stage board.old }
+    ensures found { OnTrue result (rest_at stage board.old ≡ board.new.word ∷ later (passes board.new) board.new.setting.letters [] board.new.word) }
+    ensures none { OnFalse result (rest_at stage board.old ≡ []) }
+    ensures same { IsSameUpTo 0 board.old board.new }
+    ensures whole { OnTrue result (IsReady (length board.new.word) board.new) }
+{
+    // This tells the proof that the word is not long.
+    board.len();
+    match stage {
+        Stage::New => first(board, 0),
+        Stage::Listing | Stage::Passed => next(board, 0),
+        Stage::Ended => false,
+    }
+}
