@@ -1,5 +1,5 @@
 -- What a coproduct answers.
-use Rattle.std.proofs.Common.{◌≡◌, ℕ, ◌+◌, List, [], ◌∷◌, ◌++◌, map, refl, sym, ap, ◌∙◌, subst, arith, ℤ, pos, ◌+ℤ◌, ◌*ℤ◌}
+use Rattle.std.proofs.Common.{◌≡◌, ℕ, ◌+◌, List, [], ◌∷◌, ◌++◌, map, refl, sym, ap, ◌∙◌, arith, ℤ, pos, ◌+ℤ◌, ◌*ℤ◌}
 use Rattle.std.specs.Prelude.{None}
 use Rattle.std.proofs.lemmas.Int.{ints}
 use Rattle.sym_model.specs.Sum.{total, each, Among}
@@ -7,7 +7,6 @@ use Rattle.sym_model.specs.Partition.{IsPartition, columns, without_last_zeros}
 use Rattle.sym_model.specs.Polynomial.{Poly, Same, pair, plus, scale, coefficient as coefficient_of}
 use Rattle.sym_model.specs.Schur.{schur, skew_schur}
 use Rattle.sym_model.specs.Expansion.{Terms, Represents, beside, pair_polynomial, denominators}
-use Rattle.sym_model.specs.LabelLimits.{is_pair_label}
 use Rattle.sym_model.specs.WholeTerms.{AreWhole, combined, numerators}
 use Rattle.sym_model.specs.Kind.{pairs}
 use Rattle.sym_model.specs.Answer.{answer}
@@ -16,16 +15,14 @@ use Rattle.sym_model.specs.Target.{Meets}
 use Rattle.sym_model.specs.LargeAnswer.{HasPastCoefficient}
 use Rattle.sym_model.proofs.Polynomials.{coefficient_plus, coefficient_scale, pair_ext, pair_total, pair_factor, pair_determined, same_from_pair}
 use Rattle.sym_model.proofs.Ring.{one-product}
-use Rattle.sym_model.proofs.Sums.{total_ext}
+use Rattle.sym_model.proofs.Sums.{total_ext, total_same_members}
 use Rattle.sym_model.proofs.WholeTerms.{pair_of_combined, denominators_of_whole, value_by-whole, represents-whole}
-use Rattle.sparse_polys.specs.Combination.{IsCombination, HasSameCoefficients}
-use Rattle.sparse_polys.specs.Labels.{same_pair}
-use Rattle.sparse_polys.proofs.Values.{represents-same_coefficients}
 use Rattle.coproduct_laws.specs.InnerShapes.{shapes_inside}
 use Rattle.coproduct_laws.proofs.Coproducts.{coproduct, pair_beside}
-use Rattle.lr_coproduct.specs.PairTerms.{equal_pairs, pair_sum, second_sum}
-use Rattle.lr_coproduct.proofs.InnerLists.{partitions_inside, part_among, among_part}
-use Rattle.lr_coproduct.proofs.PairLists.{pair_laws}
+use Rattle.lr_coproduct.specs.PairTerms.{pair_sum, second_sum}
+use Rattle.lr_coproduct.specs.InnerShapeList.{ListsShapesInside}
+use Rattle.lr_coproduct.proofs.InnerLists.{partitions_inside, part_among, among_part, once_partitions_inside}
+use Rattle.lr_coproduct.proofs.SortedShapes.{once_listed}
 
 -- ---- one partition inside
 
@@ -86,24 +83,37 @@ each-map : (f : List ℕ → Poly) (g : List ℕ → List ℕ) (xs : List (List 
 each-map f g [] = refl
 each-map f g (x ∷ xs) = ap (λ l. f (g x) ++ l) (each-map f g xs)
 
-pub coproduct_meets : (shape : List ℕ) (inners : List (List ℕ)) (table terms : Terms (List ℕ × List ℕ)) → IsPartition shape → inners ≡ partitions_inside shape
-    → AreWhole table → IsCombination equal_pairs is_pair_label table → IsCombination equal_pairs is_pair_label terms → HasSameCoefficients equal_pairs table terms
-    → ((n k : ℕ) → Same (pair_sum n k table) (each (λ inner. beside (schur inner n) (skew_schur shape inner k)) inners))
+-- the sum over the partitions inside, in any order
+coefficient_of_each : (f : List ℕ → Poly) (xs : List (List ℕ)) (α : List ℕ) → coefficient_of (each f xs) α ≡ total (λ x. coefficient_of (f x) α) xs
+coefficient_of_each f [] α = refl
+coefficient_of_each f (x ∷ xs) α =
+    let p = coefficient_plus (f x) (each f xs) α in
+    let r = coefficient_of_each f xs α in
+    omega (arith, ints)
+
+each_listed : (f : List ℕ → Poly) (shape : List ℕ) (inners : List (List ℕ)) → ListsShapesInside shape inners → Same (each f inners) (each f (partitions_inside shape))
+each_listed f shape inners l α =
+    coefficient_of_each f inners α
+    ∙ total_same_members (λ x. coefficient_of (f x) α) inners (partitions_inside shape) (once_listed shape inners l) (once_partitions_inside shape)
+    (λ x m. among_part shape x (l.partitions x m) (l.inside x m))
+    (λ x m. let r = part_among shape x m in l.all x r.partition r.inside)
+    ∙ sym (coefficient_of_each f (partitions_inside shape) α)
+
+pub coproduct_meets : (shape : List ℕ) (inners : List (List ℕ)) (terms : Terms (List ℕ × List ℕ)) → IsPartition shape → ListsShapesInside shape inners → AreWhole terms
+    → ((n k : ℕ) → Same (pair_sum n k terms) (each (λ inner. beside (schur inner n) (skew_schur shape inner k)) inners))
     → Meets (coprod shape) (answer pairs terms)
-coproduct_meets shape inners table terms p e w is also same_ones sums n k =
-    represents-same_coefficients pair_laws same_pair table terms is also same_ones (pair_polynomial n k) (schur shape (n + k)) 1
-    (represents-whole (pair_polynomial n k) table (schur shape (n + k)) w (λ α.
+coproduct_meets shape inners terms p l w sums n k =
+    represents-whole (pair_polynomial n k) terms (schur shape (n + k)) w (λ α.
     sums n k α
-    ∙ ap (λ l. coefficient_of (each (λ inner. beside (schur inner n) (skew_schur shape inner k)) l) α) e
+    ∙ each_listed (λ inner. beside (schur inner n) (skew_schur shape inner k)) shape inners l α
     ∙ ap (λ (f : Poly). coefficient_of f α) (each-map (λ inner. beside (schur inner n) (skew_schur shape inner k)) without_last_zeros (shapes_inside shape (columns shape)))
-    ∙ sym (coproduct n k shape p α)))
+    ∙ sym (coproduct n k shape p α))
 
 -- ---- coefficients past the limit
 
-pub past_of_inner : (shape inner : List ℕ) (inners : List (List ℕ)) → inners ≡ partitions_inside shape → Among inner inners → HasPastCoefficient (skew None shape inner) → HasPastCoefficient (coprod shape)
-past_of_inner shape inner inners e m (c, s, past) =
-    let r = part_among shape inner (subst (λ l. Among inner l) e m) in
-    (c, record { part = inner; partition = r.partition; inside = r.inside; is = s }, past)
+pub past_of_inner : (shape inner : List ℕ) (inners : List (List ℕ)) → ListsShapesInside shape inners → Among inner inners → HasPastCoefficient (skew None shape inner) → HasPastCoefficient (coprod shape)
+past_of_inner shape inner inners l m (c, s, past) =
+    (c, record { part = inner; partition = l.partitions inner m; inside = l.inside inner m; is = s }, past)
 
-pub none_past : (shape : List ℕ) (inners : List (List ℕ)) → inners ≡ partitions_inside shape → ((inner : List ℕ) → Among inner inners → HasPastCoefficient (skew None shape inner) → ⊥) → HasPastCoefficient (coprod shape) → ⊥
-none_past shape inners e fits (c, d, past) = fits d.part (subst (λ l. Among d.part l) (sym e) (among_part shape d.part d.partition d.inside)) (c, d.is, past)
+pub none_past : (shape : List ℕ) (inners : List (List ℕ)) → ListsShapesInside shape inners → ((inner : List ℕ) → Among inner inners → HasPastCoefficient (skew None shape inner) → ⊥) → HasPastCoefficient (coprod shape) → ⊥
+none_past shape inners l fits (c, d, past) = fits d.part (l.all d.part d.partition d.inside) (c, d.is, past)

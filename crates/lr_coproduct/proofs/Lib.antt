@@ -1,4 +1,5 @@
 mod Lists
 mod InnerLists
-mod PairLists
+mod OrderedPairs
+mod SortedShapes
 mod Answering

@@ -1,1 +1,2 @@
 pub mod PairTerms
+pub mod InnerShapeList

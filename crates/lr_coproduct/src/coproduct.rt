@@ -1,24 +1,27 @@
 //! The coproduct of a Schur polynomial.
-ghost use Rattle.std.specs.Prelude.{◌≡◌, ℕ, List, pos, None, IfOk, OnOk, IsErrOf};
+ghost use Rattle.std.specs.Prelude.{◌≡◌, ℕ, List, ◌⊎◌, true, None, IfOk, OnOk, IsErrOf};
 ghost use Rattle.coeff_rings.specs.Fractions.{whole};
+ghost use Rattle.sym_model.specs.Sum.{Among};
+ghost use Rattle.sym_model.specs.LabelLimits.{is_label, is_pair_label};
 ghost use Rattle.sym_model.specs.Polynomial.{Same, plus};
+ghost use Rattle.sym_model.specs.PrintedOrder.{pair_order};
 ghost use Rattle.sym_model.specs.Schur.{schur, skew_schur};
-ghost use Rattle.sym_model.specs.Expansion.{beside};
+ghost use Rattle.sym_model.specs.Expansion.{Fraction, beside};
 ghost use Rattle.sym_model.specs.Kind as kinds;
 ghost use Rattle.sym_model.specs.Answer.{answer};
 ghost use Rattle.sym_model.specs.Command as commands;
 ghost use Rattle.sym_model.specs.Target.{Meets};
 ghost use Rattle.sym_model.specs.LargeAnswer.{HasPastCoefficient};
-ghost use Rattle.sparse_polys.specs.Combination.{coefficient};
-ghost use Rattle.lr_coproduct.specs.PairTerms.{equal_pairs, pair_sum};
+ghost use Rattle.sparse_polys.specs.Combination.{terms_of, IsCanonicalList};
+ghost use Rattle.lr_coproduct.specs.PairTerms.{pair_sum, AreBefore};
 
 use crate::inner_shapes::inner_shapes;
-use crate::pairs::{add_pairs, is_whole};
+use crate::pairs::add_pairs;
 use calc_base::{NoMemory, SumFault};
 use coeff_rings::Int;
 use lr_product::skew;
 use partitions::Partition;
-use sparse_polys::{Lin, Pair, Terms};
+use sparse_polys::{Pair, Terms};
 use std::alloc::Global;
 
 /// The Schur polynomial of `shape` in two sets of variables, as pairs of Schur polynomials of the first and of the second.
@@ -33,38 +36,48 @@ pub fn coprod(alloc: Global, shape: &Partition) -> Result<Terms<Pair, Int>, SumF
         Ok(inners) => inners,
         Err(NoMemory) => return Err(SumFault::NoMemory),
     };
-    let mut terms: Lin<Pair, Int> = Lin::new(alloc);
+    // The partitions inside and the terms for each of them come in the printed order, and so do the pairs.
+    let mut pairs: Vec<(Pair, Int)> = Vec::new(alloc);
     for at in 0..inners.len() {
         let inner = &inners[at];
-        if let Err(fault) = add_inner(alloc, &mut terms, shape, inner) {
+        if let Err(fault) = add_inner(alloc, &mut pairs, shape, inner) {
             return Err(fault);
         }
     }
-    is_whole(&terms);
-    match terms.sorted_terms() {
-        Ok(terms) => Ok(terms),
-        Err(NoMemory) => Err(SumFault::NoMemory),
-    }
+    Ok(Terms::from_pairs(pairs).unwrap())
 }
 
-/// Adds the pairs with one partition inside the shape in front, which are not there before.
+/// Adds the pairs with one partition inside the shape in front, at the end of pairs whose first partitions stand before it.
 fn add_inner(
     alloc: Global,
-    terms: &mut Lin<Pair, Int>,
+    pairs: &mut Vec<(Pair, Int)>,
     shape: &Partition,
     inner: &Partition,
 ) -> Result<(), SumFault>
-    requires { (second : List ℕ) → coefficient equal_pairs terms.old (inner.now, second) ≡ whole (pos 0) }
-    ensures adds { OnOk result ((n k : ℕ) → Same (pair_sum n k terms.new)
-        (plus (pair_sum n k terms.old) (beside (schur inner.now n) (skew_schur shape.now inner.now k)))) }
-    ensures others { OnOk result ((other second : List ℕ) → (other ≡ inner.now → ⊥)
-        → coefficient equal_pairs terms.new (other, second) ≡ coefficient equal_pairs terms.old (other, second)) }
+    ensures adds { OnOk result ((n k : ℕ) → Same (pair_sum n k (terms_of whole pairs.new.items))
+        (plus (pair_sum n k (terms_of whole pairs.old.items)) (beside (schur inner.now n) (skew_schur shape.now inner.now k)))) }
+    ensures goes_on { OnOk result (AreBefore (terms_of whole pairs.old.items) inner.now
+        → IsCanonicalList pair_order is_pair_label (terms_of whole pairs.old.items)
+        → IsCanonicalList pair_order is_pair_label (terms_of whole pairs.new.items)) }
+    ensures firsts { OnOk result ((t : (List ℕ × List ℕ) × Fraction) → Among t (terms_of whole pairs.new.items)
+        → Among t (terms_of whole pairs.old.items) ⊎ (t.0.0 ≡ inner.now)) }
     ensures fits { OnOk result (HasPastCoefficient (commands.skew None shape.now inner.now) → ⊥) }
     ensures large { IsErrOf result SumFault.Large → HasPastCoefficient (commands.skew None shape.now inner.now) }
 {
+    lies_in_limits(inner);
     let list = match skew(alloc, shape, inner, None) {
         Ok(list) => list,
         Err(fault) => return Err(fault),
     };
-    add_pairs(terms, inner, &list)
+    match add_pairs(pairs, inner, &list) {
+        Ok(()) => Ok(()),
+        Err(NoMemory) => Err(SumFault::NoMemory),
+    }
+}
+
+/// Does nothing when it runs: it tells a proof that a partition lies in the limits of a label.
+fn lies_in_limits(partition: &Partition)
+    ensures { is_label partition.now ≡ true }
+{
+    let _ = partition.size();
 }

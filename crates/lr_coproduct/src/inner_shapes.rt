@@ -1,20 +1,32 @@
 //! The partitions inside a partition.
-ghost use Rattle.std.specs.Prelude.{◌≡◌, ◌+◌, ◌≤◌, List, [], ◌∷◌, ◌++◌, map, length, IfOk, OnOk};
+ghost use Rattle.std.specs.Prelude.{◌≡◌, ◌+◌, ◌≤◌, List, [], ◌∷◌, ◌++◌, map, length, IfOk, OnOk, IsSorted};
+ghost use Rattle.std.specs.List.Sorted.{IsPermutation};
 ghost use Rattle.sym_model.specs.Partition.{Falls, IsPartition, columns, size, without_last_zeros};
+ghost use Rattle.sym_model.specs.PrintedOrder.{printed_order};
 ghost use Rattle.coproduct_laws.specs.InnerShapes.{shapes_inside};
+ghost use Rattle.lr_coproduct.specs.InnerShapeList.{ListsShapesInside};
 
 use calc_base::NoMemory;
 use partitions::Partition;
 use std::alloc::Global;
 
-/// The partitions inside a partition, each once.
+/// The partitions inside a partition, each once, in the printed order.
 pub(crate) fn inner_shapes(alloc: Global, shape: &Partition) -> Result<Vec<Partition>, NoMemory>
-    ensures listed { IfOk result (λ shapes. shapes.items ≡ map without_last_zeros (shapes_inside shape.now (columns shape.now))) }
+    ensures listed { IfOk result (λ shapes. ListsShapesInside shape.now shapes.items) }
     ensures shape { OnOk result (IsPartition shape.now) }
 {
     let mut shapes = Vec::new(alloc);
     add_shapes(alloc, &mut shapes, &[], shape.parts(), shape.part(1))?;
+    sort_shapes(&mut shapes);
     Ok(shapes)
+}
+
+/// Puts partitions into the printed order.
+fn sort_shapes(shapes: &mut Vec<Partition>)
+    ensures permutation { IsPermutation shapes.old.items shapes.new.items }
+    ensures sorted { IsSorted printed_order shapes.new.items }
+{
+    shapes.sort_unstable_by(|a, b| a.cmp_printed(b));
 }
 
 /// Adds the partitions that begin with these numbers, go on with one that is at most `most`, and stay inside these rows.

@@ -1,8 +1,8 @@
 -- Counts of good tableaux and Schur coefficients.
-use Rattle.std.proofs.Common.{◌≡◌, ℕ, zero, suc, ◌+◌, ◌-◌, ◌^◌, ◌<◌, ◌≤◌, ◌==◌, ◌⊎◌, inl, inr, min, nat_le, nat_abs, Bool, true, false, cond, List, [], ◌∷◌, map, length, get_or, refl, sym, ap, ◌∙◌, subst, arith, ℤ, pos, negsuc, ◌+ℤ◌, ◌≤ℤ◌}
+use Rattle.std.proofs.Common.{◌≡◌, ℕ, ◌+◌, ◌-◌, ◌^◌, ◌<◌, ◌≤◌, ◌⊎◌, inl, inr, min, nat_abs, Bool, true, false, cond, List, [], ◌∷◌, map, length, get_or, refl, sym, ap, ◌∙◌, subst, arith, ℤ, pos, negsuc, ◌+ℤ◌, ◌≤ℤ◌}
 use Rattle.std.specs.Prelude.{Result, Ok, Err, Option, Some, None, IfOk, OnOk, IfSome, IsTrue}
 use Rattle.std.specs.Option.{unwrap_or}
-use Rattle.std.proofs.lemmas.Bool.{cases_lt, cases_Bool, le-leb, leb-true, eq-eqb, eqb-true, and_parts, and_from, false_from_ne_true, both_ways}
+use Rattle.std.proofs.lemmas.Bool.{cases_lt, cases_Bool, le-leb, leb-true, false_from_ne_true, both_ways}
 use Rattle.std.proofs.lemmas.Int.{ints}
 use Rattle.sym_model.specs.Sum.{select, Among}
 use Rattle.sym_model.specs.Partition.{IsPartition, Holds, rows, size, without_last_zeros}
@@ -31,6 +31,7 @@ use Rattle.alternant_laws.specs.GoodSums.{ListsCounts, start_plus_content}
 use Rattle.alternant_laws.proofs.CountedTerms.{good_terms, coefficient_counts, no_long_labels, product_coefficients, skew_coefficients, nothing_times, mult_meets, skew_meets}
 use Rattle.alternant_laws.proofs.Degrees.{coefficient-other_degree, times-of_degree, alternant-of_degree, schur-of_degree}
 use Rattle.alternant_laws.proofs.ClassicalProducts.{classical_product-coefficient, classical_product-term}
+use Rattle.duality_laws.proofs.Duality.{contains_places, contains_from_places}
 use Rattle.lr_product.specs.WeighedSum.{comes_to, VanishesOutside}
 use Rattle.lr_product.specs.Capped.{Agree}
 use Rattle.lr_product.specs.Counts.{good_count, IsPastSomewhere}
@@ -274,26 +275,10 @@ skew_fits variables m outer inner e o i holds small past =
 
 -- one shape inside another, by its test
 pub contains-tells : (outer inner : List ℕ) → contains outer inner ≡ true → Holds outer inner
-contains-tells outer inner h i = by outer inner (i - 1) h
-  where
-    by : (o n : List ℕ) (j : ℕ) → contains o n ≡ true → get_or n j 0 ≤ get_or o j 0
-    by o [] j e = omega arith
-    by [] (b ∷ n) zero e = let p = eqb-true b 0 (and_parts (b == 0) (contains [] n) e).0 in omega arith
-    by [] (b ∷ n) (suc j) e = by [] n j (and_parts (b == 0) (contains [] n) e).1
-    by (a ∷ o) (b ∷ n) zero e = leb-true b a (and_parts (nat_le b a) (contains o n) e).0
-    by (a ∷ o) (b ∷ n) (suc j) e = by o n j (and_parts (nat_le b a) (contains o n) e).1
+contains-tells outer inner h i = contains_places outer inner h (i - 1)
 
 pub contains-from : (outer inner : List ℕ) → Holds outer inner → contains outer inner ≡ true
-contains-from outer inner h = by outer inner (λ j. let e : j + 1 - 1 ≡ j = omega arith in let k = h (j + 1) in subst (λ i. get_or inner i 0 ≤ get_or outer i 0) e k)
-  where
-    by : (o n : List ℕ) → ((j : ℕ) → get_or n j 0 ≤ get_or o j 0) → contains o n ≡ true
-    by o [] k = contains_nothing o
-    by [] (b ∷ n) k = and_from (b == 0) (contains [] n) (eq-eqb b 0 (let p = k 0 in omega arith)) (by [] n (λ j. let p = k (suc j) in none j p))
-      where
-        none : (j : ℕ) → get_or n j 0 ≤ 0 → get_or n j 0 ≤ get_or {A = ℕ} [] j 0
-        none zero p = p
-        none (suc j) p = p
-    by (a ∷ o) (b ∷ n) k = and_from (nat_le b a) (contains o n) (le-leb b a (k 0)) (by o n (λ j. k (suc j)))
+contains-from outer inner h = contains_from_places outer inner (λ j. let e : j + 1 - 1 ≡ j = omega arith in let k = h (j + 1) in subst (λ i. get_or inner i 0 ≤ get_or outer i 0) e k)
 
 pub contains-false : (outer inner : List ℕ) → (Holds outer inner → ⊥) → contains outer inner ≡ false
 contains-false outer inner h = false_from_ne_true (contains outer inner) (λ e. h (contains-tells outer inner e))

@@ -14,3 +14,4 @@ mod Sums
 mod Pruned
 mod CountedLists
 pub mod GoodCounts
+mod MixedNumbers

@@ -1,18 +1,16 @@
 -- The count of a sum in a table, and the counts of products.
-use Rattle.std.proofs.Common.{◌≡◌, ℕ, zero, suc, ◌+◌, ◌*◌, ◌^◌, ◌<◌, ◌≤◌, ◌==◌, ◌⊎◌, inl, inr, nat_le, Bool, true, false, cond, ◌&&◌, List, [], ◌∷◌, map, min, length, take, refl, sym, ap, ap₂, ◌∙◌, arith, pos}
+use Rattle.std.proofs.Common.{◌≡◌, ℕ, zero, suc, ◌+◌, ◌*◌, ◌^◌, ◌<◌, ◌≤◌, ◌==◌, ◌⊎◌, inl, inr, nat_le, Bool, true, false, cond, ◌&&◌, List, [], ◌∷◌, min, length, take, refl, sym, ap, ap₂, ◌∙◌, arith, pos}
 use Rattle.std.specs.Prelude.{nat_eq}
 use Rattle.std.specs.Cmp.Lexicographic.{pointwise}
-use Rattle.std.proofs.lemmas.Bool.{ne_eqb, lt-leb, le-leb, cases_lt}
+use Rattle.std.proofs.lemmas.Bool.{ne_eqb, le-leb, cases_lt}
 use Rattle.std.proofs.lemmas.Int.{ints}
-use Rattle.sym_model.specs.Sum.{select}
 use Rattle.sym_model.specs.Partition.{ArePositive, IsPartition, rows, in_front, without_last_zeros}
-use Rattle.sym_model.specs.Polynomial.{same, join, resize}
-use Rattle.sym_model.specs.Schur.{words, content, tableaux}
-use Rattle.sym_model.specs.Partition.{cells}
-use Rattle.sym_model.specs.GoodTableau.{column_reading, is_good, is_among, product_count}
+use Rattle.sym_model.specs.Polynomial.{same, resize}
+use Rattle.sym_model.specs.Schur.{contains}
+use Rattle.sym_model.specs.GoodTableau.{product_count}
 use Rattle.tableau_laws.specs.Grid.{pass_by_place}
 use Rattle.tableau_laws.specs.ColumnFold.{column_lines, is_sum}
-use Rattle.tableau_laws.proofs.ColumnCounts.{product_count-columns}
+use Rattle.duality_laws.proofs.ProductCounts.{product_by_shape}
 use Rattle.lr_product.specs.WeighedSum.{at_state, weighed, over_states, comes_to, VanishesOutside}
 use Rattle.lr_product.specs.Capped.{Agree}
 use Rattle.lr_product.proofs.Agreeing.{agree_same, agree_then}
@@ -47,26 +45,6 @@ pos_comes parts ν right = by (same (without_last_zeros ν) parts)
     by : (t : Bool) → pos (cond t 1 0) ≡ cond t (pos 1) (pos 0)
     by true = refl
     by false = refl
-
-pub states-count : (k : ℕ) (λ' μ ν : List ℕ) → IsPartition λ' → IsPartition μ → rows λ' ≤ k
-    → over_states k (column_lines μ []) (comes_to ν) (resize k λ') [] ≡ product_count k λ' μ ν
-states-count k λ' μ ν p q h =
-    let e : pos (over_states k (column_lines μ []) (comes_to ν) (resize k λ') []) ≡ pos (product_count k λ' μ ν) =
-    over-states k (column_lines μ []) (comes_to ν) (resize k λ') []
-    ∙ over-ext k (column_lines μ []) (λ s r. pos (comes_to ν s r)) (is_sum ν) (pos_comes ν) (resize k λ') []
-    ∙ sym (product_count-columns k λ' μ ν p q h) in
-    omega (arith, ints)
-
-none_among : (ws : List (List ℕ)) → select (λ w. is_among w []) ws ≡ []
-none_among [] = refl
-none_among (w ∷ ws) = none_among ws
-
-pub product_count-none : (k : ℕ) (λ' μ ν : List ℕ) → k < rows λ' → product_count k λ' μ ν ≡ 0
-product_count-none k λ' μ ν h =
-    let came : List ℕ → Bool = λ w. same (without_last_zeros (join λ' (content k w))) ν in
-    let ws = words k (length (cells μ [])) in
-    ap (λ t. length (select came (select (λ w. is_among w (map (column_reading μ []) (cond t (select (is_good k λ' μ []) (tableaux k μ [])) []))) ws))) (lt-leb (rows λ') k h)
-    ∙ ap (λ l. length (select came l)) (none_among ws)
 
 abbrev comes_if : Bool → ℕ
 comes_if t = cond t 1 0
@@ -119,16 +97,27 @@ comes-inside outer ν right h = ap (λ t. cond t 1 0) (by_places ν outer h)
         split (inr l) rec = rest a (without_last_zeros ν') b outer' (rec (tail (nat_le a b) (le-leb a b l) g))
 
 -- what a table counts at a partition is the count of the product
-pub counted_product : (count letters : ℕ) (es : List (List ℕ × ℕ)) (outer parts start left right : List ℕ) → letters ≡ rows outer → parts ≡ outer → start ≡ left
-    → IsPartition left → IsPartition right → rows left ≤ letters → Agree count (weighed (length parts) (comes_to parts) es)
-    → ((f : List ℕ → ℕ) → VanishesOutside parts (λ ν r. f ν) → Agree (weighed letters (λ ν r. f ν) es) (over_states letters (column_lines right []) (λ ν r. f ν) (resize letters start) []))
-    → Agree count (product_count (rows outer) left right outer)
-counted_product count letters es outer parts start left right l p begins_at i j h a ways =
+pub states-shape : (inner content outer : List ℕ) → IsPartition inner → IsPartition content → IsPartition outer → contains outer inner ≡ true
+    → over_states (rows content) (column_lines outer inner) (comes_to content) (resize (rows content) []) [] ≡ product_count (rows outer) inner content outer
+states-shape inner content outer p q r h =
+    let k = rows content in
+    let e : pos (over_states k (column_lines outer inner) (comes_to content) (resize k []) []) ≡ pos (product_count (rows outer) inner content outer) =
+    over-states k (column_lines outer inner) (comes_to content) (resize k []) []
+    ∙ over-ext k (column_lines outer inner) (λ s r. pos (comes_to content s r)) (is_sum content) (pos_comes content) (resize k []) []
+    ∙ sym (product_by_shape inner content outer p q r h) in
+    omega (arith, ints)
+
+pub counted_shape : (count letters : ℕ) (es : List (List ℕ × ℕ)) (outer parts inside inner content : List ℕ) → letters ≡ rows content → parts ≡ content → inside ≡ inner
+    → IsPartition inner → IsPartition content → IsPartition outer → contains outer inner ≡ true → Agree count (weighed (length parts) (comes_to parts) es)
+    → ((f : List ℕ → ℕ) → VanishesOutside parts (λ ν r. f ν) → Agree (weighed letters (λ ν r. f ν) es) (over_states letters (column_lines outer inside) (λ ν r. f ν) (resize letters []) []))
+    → Agree count (product_count (rows outer) inner content outer)
+counted_shape count letters es outer parts inside inner content l p is i j o h a ways =
     let n : length parts ≡ letters = ap length p ∙ sym l in
     agree_then _ _ _ a
     (agree_then _ _ _ (agree_same _ (weighed letters (comes_to parts) es) (ap (λ (k : ℕ). weighed k (comes_to parts) es) n))
     (agree_then _ _ _ (ways (λ ν. comes_to parts ν []) (comes-inside parts))
-    (agree_same _ _ (ap₂ (λ (q t : List ℕ). over_states letters (column_lines right []) (comes_to q) (resize letters t) []) p begins_at ∙ states-count letters left right outer i j h ∙ ap (λ k. product_count k left right outer) l))))
+    (agree_same _ _ (ap₂ (λ (q t : List ℕ). over_states letters (column_lines outer t) (comes_to q) (resize letters []) []) p is
+    ∙ ap (λ (k : ℕ). over_states k (column_lines outer inner) (comes_to content) (resize k []) []) l ∙ states-shape inner content outer i j o h))))
 
 pub not_past : (a b : ℕ) → Agree a b → a < 2 ^ 127 → b < 2 ^ 127
 not_past a b p h = let e = p.below h in omega arith

@@ -1,8 +1,12 @@
 -- Tables of counts: one more count at a state.
-use Rattle.std.proofs.Common.{◌≡◌, ℕ, zero, suc, ◌+◌, ◌*◌, ◌<◌, Bool, true, false, min, List, [], ◌∷◌, ◌++◌, length, get_or, refl, sym, ap, ◌∙◌, arith}
-use Rattle.std.specs.Prelude.{Option, Some, None, is_some, slice_get, position}
-use Rattle.std.specs.Map.{keys_of, values_of}
-use Rattle.std.proofs.lemmas.List.Quantifiers.{position-Some}
+use Rattle.std.proofs.Common.{◌≡◌, ℕ, zero, suc, ◌+◌, ◌*◌, Bool, true, false, cond, min, List, [], ◌∷◌, ◌++◌, refl, sym, ap, ◌∙◌, arith}
+use Rattle.std.specs.Prelude.{Some, slice_get}
+use Rattle.std.specs.Prelude.{nat_eq, not}
+use Rattle.std.specs.Cmp.Lexicographic.{pointwise}
+use Rattle.std.specs.List.{position_or_len}
+use Rattle.std.specs.Map.{keys_of, values_of, lookup}
+use Rattle.std.proofs.lemmas.Slice.Eq.{bytes_eq-Decides}
+use Rattle.indexmap.specs.IndexMap.{insert_entry}
 use Rattle.indexmap.specs.Layout.{set_value_at}
 use Rattle.lr_product.specs.WeighedSum.{at_state, weighed}
 use Rattle.lr_product.specs.Capped.{Agree}
@@ -36,18 +40,6 @@ agree_put n f es i count v key had h a =
     let was = s.1 in
     agree_then _ _ _ (agree_same _ _ (s.2 v)) (agree_then _ _ _ more (agree_same _ _ (omega arith)))
 
--- the key at the place where a test finds one
-pub entry_found : (es : List (List ℕ × ℕ)) (test : List ℕ → Bool) (i : ℕ) → i < length es → position test (keys_of es) ≡ Some i
-    → (p : List ℕ × ℕ) × (slice_get es i ≡ Some p) × (test p.0 ≡ true)
-entry_found es test i l h =
-    let p = entry es i l in
-    (p.0, p.1, ap test (sym (p.2 [])) ∙ (position-Some test (keys_of es) i [] h).1)
-  where
-    entry : (ds : List (List ℕ × ℕ)) (j : ℕ) → j < length ds → (p : List ℕ × ℕ) × (slice_get ds j ≡ Some p) × ((d : List ℕ) → get_or (keys_of ds) j d ≡ p.0)
-    entry [] j k = absurd (omega arith)
-    entry (e ∷ ds) zero k = (e, refl, λ d. refl)
-    entry (e ∷ ds) (suc j) k = entry ds j (omega arith)
-
 pub value_entry : (es : List (List ℕ × ℕ)) (i : ℕ) (p : List ℕ × ℕ) (v : ℕ) → slice_get es i ≡ Some p → slice_get (values_of es) i ≡ Some v → v ≡ p.1
 value_entry [] i p v h k = cc
 value_entry (e ∷ es) zero p v h k = let here : e ≡ p = cc in let there : e.1 ≡ v = cc in sym there ∙ ap (λ (x : List ℕ × ℕ). x.1) here
@@ -63,6 +55,35 @@ agree_new n f es new state count e =
 pub capped_sum : (had count saturated v : ℕ) → saturated ≡ min (had + count) 340282366920938463463374607431768211455 → v ≡ min saturated 170141183460469231731687303715884105728 → Agree v (had + count)
 capped_sum had count saturated v s e = record { below = λ h. omega arith; past = λ h. omega arith }
 
-pub none_found : (o : Option ℕ) → false ≡ is_some o → o ≡ None
-none_found None h = refl
-none_found (Some x) h = cc
+-- ---- a count put in the place of another
+
+abbrev pub eq_states : List ℕ → List ℕ → Bool
+eq_states = pointwise nat_eq
+
+pub record PutInPlace (n : ℕ) (f : List ℕ → List ℕ → ℕ) (es : List (List ℕ × ℕ)) (key : List ℕ) (had count i : ℕ) : Type 0 where
+  pub at : slice_get (insert_entry eq_states es key count) i ≡ Some (key, count)
+  pub weighs : weighed n f (insert_entry eq_states es key count) + had * at_state n f key ≡ weighed n f es + count * at_state n f key
+
+pub put_in_place : (n : ℕ) (f : List ℕ → List ℕ → ℕ) (es : List (List ℕ × ℕ)) (key : List ℕ) (had count : ℕ) → lookup (eq_states key) es ≡ Some had
+    → PutInPlace n f es key had count (position_or_len (eq_states key) (keys_of es))
+put_in_place n f [] key had count h = cc
+put_in_place n f (e ∷ es) key had count h =
+    let r = by (eq_states key e.0) refl h (λ k. put_in_place n f es key had count k) in
+    record { at = r.0; weighs = r.1 }
+  where
+    by : (t : Bool) → eq_states key e.0 ≡ t → cond t (Some e.1) (lookup (eq_states key) es) ≡ Some had
+        → (lookup (eq_states key) es ≡ Some had → PutInPlace n f es key had count (position_or_len (eq_states key) (keys_of es)))
+        → (slice_get (cond t ((e.0, count) ∷ es) (e ∷ insert_entry eq_states es key count)) (cond (not t) (1 + position_or_len (eq_states key) (keys_of es)) 0) ≡ Some (key, count))
+        × (weighed n f (cond t ((e.0, count) ∷ es) (e ∷ insert_entry eq_states es key count)) + had * at_state n f key ≡ weighed n f (e ∷ es) + count * at_state n f key)
+    by true g k rec =
+        let same : key ≡ e.0 = (bytes_eq-Decides key e.0).0 g in
+        let was : e.1 ≡ had = cc in
+        let x = ap (at_state n f) same in
+        let y : had * at_state n f key ≡ e.1 * at_state n f e.0 = ap (λ z. z * at_state n f key) (sym was) ∙ ap (λ z. e.1 * z) x in
+        let z : count * at_state n f key ≡ count * at_state n f e.0 = ap (λ w. count * w) x in
+        (ap (λ (w : List ℕ). Some (w, count)) (sym same), omega arith)
+    by false g k rec =
+        let r = rec k in
+        let w = r.weighs in
+        let i : 1 + position_or_len (eq_states key) (keys_of es) ≡ suc (position_or_len (eq_states key) (keys_of es)) = omega arith in
+        (ap (slice_get (e ∷ insert_entry eq_states es key count)) i ∙ r.at, omega arith)

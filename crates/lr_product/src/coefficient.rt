@@ -41,28 +41,47 @@ pub fn coef(
     count_in(alloc, outer, left, right)
 }
 
-/// The count of the good tableaux of the shape `right` that start at `left` and come to `outer`.
+/// The coefficient, as a count of lattice tableaux of the shape `outer` by the greater factor with the content of the other, as
+/// that shape is the smaller one.
 fn count_in(
     alloc: Global,
     outer: &Partition,
     left: &Partition,
     right: &Partition,
 ) -> Result<Int, SumFault>
-    requires { size left.now + size right.now ≤ 4096 }
     ensures value { IfOk result (λ c. c ≡ pos (product_count (rows outer.now) left.now right.now outer.now)) }
     ensures large { IsErrOf result SumFault.Large → 2 ^ 127 ≤ product_count (rows outer.now) left.now right.now outer.now }
     ensures fits { OnOk result (product_count (rows outer.now) left.now right.now outer.now < 2 ^ 127) }
     ensures factors { IsPartition outer.now × IsPartition left.now × IsPartition right.now }
 {
-    if left.size() + right.size() != outer.size() {
+    if left.size() < right.size() {
+        return count_inside(alloc, outer, right, left);
+    }
+    count_inside(alloc, outer, left, right)
+}
+
+/// The count of the lattice tableaux of the shape `outer` by `inner` with a content. With no more letters than the content has
+/// parts there are the same.
+fn count_inside(
+    alloc: Global,
+    outer: &Partition,
+    inner: &Partition,
+    content: &Partition,
+) -> Result<Int, SumFault>
+    ensures value { IfOk result (λ c. c ≡ pos (product_count (rows outer.now) inner.now content.now outer.now)) }
+    ensures large { IsErrOf result SumFault.Large → 2 ^ 127 ≤ product_count (rows outer.now) inner.now content.now outer.now }
+    ensures fits { OnOk result (product_count (rows outer.now) inner.now content.now outer.now < 2 ^ 127) }
+    ensures factors { IsPartition outer.now × IsPartition inner.now × IsPartition content.now }
+{
+    if inner.size() + content.size() != outer.size() {
         return Ok(Int::new(0));
     }
-    let letters = outer.rows();
-    if left.rows() > letters {
+    if !outer.contains(inner) {
         return Ok(Int::new(0));
     }
-    let parts = outer.parts();
-    let table = match ways_by_columns(alloc, left.parts(), right, &[], letters, parts) {
+    let letters = content.rows();
+    let parts = content.parts();
+    let table = match ways_by_columns(alloc, &[], outer, inner.parts(), letters, parts) {
         Ok(table) => table,
         Err(NoMemory) => return Err(SumFault::NoMemory),
     };

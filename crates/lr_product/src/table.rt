@@ -10,7 +10,7 @@ use indexmap::IndexMap;
 /// Counts from here on are kept as this number.
 pub(crate) const CAP: u128 = 1 << 127;
 
-/// Adds a count to that of a state.
+/// Adds a count to that of a state, which is looked up once.
 pub(crate) fn add(
     table: &mut IndexMap<State, u128>,
     state: &State,
@@ -20,19 +20,16 @@ pub(crate) fn add(
     ensures { OnOk result ((n : ℕ) (f : List ℕ → List ℕ → ℕ)
         → Agree (weighed n f table.new.entries) (weighed n f table.old.entries + count * at_state n f state.now)) }
 {
-    match table.get_index_of(state) {
-        Some(at) => add_at(table, at, count),
-        None => {
-            table.insert(state.copy()?, count)?;
-        }
+    let (at, before) = table.insert_full(state.copy()?, count)?;
+    if let Some(had) = before {
+        add_at(table, at, had);
     }
     Ok(())
 }
 
 /// Adds a count to the one at an index.
 fn add_at(table: &mut IndexMap<State, u128>, at: usize, count: u128)
-    requires within { at < length table.old.entries }
-    requires count { count ≤ 2 ^ 127 }
+    requires { at < length table.old.entries }
     ensures { (key : List ℕ) (had : ℕ) → slice_get table.old.entries at ≡ Some (key, had)
         → (n : ℕ) (f : List ℕ → List ℕ → ℕ)
         → Agree (weighed n f table.new.entries) (weighed n f table.old.entries + count * at_state n f key) }

@@ -1,11 +1,8 @@
-use Rattle.std.proofs.Common.{List, ℕ, subst, ap₂}
-use Rattle.std.specs.Prelude.{OnOk}
-use Rattle.coeff_rings.specs.Fractions.{whole}
-use Rattle.sparse_polys.specs.Combination.{HasMoreAt}
-use Rattle.lr_coproduct.specs.PairTerms.{equal_pairs}
+use Rattle.std.proofs.Common.{ℕ, List, [], ◌∷◌, ◌++◌, ap₂, ◌∙◌}
+use Rattle.lr_coproduct.proofs.OrderedPairs.{terms_pushed}
 use Rattle.lr_coproduct.proofs.pairs.add_pair.Goals as goal
 
-pub returns-clause-more : goal.returns-clause-more
-returns-clause-more c =
-    subst (λ (p : List ℕ × List ℕ). OnOk c.add_term.result (HasMoreAt equal_pairs c.args.terms.now p (whole c.args.c) c.add_term.new.self))
-    (ap₂ (λ (x y : List ℕ). (x, y)) c.in_ok-copy.ensures.ok c.in_ok-copy-2.ensures.ok) c.add_term.ensures.ok
+pub returns : goal.returns
+returns c =
+    terms_pushed c.args.pairs.now.items c.push.new.self.items (c.args.first.now, c.args.second.now) c.args.c
+    (c.in_ok-push.ensures.items ∙ ap₂ (λ (x y : List ℕ). c.args.pairs.now.items ++ ((x, y), c.args.c) ∷ []) c.in_ok-copy.ensures.ok c.in_ok-copy-2.ensures.ok)

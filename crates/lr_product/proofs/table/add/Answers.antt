@@ -1,27 +1,31 @@
-use Rattle.std.proofs.Common.{◌≡◌, ◌+◌, ◌*◌, ◌∷◌, [], ◌++◌, sym, ap, ◌∙◌, subst}
-use Rattle.std.specs.Prelude.{None, nat_eq}
-use Rattle.std.specs.Cmp.Lexicographic.{pointwise}
-use Rattle.std.proofs.lemmas.Slice.Eq.{bytes_eq-Decides}
+use Rattle.std.proofs.Common.{◌≡◌, ℕ, List, ◌+◌, ◌*◌, ◌∷◌, [], ◌++◌, sym, ap, ap₂, ◌∙◌}
+use Rattle.std.specs.Prelude.{Some, None, slice_get}
+use Rattle.std.specs.Map.{lookup}
 use Rattle.indexmap.specs.IndexMap.{get}
 use Rattle.indexmap.proofs.CallerLemmas.{insert_entry-new}
 use Rattle.lr_product.specs.WeighedSum.{at_state, weighed}
-use Rattle.lr_product.specs.Capped.{Agree}
-use Rattle.lr_product.proofs.Tables.{agree_new, entry_found, none_found}
+use Rattle.lr_product.proofs.Agreeing.{agree_same, agree_then}
+use Rattle.lr_product.proofs.Tables.{eq_states, agree_new, put_in_place}
 use Rattle.lr_product.proofs.table.add.Goals as goal
 
 pub returns-in-Some : goal.returns-in-Some
 returns-in-Some c n f =
-    let e = entry_found c.args.table.now.entries (pointwise nat_eq c.args.state.now) c.in-Some.at c.in-Some.ensures.within (sym c.in-Some.ensures.index) in
-    let same : c.args.state.now ≡ e.0.0 = (bytes_eq-Decides c.args.state.now e.0.0).0 e.2 in
-    subst (λ key. Agree (weighed n f c.add_at.new.table.entries) (weighed n f c.args.table.now.entries + c.args.count * at_state n f key)) (sym same)
-    (c.add_at.ensures e.0.0 e.0.1 e.1 n f)
+    let key = c.in_ok-copy.field-0 in
+    let same : key ≡ c.args.state.now = c.in_ok-copy.ensures in
+    let old = c.args.table.now.entries in
+    let there : lookup (eq_states key) old ≡ Some c.in-Some.had = sym c.in_ok-at.ensures.old ∙ c.in-Some.is in
+    let p = put_in_place n f old key c.in-Some.had c.args.count there in
+    let at : slice_get c.insert_full.new.self.entries c.in_ok-at.at ≡ Some (key, c.args.count) =
+    ap₂ (λ (es : List (List ℕ × ℕ)) (i : ℕ). slice_get es i) c.in_ok-at.ensures.entries c.in_ok-at.ensures.index ∙ p.at in
+    agree_then _ _ _ (c.add_at.ensures key c.args.count at n f)
+    (agree_same _ _ (ap (λ (es : List (List ℕ × ℕ)). weighed n f es + c.in-Some.had * at_state n f key) c.in_ok-at.ensures.entries ∙ p.weighs
+    ∙ ap (λ (k : List ℕ). weighed n f old + c.args.count * at_state n f k) same))
 
-pub returns-in_ok-insert-in-None : goal.returns-in_ok-insert-in-None
-returns-in_ok-insert-in-None c n f =
-    let key = c.in_ok-copy-in-None.field-0 in
-    let same : key ≡ c.args.state.now = c.in_ok-copy-in-None.ensures in
-    let absent = none_found _ c.in-None.ensures.found in
-    let none = subst (λ k. get (pointwise nat_eq) c.args.table.now k ≡ None) (sym same) absent in
-    agree_new n f c.args.table.now.entries c.insert.new.self.entries c.args.state.now c.args.count
-    (c.in_ok-insert-in-None.ensures.entries ∙ insert_entry-new (pointwise nat_eq) c.args.table.now key c.args.count none
+pub returns-in_default : goal.returns-in_default
+returns-in_default c n f =
+    let key = c.in_ok-copy.field-0 in
+    let same : key ≡ c.args.state.now = c.in_ok-copy.ensures in
+    let none : get eq_states c.args.table.now key ≡ None = sym c.in_ok-at.ensures.old ∙ c.in_default.is in
+    agree_new n f c.args.table.now.entries c.insert_full.new.self.entries c.args.state.now c.args.count
+    (c.in_ok-at.ensures.entries ∙ insert_entry-new eq_states c.args.table.now key c.args.count none
     ∙ ap (λ k. c.args.table.now.entries ++ (k, c.args.count) ∷ []) same)
