@@ -22,7 +22,8 @@ use Rattle.basis_expand.specs.LabelSizes.{AreWithin}
 use Rattle.basis_expand.proofs.Quotients.{Quotients}
 use Rattle.basis_change.specs.declared.mixed.MixedLabel.{MixedLabel}
 use Rattle.basis_change.specs.Mixed.{Mixed, weight, converted_terms}
-use Rattle.basis_change.proofs.Tables.{abs-sum}
+use Rattle.basis_change.specs.Arranging.{at_label}
+use Rattle.basis_change.proofs.Tables.{abs-sum, at_label-itself}
 use Rattle.std.proofs.lemmas.Nat.{le-div, mul-le}
 use Rattle.std.proofs.Common.{lit≤, pow-suc}
 use Rattle.std.proofs.Math.Nat.{pow-zero}
@@ -61,7 +62,7 @@ quotient-positive a b p h = le-div 1 a b p (omega arith)
 
 -- ---- a refused quotient
 
-coefficient-size : (es : Mixed) (label : List ℕ) → nat_abs (coefficient (converted_terms es) label) ≤ weight (λ l. 1) es
+coefficient-size : (es : Mixed) (label : List ℕ) → nat_abs (coefficient (converted_terms es) label) ≤ weight (at_label label) es
 coefficient-size [] label = omega (arith, ints)
 coefficient-size (t ∷ es) label =
     let r = coefficient-size es label in
@@ -69,7 +70,7 @@ coefficient-size (t ∷ es) label =
     let h = by (same t.0.converted label) t.1 in
     omega arith
   where
-    by : (b : Bool) (z : ℤ) → nat_abs (cond b z (pos 0)) ≤ nat_abs z
+    by : (b : Bool) (z : ℤ) → nat_abs (cond b z (pos 0)) ≤ nat_abs z * cond b 1 0
     by true z = omega arith
     by false z = let e : nat_abs (pos 0) ≡ 0 = refl in omega arith
 
@@ -93,7 +94,7 @@ refused-quotients d z c a b p l e f r = by (cases_lt (nat_abs z + nat_abs c) (2 
         absurd (let t : IsSome (checked_fraction_sum r.left r.right) = some in let none = r.refused in cc)
 
 pub refused-weight : (d : ℕ) (es : Mixed) (i : ℕ) (l : MixedLabel) (c : ℤ) (old : Terms (List ℕ)) → 0 < d → d < 2 ^ 127 → slice_get es i ≡ Some (l, c) → Quotients d old (converted_terms (take i es))
-    → (key : List ℕ) (b : Fraction) → key ≡ l.converted → b ≡ lowest_terms c d → IsRefused IsFraction (λ (r : Fraction). r) checked_fraction_sum (found old key) b → 2 ^ 127 ≤ weight (λ l. 1) es
+    → (key : List ℕ) (b : Fraction) → key ≡ l.converted → b ≡ lowest_terms c d → IsRefused IsFraction (λ (r : Fraction). r) checked_fraction_sum (found old key) b → 2 ^ 127 ≤ weight (at_label l.converted) es
 refused-weight d es i l c old p s e q key b k f r =
     let z = coefficient (converted_terms (take i es)) l.converted in
     let h = refused-quotients d z c (found old key) b p s (ap (found old) k ∙ q l.converted) f r in
@@ -101,9 +102,13 @@ refused-weight d es i l c old p s e q key b k f r =
     let t = weight-at es i e in
     omega arith
   where
-    weight-at : (es : Mixed) (i : ℕ) → slice_get es i ≡ Some (l, c) → weight (λ l. 1) (take i es) + nat_abs c ≤ weight (λ l. 1) es
+    weight-at : (es : Mixed) (i : ℕ) → slice_get es i ≡ Some (l, c) → weight (at_label l.converted) (take i es) + nat_abs c ≤ weight (at_label l.converted) es
     weight-at [] i e = cc
-    weight-at (t ∷ es) zero e = let here : t ≡ (l, c) = cc in let x = ap (λ (u : MixedLabel × ℤ). nat_abs u.1) here in omega arith
+    weight-at (t ∷ es) zero e =
+        let here : t ≡ (l, c) = cc in
+        let x = ap (λ (u : MixedLabel × ℤ). nat_abs u.1 * at_label l.converted u.0) here in
+        let y = mul-le-mul_left (nat_abs c) (at_label-itself l) in
+        omega arith
     weight-at (t ∷ es) (suc i) e = let r = weight-at es i e in omega arith
 
 -- ---- the growth into the families
@@ -176,6 +181,13 @@ large-denominator family N D size d h l large =
   where
     closing : (n x N k D : ℕ) → n ≤ x → x ≤ D * k → 1 * (D * k) ≤ N * (D * k) → n ≤ N * D * k
     closing n x N k D a b c = let e : N * (D * k) ≡ N * D * k = omega arith in omega arith
+
+pub at_label-within : (ν : List ℕ) (l : MixedLabel) → at_label ν l ≤ 1
+at_label-within ν l = by (same l.converted ν)
+  where
+    by : (b : Bool) → cond {A = ℕ} b 1 0 ≤ 1
+    by true = omega arith
+    by false = omega arith
 
 -- every label costs at least 1
 pub weight-mono : (w v : MixedLabel → ℕ) (es : Mixed) → ((l : MixedLabel) → w l ≤ v l) → weight w es ≤ weight v es

@@ -1,5 +1,6 @@
 -- What the list and the answer stand for.
---     expansion-changed     from the list in m to the answer in the family
+--     expansion-by          from a list in m to an answer in another basis
+--     expansion-changed     to the answer in a family
 use Rattle.std.proofs.Common.{◌≡◌, ◌⊎◌, ℕ, ◌*◌, ◌/◌, ◌<◌, ◌≤◌, List, [], ◌∷◌, length, refl, sym, ap, ap₂, ◌∙◌, inl, inr, arith, ℤ, pos, ◌+ℤ◌, ◌*ℤ◌}
 use Rattle.std.proofs.lemmas.Int.{ints}
 use Rattle.std.proofs.Math.Nat.{div-mul_cancel}
@@ -63,7 +64,7 @@ start-value family n D q φ (t ∷ terms) h =
     spread : (x y z : ℤ) → x *ℤ y +ℤ x *ℤ z ≡ x *ℤ (y +ℤ z)
     spread x y z = simp ring (omega (arith, ints))
 
-pair-over : (n D : ℕ) (φ : List ℕ → ℤ) (terms : Terms (List ℕ)) → pair (in_monomials (over D terms) n) φ ≡ total (λ (t : List ℕ × Fraction). (t.1.0 *ℤ pos (D / t.1.1)) *ℤ pair (monomial t.0 n) φ) terms
+pub pair-over : (n D : ℕ) (φ : List ℕ → ℤ) (terms : Terms (List ℕ)) → pair (in_monomials (over D terms) n) φ ≡ total (λ (t : List ℕ × Fraction). (t.1.0 *ℤ pos (D / t.1.1)) *ℤ pair (monomial t.0 n) φ) terms
 pair-over n D φ terms =
     pair_of_combined (λ label. monomial label n) (over D terms) φ
     ∙ total_map (λ (t : List ℕ × ℤ). t.1 *ℤ pair (monomial t.0 n) φ) (λ (t : List ℕ × Fraction). (t.0, t.1.0 *ℤ pos (D / t.1.1))) terms
@@ -160,32 +161,35 @@ crossed D q Q R p u v w r f a b c h =
     four : (R q D Q f : ℤ) → ((R *ℤ q) *ℤ D) *ℤ (Q *ℤ f) ≡ (R *ℤ f) *ℤ ((D *ℤ q) *ℤ Q)
     four R q D Q f = simp ring (omega (arith, ints))
 
+-- the list and an answer that stands for the same, both with their fractions cleared
+pub expansion-by : (basis : Basis) (N D q : ℕ) (terms answer : Terms (List ℕ)) (R : WholeTerms) → 0 < D → 0 < q → IsTable terms → IsBounded N D terms → IsTable answer → Quotients (D * q) answer R
+    → (n : ℕ) → ((α : List ℕ) → coefficient (combined (λ label. basis_polynomial basis label n) R) α ≡ pos q *ℤ coefficient (in_monomials (over D terms) n) α)
+    → (f : Poly) (p : ℕ) → IsExpansionOf Basis.monomials terms n f p → IsExpansionOf basis answer n f p
+expansion-by basis N D q terms answer R some positive is b js quotients n same_values f p h =
+    let W = over D terms in
+    let Dq = mul-pos some positive in
+    let first = IsDivided-list N D terms h.positive is b in
+    let second = IsDivided-quotients (D * q) R answer Dq js quotients in
+    record {
+      positive = second.positive;
+      equal = λ α.
+          let u = coefficient (value_by (λ label. monomial label n) terms) α in
+          let v = coefficient (value_by (λ label. basis_polynomial basis label n) answer) α in
+          let A = value-divided (λ label. monomial label n) D W terms first α in
+          let B = value-divided (λ label. basis_polynomial basis label n) (D * q) R answer second α in
+          let H = sym (coefficient_scale (pos p) (value_by (λ label. monomial label n) terms) α) ∙ h.equal α ∙ coefficient_scale (pos (denominators terms)) f α in
+          coefficient_scale (pos p) (value_by (λ label. basis_polynomial basis label n) answer) α
+          ∙ product_cancel (pos p *ℤ v) (pos (denominators answer) *ℤ coefficient f α) ((D * q) * denominators terms) (mul-pos Dq h.positive)
+          (crossed (pos D) (pos q) (pos (denominators terms)) (pos (denominators answer)) (pos p) u v (coefficient (in_monomials W n) α) (coefficient (combined (λ label. basis_polynomial basis label n) R) α) (coefficient f α) A B (same_values α) H)
+          ∙ sym (coefficient_scale (pos (denominators answer)) f α);
+    }
+
 pub expansion-changed : (family : Family) (N D d : ℕ) (terms answer : Terms (List ℕ)) (end : Mixed) → 0 < D → d ≤ 15 → IsTable terms → AreWithin d terms → IsBounded N D terms
     → ((n : ℕ) (φ : List ℕ → ℤ) → weighed (product_value family n φ) end ≡ weighed (product_value family n φ) (cleared_terms D (factorial d) terms))
     → (e : ℕ) → AreReady e 0 end → IsTable answer → Quotients (D * factorial d) answer (converted_terms end) → 0 < factorial d
     → (n : ℕ) (f : Poly) (p : ℕ) → IsExpansionOf Basis.monomials terms n f p → IsExpansionOf (basis_in family) answer n f p
 expansion-changed family N D d terms answer end some low is w b same_value e ready js quotients positive n f p h =
-    let W = over D terms in
-    let R = converted_terms end in
-    let q = factorial d in
-    let Dq = mul-pos some positive in
-    let first = IsDivided-list N D terms h.positive is b in
-    let second = IsDivided-quotients (D * q) R answer Dq js quotients in
-    let polynomial = λ (label : List ℕ). product_over (polynomial_of family) label n in
-    record {
-      positive = second.positive;
-      equal = λ α.
-          let u = coefficient (value_by (λ label. monomial label n) terms) α in
-          let v = coefficient (value_by (λ label. basis_polynomial (basis_in family) label n) answer) α in
-          let A = value-divided (λ label. monomial label n) D W terms first α in
-          let B = value-divided (λ label. basis_polynomial (basis_in family) label n) (D * q) R answer second α in
-          let C : coefficient (combined (λ label. basis_polynomial (basis_in family) label n) R) α ≡ pos q *ℤ coefficient (in_monomials W n) α = total-value α in
-          let H = sym (coefficient_scale (pos p) (value_by (λ label. monomial label n) terms) α) ∙ h.equal α ∙ coefficient_scale (pos (denominators terms)) f α in
-          coefficient_scale (pos p) (value_by (λ label. basis_polynomial (basis_in family) label n) answer) α
-          ∙ product_cancel (pos p *ℤ v) (pos (denominators answer) *ℤ coefficient f α) ((D * q) * denominators terms) (mul-pos Dq h.positive)
-          (crossed (pos D) (pos q) (pos (denominators terms)) (pos (denominators answer)) (pos p) u v (coefficient (in_monomials W n) α) (coefficient (combined (λ label. basis_polynomial (basis_in family) label n) R) α) (coefficient f α) A B C H)
-          ∙ sym (coefficient_scale (pos (denominators answer)) f α);
-    }
+    expansion-by (basis_in family) N D (factorial d) terms answer (converted_terms end) some positive is b js quotients n total-value f p h
   where
     same_combined : (R : WholeTerms) → combined (λ label. basis_polynomial (basis_in family) label n) R ≡ combined (λ label. product_over (polynomial_of family) label n) R
     same_combined R = by family

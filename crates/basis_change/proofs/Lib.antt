@@ -1,6 +1,7 @@
 pub mod Tables
 pub mod PartLists
 pub mod Signs
+pub mod SortingSigns
 pub mod Walks
 pub mod Conversions
 pub mod Values
@@ -11,3 +12,9 @@ pub mod Bounds
 pub mod CostTable
 pub mod Ends
 pub mod Starts
+pub mod ArrangementSteps
+pub mod PrunedArrangements
+pub mod StraightTerms
+pub mod MultinomialSums
+pub mod StraightBounds
+pub mod StraightValues

@@ -3,7 +3,7 @@
 --     overflow_put, overflow_new     one that is refused
 --     Added-none, Added-then         nothing, and one list after another
 --     Overflows-then, -front         a list that is refused after another, and before others
-use Rattle.std.proofs.Common.{◌≡◌, ℕ, zero, suc, ◌+◌, ◌*◌, ◌<◌, ◌≤◌, ◌^◌, Bool, true, false, List, [], ◌∷◌, ◌++◌, length, get_or, refl, sym, ap, ap₂, ◌∙◌, arith, ℤ, pos, ◌+ℤ◌, ◌*ℤ◌}
+use Rattle.std.proofs.Common.{◌≡◌, ℕ, zero, suc, ◌+◌, ◌*◌, ◌<◌, ◌≤◌, ◌^◌, Bool, true, false, List, [], ◌∷◌, ◌++◌, length, get_or, cond, refl, sym, ap, ap₂, ◌∙◌, subst, arith, ℤ, pos, ◌+ℤ◌, ◌*ℤ◌}
 use Rattle.std.specs.Prelude.{Option, Some, None, is_some, slice_get, position, nat_abs}
 use Rattle.std.specs.Map.{keys_of, values_of}
 use Rattle.std.proofs.lemmas.Int.{ints}
@@ -12,6 +12,8 @@ use Rattle.indexmap.specs.Layout.{set_value_at}
 use Rattle.sym_model.proofs.Ring.{ring}
 use Rattle.basis_change.specs.declared.mixed.MixedLabel.{MixedLabel}
 use Rattle.basis_change.specs.Mixed.{Mixed, weighed, weight, Added, Overflows}
+use Rattle.basis_change.specs.Arranging.{at_label, OverflowsAt}
+use Rattle.sym_model.proofs.Exponents.{same_refl}
 use native.Mathlib.Nat.{mul-le-mul_right}
 use lib.IntN.{+ℤ_idl, +ℤ_idr, zero-*ℤ}
 use Rattle.std.specs.Prelude.{nat_eq, ◌&&◌, Result, Ok, Err, OnOk}
@@ -91,15 +93,25 @@ added_new es new label c e = record {
 at_least : (w : MixedLabel → ℕ) (es : Mixed) (c : ℤ) (label : MixedLabel) (x n : ℕ) → n ≤ x → 1 ≤ w label → n ≤ x * w label
 at_least w es c label x n h k = let m = mul-le-mul_right x k in omega arith
 
-pub overflow_put : (es : Mixed) (i : ℕ) (label : MixedLabel) (had c : ℤ) → slice_get es i ≡ Some (label, had) → 2 ^ 127 ≤ nat_abs (had +ℤ c) → Overflows ((label, c) ∷ []) es
-overflow_put es i label had c h large w positive =
+overflow_by : (es : Mixed) (i : ℕ) (label : MixedLabel) (had c : ℤ) → slice_get es i ≡ Some (label, had) → 2 ^ 127 ≤ nat_abs (had +ℤ c)
+    → (w : MixedLabel → ℕ) → 1 ≤ w label → 2 ^ 127 ≤ weight w es + weight w ((label, c) ∷ [])
+overflow_by es i label had c h large w positive =
     let s = weight_splits w es i (label, had) h in
     let was = s.1 in
     three (2 ^ 127) (nat_abs (had +ℤ c)) (nat_abs (had +ℤ c) * w label) (nat_abs had * w label) (nat_abs c * w label) s.0 (weight w es)
-    large (at_least w es c label (nat_abs (had +ℤ c)) (nat_abs (had +ℤ c)) (omega arith) (positive label)) (weight_more had c (w label)) was
+    large (at_least w es c label (nat_abs (had +ℤ c)) (nat_abs (had +ℤ c)) (omega arith) positive) (weight_more had c (w label)) was
   where
     three : (n a b x y r t : ℕ) → n ≤ a → a ≤ b → b ≤ x + y → t ≡ x + r → n ≤ t + (y + 0)
     three n a b x y r t h k l e = omega arith
+
+pub overflow_put : (es : Mixed) (i : ℕ) (label : MixedLabel) (had c : ℤ) → slice_get es i ≡ Some (label, had) → 2 ^ 127 ≤ nat_abs (had +ℤ c) → Overflows ((label, c) ∷ []) es
+overflow_put es i label had c h large w positive = overflow_by es i label had c h large w (positive label)
+
+pub at_label-itself : (label : MixedLabel) → 1 ≤ at_label label.converted label
+at_label-itself label = subst (λ b. 1 ≤ cond {A = ℕ} b 1 0) (sym (same_refl label.converted)) (omega arith)
+
+pub overflow_put_here : (es : Mixed) (i : ℕ) (label : MixedLabel) (had c : ℤ) → slice_get es i ≡ Some (label, had) → 2 ^ 127 ≤ nat_abs (had +ℤ c) → OverflowsAt label.converted ((label, c) ∷ []) es
+overflow_put_here es i label had c h large = overflow_by es i label had c h large (at_label label.converted) (at_label-itself label)
 
 -- the label at the place where a test finds one
 pub entry_found : (es : Mixed) (test : MixedLabel → Bool) (i : ℕ) → i < length es → position test (keys_of es) ≡ Some i

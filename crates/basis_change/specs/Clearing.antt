@@ -5,9 +5,13 @@ use Rattle.sym_model.specs.Expansion.{Fraction, Terms}
 use Rattle.basis_change_laws.specs.AugmentedMonomial.{multiplicity_factorials}
 use Rattle.basis_change.specs.Mixed.{Mixed, mixed}
 
+-- a fraction times den
+abbrev pub scaled : ℕ → Fraction → ℤ
+scaled den c = c.0 *ℤ pos (den / c.1)
+
 -- a fraction times den, times `factor` over the factorials of the multiplicities of a label
 abbrev pub cleared_number : ℕ → ℕ → List ℕ → Fraction → ℤ
-cleared_number den factor label c = (c.0 *ℤ pos (den / c.1)) *ℤ pos (factor / multiplicity_factorials label)
+cleared_number den factor label c = scaled den c *ℤ pos (factor / multiplicity_factorials label)
 
 -- the list times den and `factor`, in augmented monomials
 abbrev pub cleared_terms : ℕ → ℕ → Terms (List ℕ) → Mixed

@@ -3,3 +3,5 @@ pub mod Mixed
 pub mod Factors
 pub mod Costs
 pub mod Clearing
+pub mod Arranging
+pub mod Straightening

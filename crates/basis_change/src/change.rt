@@ -1,34 +1,31 @@
 //! The change from the monomial basis to any other.
-ghost use Rattle.std.specs.Prelude.{◌≡◌, ◌≢◌, ℕ, ◌*◌, ◌^◌, ◌<◌, ◌≤◌, IfOk, IsErrOf, SomeIff};
+ghost use Rattle.std.specs.Prelude.{◌≡◌, ℕ, ◌*◌, ◌^◌, ◌<◌, ◌≤◌, IfOk, IsErrOf, SomeIff};
 ghost use Rattle.sym_model.specs.Expansion.{monomials, IsExpansionOf};
 ghost use Rattle.sym_model.specs.ListWeight.{IsBounded};
 ghost use Rattle.sym_model.specs.Polynomial.{Poly};
 ghost use Rattle.sym_model.specs.Weight.{growth};
 ghost use Rattle.calc_expressions.specs.Trees.{basis_of};
 ghost use Rattle.basis_expand.specs.LabelSizes.{AreWithin};
-ghost use Rattle.basis_expand.specs.Tables.{IsTable};
 ghost use Rattle.basis_change.specs.Limits.{most_cells};
 ghost use Rattle.basis_change.specs.Factors.{basis_in};
 
-use crate::clearing::{greatest_size, in_augmented};
+use crate::clearing::{LIMIT, greatest_size, in_augmented, is_table};
 use crate::division::divided;
 use crate::factors::{Family, power_sums_in};
 use crate::parts::factorial;
 use crate::rewriting::converted;
+use crate::straightening::by_arrangements;
 use calc_base::{Basis, SumFault, Weight};
 use coeff_rings::Frac;
 use partitions::Partition;
 use sparse_polys::Lin;
 use std::alloc::Global;
 
-/// Denominators are below this.
-const LIMIT: u128 = 1 << 127;
-
 /// The list, read as an expansion in m, as an expansion in the target, in every number of variables: of whatever polynomial the
-/// one is an expansion, of that the other is. The target is m, e, h or p.
+/// one is an expansion, of that the other is.
 ///
-/// The list is bounded by `bound`, of which both numbers are at least 1, and its labels have at most 20 cells for the target m,
-/// at most 15 for the others. It is refused as `Large` only where the product of the two numbers and of the growth into the
+/// The list is bounded by `bound`, of which both numbers are at least 1, and its labels have at most 20 cells for the targets m
+/// and s, at most 15 for e, h and p. It is refused as `Large` only where the product of the two numbers and of the growth into the
 /// target at the greatest size of a label is 2^127 or more.
 pub fn to_basis(
     alloc: Global,
@@ -39,7 +36,6 @@ pub fn to_basis(
     requires bounded { IsBounded bound.num bound.den list.now }
     requires positive { (1 ≤ bound.num) × (1 ≤ bound.den) }
     requires sizes { AreWithin (most_cells (basis_of target)) list.now }
-    requires built { target ≢ Basis.S }
     ensures value { IfOk result (λ answer. (n : ℕ) (f : Poly) (q : ℕ)
         → IsExpansionOf monomials list.now n f q → IsExpansionOf (basis_of target) answer n f q) }
     ensures large { IsErrOf result SumFault.Large → (d : ℕ) → AreWithin d list.now
@@ -50,7 +46,7 @@ pub fn to_basis(
         Basis::E => by_augmented(alloc, list, bound, Family::Elementary),
         Basis::H => by_augmented(alloc, list, bound, Family::Complete),
         Basis::P => by_augmented(alloc, list, bound, Family::PowerSum),
-        Basis::S => unreachable!(),
+        Basis::S => by_arrangements(alloc, list, bound),
     }
 }
 
@@ -62,13 +58,6 @@ fn copy_of(list: &Lin<Partition, Frac>) -> Result<Lin<Partition, Frac>, SumFault
 {
     is_table(list);
     Ok(list.copy()?)
-}
-
-/// Does nothing when it runs: it tells a proof what a list is.
-fn is_table(list: &Lin<Partition, Frac>)
-    ensures { IsTable list.now }
-{
-    let _ = list.len();
 }
 
 /// The change into a family whose polynomials are multiplied over the parts: by augmented monomials, whose parts become power

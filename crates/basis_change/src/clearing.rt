@@ -2,7 +2,8 @@
 ghost use Rattle.std.specs.Prelude.{◌≡◌, ℕ, ◌+◌, ◌*◌, ◌/◌, ◌^◌, ◌<◌, ◌≤◌, [], ◌∷◌, pos, nat_abs, MatchOption, IfOk, OnOk, IsErrOf};
 ghost use Rattle.basis_change_laws.specs.AugmentedMonomial.{multiplicity_factorials};
 ghost use Rattle.basis_expand.specs.LabelSizes.{AreWithin};
-ghost use Rattle.basis_change.specs.Clearing.{cleared_number, cleared_terms, HasFactors};
+ghost use Rattle.basis_expand.specs.Tables.{IsTable};
+ghost use Rattle.basis_change.specs.Clearing.{scaled, cleared_number, cleared_terms, HasFactors};
 ghost use Rattle.basis_change.specs.Mixed.{mixed, Added, Overflows};
 
 use crate::mixed::MixedLabel;
@@ -14,6 +15,9 @@ use indexmap::IndexMap;
 use partitions::Partition;
 use sparse_polys::Lin;
 use std::alloc::Global;
+
+/// Denominators are below this.
+pub(crate) const LIMIT: u128 = 1 << 127;
 
 /// The greatest size of a label, 0 for the empty list.
 pub(crate) fn greatest_size(list: &Lin<Partition, Frac>) -> u16
@@ -28,6 +32,13 @@ pub(crate) fn greatest_size(list: &Lin<Partition, Frac>) -> u16
         }
     }
     greatest
+}
+
+/// Does nothing when it runs: it tells a proof what a list is.
+pub(crate) fn is_table(list: &Lin<Partition, Frac>)
+    ensures { IsTable list.now }
+{
+    let _ = list.len();
 }
 
 /// The whole number.
@@ -53,6 +64,15 @@ fn denominator_of(c: Frac) -> u128
     c.den() as u128
 }
 
+/// The coefficient times the common denominator; none where it is too large.
+pub(crate) fn scaled_number(c: Frac, den: u128) -> Option<Int>
+    requires { den < 2 ^ 127 }
+    ensures { MatchOption result (2 ^ 127 ≤ nat_abs (scaled den c)) (λ z. z ≡ scaled den c) }
+{
+    let scale = den / denominator_of(c);
+    numerator_of(c).mul(whole_of(scale))
+}
+
 /// The coefficient times the common denominator, times `factor` over the factorials of the multiplicities; none where it is too
 /// large.
 fn cleared_number(c: Frac, den: u128, factor: u128, label: &Partition) -> Option<Int>
@@ -63,8 +83,7 @@ fn cleared_number(c: Frac, den: u128, factor: u128, label: &Partition) -> Option
         (λ z. z ≡ cleared_number den factor label.now c) }
 {
     let quotient = factor / multiplicity_factorials(label.parts());
-    let scale = den / denominator_of(c);
-    let Some(scaled) = numerator_of(c).mul(whole_of(scale)) else {
+    let Some(scaled) = scaled_number(c, den) else {
         return None;
     };
     scaled.mul(whole_of(quotient))

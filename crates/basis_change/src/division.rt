@@ -4,6 +4,7 @@ ghost use Rattle.coeff_rings.specs.Fractions.{lowest_terms};
 ghost use Rattle.sym_model.specs.Polynomial.{coefficient};
 ghost use Rattle.basis_expand.specs.Tables.{found, IsTable};
 ghost use Rattle.basis_change.specs.Mixed.{converted_terms, weight};
+ghost use Rattle.basis_change.specs.Arranging.{at_label};
 
 use crate::table::{Mixed, entry_at};
 use calc_base::SumFault;
@@ -31,6 +32,8 @@ pub(crate) fn divided(
         → found list label ≡ lowest_terms (coefficient (converted_terms sum.now.entries) label) den) }
     ensures table { IfOk result IsTable }
     ensures large { IsErrOf result SumFault.Large → 2 ^ 127 ≤ weight (λ l. 1) sum.now.entries }
+    ensures large_here { IsErrOf result SumFault.Large
+        → (ν : List ℕ) × (2 ^ 127 ≤ weight (at_label ν) sum.now.entries) }
 {
     let mut list = Lin::new(alloc);
     for at in 0..sum.len() {

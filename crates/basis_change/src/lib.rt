@@ -1,6 +1,7 @@
 //! Changes between the bases of symmetric functions.
 #![tactic(auto)]
 
+mod arranging;
 mod change;
 mod clearing;
 mod division;
@@ -9,6 +10,8 @@ mod mixed;
 mod parts;
 mod products;
 mod rewriting;
+mod sorting;
+mod straightening;
 mod table;
 
 pub use change::to_basis;

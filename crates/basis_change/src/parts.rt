@@ -58,7 +58,7 @@ pub(crate) fn raised(
 }
 
 /// The parts without the first one that is the number.
-fn without_part(alloc: Global, parts: &[u16], part: u16) -> Result<Vec<u16>, AllocError>
+pub(crate) fn without_part(alloc: Global, parts: &[u16], part: u16) -> Result<Vec<u16>, AllocError>
     ensures { IfOk result (λ rest. rest.items ≡ without_one part parts.now) }
 {
     let mut rest = Vec::new(alloc);

@@ -1,6 +1,7 @@
 //! Tables of terms, to which terms are added.
 ghost use Rattle.std.specs.Prelude.{◌≡◌, ◌<◌, ℤ, ◌∷◌, [], length, slice_get, OnOk, IsErrOf, Some};
 ghost use Rattle.basis_change.specs.Mixed.{Added, Overflows};
+ghost use Rattle.basis_change.specs.Arranging.{OverflowsAt};
 ghost use Rattle.basis_change.specs.declared.mixed.MixedLabel.{MixedLabel as Label};
 
 use crate::mixed::MixedLabel;
@@ -15,6 +16,7 @@ pub(crate) type Mixed = IndexMap<MixedLabel, Int>;
 pub(crate) fn add(sum: &mut Mixed, label: MixedLabel, c: Int) -> Result<(), SumFault>
     ensures ok { OnOk result (Added ((label, c) ∷ []) sum.old.entries sum.new.entries) }
     ensures large { IsErrOf result SumFault.Large → Overflows ((label, c) ∷ []) sum.old.entries }
+    ensures large_here { IsErrOf result SumFault.Large → OverflowsAt label.converted ((label, c) ∷ []) sum.old.entries }
 {
     match sum.get_index_of(&label) {
         Some(at) => add_at(sum, at, c),
@@ -32,6 +34,8 @@ fn add_at(sum: &mut Mixed, at: usize, c: Int) -> Result<(), SumFault>
         → Added ((label, c) ∷ []) sum.old.entries sum.new.entries) }
     ensures large { IsErrOf result SumFault.Large → (label : Label) (had : ℤ)
         → slice_get sum.old.entries at ≡ Some (label, had) → Overflows ((label, c) ∷ []) sum.old.entries }
+    ensures large_here { IsErrOf result SumFault.Large → (label : Label) (had : ℤ)
+        → slice_get sum.old.entries at ≡ Some (label, had) → OverflowsAt label.converted ((label, c) ∷ []) sum.old.entries }
 {
     let had = sum[at];
     let Some(both) = had.add(c) else {

@@ -20,3 +20,7 @@ returns-in-H-clause-value c =
 pub returns-in-P-clause-value : goal.returns-in-P-clause-value
 returns-in-P-clause-value c =
     subst (λ t. IfOk c.by_augmented-in-P.result (λ answer. (n : ℕ) (f : Poly) (q : ℕ) → IsExpansionOf monomials c.args.list.now n f q → IsExpansionOf (basis_of t) answer n f q)) (sym c.in-P.is) c.by_augmented-in-P.ensures.value
+
+pub returns-in-S-clause-value : goal.returns-in-S-clause-value
+returns-in-S-clause-value c =
+    subst (λ t. IfOk c.by_arrangements.result (λ answer. (n : ℕ) (f : Poly) (q : ℕ) → IsExpansionOf monomials c.args.list.now n f q → IsExpansionOf (basis_of t) answer n f q)) (sym c.in-S.is) c.by_arrangements.ensures.value

@@ -1,4 +1,4 @@
-use Rattle.std.proofs.Common.{[], ℕ, ℤ, List, map, take, sym, ap, subst, Err}
+use Rattle.std.proofs.Common.{[], ℕ, ℤ, List, map, take, sym, ap, subst, Err, arith}
 use Rattle.coeff_rings.specs.Fractions.{lowest_terms}
 use Rattle.sym_model.specs.Expansion.{Fraction}
 use Rattle.sym_model.specs.LabelLimits.{is_label}
@@ -9,7 +9,8 @@ use Rattle.basis_expand.specs.Tables.{equal, IsTable}
 use Rattle.basis_expand.proofs.Quotients.{Quotients, Quotients-none, Quotients-next}
 use Rattle.basis_change.specs.declared.mixed.MixedLabel.{MixedLabel}
 use Rattle.basis_change.proofs.Walks.{map-next}
-use Rattle.basis_change.proofs.Bounds.{refused-weight}
+use Rattle.basis_change.specs.Arranging.{at_label}
+use Rattle.basis_change.proofs.Bounds.{refused-weight, weight-mono, at_label-within}
 use Rattle.basis_change.proofs.division.divided.Goals as goal
 
 pub loop-at-init : goal.loop-at-init
@@ -21,9 +22,20 @@ loop-at-init c = record {
 
 pub returns-in_err-add_term-clause-large : goal.returns-in_err-add_term-clause-large
 returns-in_err-add_term-clause-large c err =
+    let here =
     refused-weight c.args.den c.args.sum.now.entries c.loop-at.at c.entry_at-c.result.0.now c.entry_at-c.result.1 c.loop-at.list c.requires.0 c.requires.1 c.entry_at-c.ensures c.loop-at.invariant.quotients
     _ _ c.in_ok-copy.ensures.ok c.quotient_of.ensures
-    (c.in_err-add_term.ensures.large.0 (ap Err (error_is _ _ _ c.from_residual-in_err-add_term.ensures.1 err)))
+    (c.in_err-add_term.ensures.large.0 (ap Err (error_is _ _ _ c.from_residual-in_err-add_term.ensures.1 err))) in
+    let all = weight-mono (at_label c.entry_at-c.result.0.now.converted) (λ l. 1) c.args.sum.now.entries (at_label-within c.entry_at-c.result.0.now.converted) in
+    omega arith
+
+pub returns-in_err-add_term-clause-large_here : goal.returns-in_err-add_term-clause-large_here
+returns-in_err-add_term-clause-large_here c err = (
+  c.entry_at-c.result.0.now.converted,
+  refused-weight c.args.den c.args.sum.now.entries c.loop-at.at c.entry_at-c.result.0.now c.entry_at-c.result.1 c.loop-at.list c.requires.0 c.requires.1 c.entry_at-c.ensures c.loop-at.invariant.quotients
+      _ _ c.in_ok-copy.ensures.ok c.quotient_of.ensures
+      (c.in_err-add_term.ensures.large.0 (ap Err (error_is _ _ _ c.from_residual-in_err-add_term.ensures.1 err))),
+)
 
 pub loop-at-preserved : goal.loop-at-preserved
 loop-at-preserved c =

@@ -2,6 +2,7 @@ use Rattle.std.proofs.Common.{◌≡◌, ◌∷◌, [], sym, ◌∙◌, subst}
 use Rattle.indexmap.proofs.CallerLemmas.{insert_entry-new}
 use Rattle.basis_change.specs.declared.mixed.MixedLabel.{MixedLabel}
 use Rattle.basis_change.specs.Mixed.{Added, Overflows}
+use Rattle.basis_change.specs.Arranging.{OverflowsAt}
 use Rattle.basis_change.proofs.Tables.{added_new, entry_found, none_found, same_label, on_ok}
 use Rattle.basis_change.proofs.table.add.Goals as goal
 
@@ -24,3 +25,10 @@ pub returns-in_ok-insert-in-None-clause-ok : goal.returns-in_ok-insert-in-None-c
 returns-in_ok-insert-in-None-clause-ok c =
     added_new c.args.sum.now.entries c.insert.new.self.entries c.args.label c.args.c
     (c.in_ok-insert-in-None.ensures.entries ∙ insert_entry-new _ c.args.sum.now c.args.label c.args.c (none_found _ c.in-None.ensures.found))
+
+pub returns-in-Some-clause-large_here : goal.returns-in-Some-clause-large_here
+returns-in-Some-clause-large_here c err =
+    let e = entry_found c.args.sum.now.entries _ c.in-Some.at c.in-Some.ensures.within (sym c.in-Some.ensures.index) in
+    let same : c.args.label ≡ e.0.0 = same_label c.args.label e.0.0 e.2 in
+    subst (λ (l : MixedLabel). OverflowsAt l.converted ((l, c.args.c) ∷ []) c.args.sum.now.entries) (sym same)
+    (c.add_at.ensures.large_here err e.0.0 e.0.1 e.1)

@@ -1,0 +1,3 @@
+pub mod FewVariables
+pub mod SymmetricPolynomials
+pub mod Families

@@ -1,0 +1,2 @@
+pub mod SymmetricFamily
+pub mod PartitionAtoms
