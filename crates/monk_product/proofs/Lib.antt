@@ -7,3 +7,6 @@ pub mod Labels
 pub mod MonkSteps
 pub mod EntrySums
 pub mod ProductSteps
+pub mod OneCover
+pub mod Bounds
+pub mod VariableProduct

@@ -2,8 +2,8 @@
 --     mass_more        it grows by what is added at most
 --     mass_refused     where that is refused it is large
 --     short_more       labels stay short
-use Rattle.std.proofs.Common.{◌≡◌, ◌⊎◌, ℕ, zero, suc, ◌+◌, ◌*◌, ◌^◌, ◌<◌, ◌≤◌, Bool, true, false, cond, List, [], ◌∷◌, ◌++◌, length, refl, sym, ap, ap₂, ◌∙◌, subst, inl, inr, arith, ℤ, pos, negsuc, ◌+ℤ◌, ◌*ℤ◌, ◌≤ℤ◌}
-use Rattle.std.specs.Prelude.{Option, Some, None, FitsSigned, nat_lt, nat_abs}
+use Rattle.std.proofs.Common.{◌≡◌, ◌⊎◌, ℕ, ◌+◌, ◌^◌, ◌<◌, ◌≤◌, Bool, true, false, cond, List, [], ◌∷◌, length, refl, sym, ap, ap₂, ◌∙◌, subst, inl, inr, arith, ℤ, pos, negsuc, ◌+ℤ◌}
+use Rattle.std.specs.Prelude.{Some, None, FitsSigned, nat_lt, nat_abs}
 use Rattle.std.specs.Int.{w128}
 use Rattle.std.specs.Cmp.Lexicographic.{nat_list_eq_equiv}
 use Rattle.std.specs.Map.{lookup}
@@ -13,7 +13,7 @@ use Rattle.std.proofs.lemmas.Int.{ints}
 use Rattle.coeff_rings.specs.Fractions.{whole, fraction_sum}
 use Rattle.coeff_rings.specs.Checked.{checked_i128, where_fits}
 use Rattle.coeff_rings.specs.Proved.Whole.{same_whole, where_fits-true}
-use Rattle.sym_model.specs.Sum.{total, Among}
+use Rattle.sym_model.specs.Sum.{total}
 use Rattle.sym_model.specs.Expansion.{Fraction, Terms}
 use Rattle.sym_model.specs.WholeTerms.{AreWhole}
 use Rattle.sparse_polys.specs.Combination.{coefficient, HasMoreAt}
@@ -23,7 +23,7 @@ use Rattle.schubert_transition.specs.TermLists.{equal, IsTable}
 use Rattle.schubert_transition.proofs.TermSums.{equal_tells, more_at, whole_found}
 use Rattle.monk_product.specs.Monk.{mass, AreShort}
 
-triangle : (x y : ℤ) → nat_abs (x +ℤ y) ≤ nat_abs x + nat_abs y
+pub triangle : (x y : ℤ) → nat_abs (x +ℤ y) ≤ nat_abs x + nat_abs y
 triangle (pos a) (pos b) = omega (arith, ints)
 triangle (pos a) (negsuc b) = omega (arith, ints)
 triangle (negsuc a) (pos b) = omega (arith, ints)
@@ -52,7 +52,7 @@ found_mass (t ∷ terms) label = by (equal label t.0) (found_mass terms label)
     by true rest = omega arith
     by false rest = omega arith
 
-refused_size : (z : ℤ) → checked_i128 z ≡ None → 2 ^ 127 ≤ nat_abs z
+pub refused_size : (z : ℤ) → checked_i128 z ≡ None → 2 ^ 127 ≤ nat_abs z
 refused_size (pos n) e = by (cases_lt n (2 ^ 127))
   where
     by : (n < 2 ^ 127) ⊎ (2 ^ 127 ≤ n) → 2 ^ 127 ≤ n

@@ -1,10 +1,9 @@
 -- Monk's rule on a list, under the pairings of specs/Pending.
-use Rattle.std.proofs.Common.{◌≡◌, ◌⊎◌, ℕ, ◌+◌, ◌-◌, ◌*◌, ◌<◌, ◌≤◌, Bool, true, false, ◌&&◌, cond, List, [], ◌∷◌, ◌++◌, length, refl, sym, ap, ap₂, ◌∙◌, subst, inl, inr, arith, ℤ, pos, ◌+ℤ◌, ◌-ℤ◌, ◌*ℤ◌}
-use Rattle.std.specs.Prelude.{neg_ℤ}
+use Rattle.std.proofs.Common.{◌≡◌, ℕ, ◌≤◌, Bool, true, false, ◌&&◌, cond, List, sym, ap, ◌∙◌, arith, ℤ, pos, ◌-ℤ◌, ◌*ℤ◌}
 use Rattle.std.proofs.lemmas.Bool.{and_parts}
 use Rattle.std.proofs.lemmas.Int.{ints}
-use Rattle.sym_model.specs.Sum.{total, Among}
-use Rattle.sym_model.specs.Polynomial.{Poly, join, pair, plus, times, negate, resize, fits_in}
+use Rattle.sym_model.specs.Sum.{total}
+use Rattle.sym_model.specs.Polynomial.{join, pair, plus, times, negate, resize, fits_in}
 use Rattle.sym_model.specs.LabelLimits.{is_permutation_label}
 use Rattle.sym_model.specs.Permutation.{IsOneLine, covers_up, covers_down}
 use Rattle.sym_model.specs.DividedDifference.{variable_in}
@@ -17,12 +16,12 @@ use Rattle.sym_model.proofs.Polynomials.{pair_ext, pair_determined, pair_plus, p
 use Rattle.schubert_laws.proofs.MonkFromOne.{monk_in}
 use Rattle.monomial_polys.specs.Raised.{raised}
 use Rattle.schubert_transition.specs.TermLists.{over, IsTable}
-use Rattle.schubert_transition.specs.Transitions.{shown, acted}
+use Rattle.schubert_transition.specs.Transitions.{acted}
 use Rattle.schubert_transition.proofs.Monomials.{unit, pair_variable}
 use Rattle.monk_product.specs.Monk.{over_covers}
 use Rattle.monk_product.proofs.Labels.{label_one_line}
 
-pair_monk : (n r : ℕ) (w : List ℕ) (φ : List ℕ → ℤ) → IsOneLine w → 1 ≤ r → pair (times (variable_in r n) (schubert_in w n)) φ ≡ over_covers r (λ x. pair (schubert_in x n) φ) w
+pub pair_monk : (n r : ℕ) (w : List ℕ) (φ : List ℕ → ℤ) → IsOneLine w → 1 ≤ r → pair (times (variable_in r n) (schubert_in w n)) φ ≡ over_covers r (λ x. pair (schubert_in x n) φ) w
 pair_monk n r w φ o h =
     let a = pair_determined (times (variable_in r n) (schubert_in w n)) (plus (schuberts_in (covers_up r w) n) (negate (schuberts_in (covers_down r w) n))) φ (monk_in w r n o h) in
     let b = pair_plus (schuberts_in (covers_up r w) n) (negate (schuberts_in (covers_down r w) n)) φ in

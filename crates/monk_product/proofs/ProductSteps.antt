@@ -1,9 +1,9 @@
 -- The product as the monomials are worked off: its start, one step and its end.
-use Rattle.std.proofs.Common.{◌≡◌, ◌⊎◌, ℕ, zero, suc, ◌+◌, ◌-◌, ◌*◌, ◌^◌, ◌<◌, ◌≤◌, max, Bool, true, false, cond, List, [], ◌∷◌, ◌++◌, length, refl, sym, ap, ap₂, ◌∙◌, subst, inl, inr, arith, ℤ, pos, negsuc, ◌+ℤ◌, ◌*ℤ◌, ◌≤ℤ◌}
+use Rattle.std.proofs.Common.{◌≡◌, ℕ, ◌+◌, ◌*◌, ◌^◌, ◌<◌, ◌≤◌, max, Bool, true, false, cond, List, [], ◌∷◌, ◌++◌, length, refl, sym, ap, ◌∙◌, subst, inl, inr, arith, ℤ, pos, negsuc, ◌+ℤ◌, ◌*ℤ◌, ◌≤ℤ◌}
 use Rattle.std.specs.Prelude.{nat_abs}
 use Rattle.std.proofs.lemmas.Int.{ints}
 use Rattle.sym_model.specs.Sum.{Among, total}
-use Rattle.sym_model.specs.Polynomial.{Poly, Term, Same, same, pair, join, times, scale, fits_in}
+use Rattle.sym_model.specs.Polynomial.{Poly, Term, same, pair, join, times, scale}
 use Rattle.sym_model.specs.Partition.{size}
 use Rattle.sym_model.specs.PlaceOrders.{inversions}
 use Rattle.sym_model.specs.Schubert as polynomials
@@ -26,7 +26,7 @@ use Rattle.schubert_transition.proofs.Monomials.{schubert_monomials}
 use Rattle.schubert_laws.proofs.FixedLetters.{In_schubert}
 use Rattle.monk_product.specs.declared.pending.Pending.{Pending}
 use Rattle.monk_product.specs.Monk.{mass, AreShort}
-use Rattle.monk_product.specs.Pending.{weigh, value_of, growth, steps, IsPending, ArePending}
+use Rattle.monk_product.specs.Pending.{value_of, growth, steps, IsPending, ArePending}
 use Rattle.monk_product.proofs.Weights.{weigh_append}
 use Rattle.monk_product.proofs.EntrySums.{power_positive}
 use native.Mathlib.Nat.{mul-le-mul_left}

@@ -1,11 +1,15 @@
 //! Monk's rule on lists of Schubert polynomials.
 ghost use Rattle.std.specs.Prelude.{◌≡◌, ℕ, ◌+◌, ◌*◌, ◌^◌, ◌≤◌, ◌+ℤ◌, ◌*ℤ◌, ℤ, neg_ℤ, nat_abs, max, List, length, IfOk, OnOk, IsErrOf};
-ghost use Rattle.sym_model.specs.Expansion.{Fraction};
+ghost use Rattle.sym_model.specs.DividedDifference.{variable_in};
+ghost use Rattle.sym_model.specs.Expansion.{Fraction, Represents};
 ghost use Rattle.sym_model.specs.LabelLimits.{is_permutation_label};
+ghost use Rattle.sym_model.specs.ListWeight.{list_weight};
+ghost use Rattle.sym_model.specs.Polynomial.{times};
+ghost use Rattle.sym_model.specs.Schubert.{schubert_in};
 ghost use Rattle.sym_model.specs.Sum.{total, Among};
-ghost use Rattle.sym_model.specs.WholeTerms.{AreWhole};
-ghost use Rattle.schubert_transition.specs.TermLists.{over, IsTable};
-ghost use Rattle.monk_product.specs.Monk.{mass, AreShort, over_covers};
+ghost use Rattle.sym_model.specs.WholeTerms.{AreWhole, combined, numerators};
+ghost use Rattle.schubert_transition.specs.TermLists.{over, only, IsTable};
+ghost use Rattle.monk_product.specs.Monk.{mass, AreShort, over_covers, greatest_length, count_of};
 
 use calc_base::SumFault;
 use coeff_rings::{Int, Ring};
@@ -22,7 +26,8 @@ fn add_each(sum: &mut Sum, covers: &[Perm], c: Int) -> Result<(), SumFault>
     ensures mass { OnOk result (mass sum.new ≤ mass sum.old + nat_abs c * length covers.now) }
     ensures short { OnOk result ((most : ℕ) → AreShort most sum.old
         → ((x : List ℕ) → Among x covers.now → length x ≤ most) → AreShort most sum.new) }
-    ensures large { IsErrOf result SumFault.Large → 2 ^ 127 ≤ mass sum.old + nat_abs c * length covers.now }
+    ensures large { IsErrOf result SumFault.Large → (x : List ℕ)
+        × (2 ^ 127 ≤ nat_abs (over (only x) sum.old) + nat_abs c * count_of x covers.now) }
 {
     for cover in covers {
         is_whole(sum);
@@ -47,8 +52,9 @@ fn add_product(sum: &mut Sum, w: &Perm, c: Int, r: u16) -> Result<(), SumFault>
     ensures value { OnOk result ((φ : List ℕ → ℤ) → over φ sum.new ≡ over φ sum.old +ℤ c *ℤ over_covers r φ w.now) }
     ensures mass { OnOk result (mass sum.new ≤ mass sum.old + nat_abs c * max (length w.now) r) }
     ensures short { OnOk result ((most : ℕ) → AreShort most sum.old → max (length w.now) r + 1 ≤ most → AreShort most sum.new) }
-    ensures large { IsErrOf result SumFault.Large → 2 ^ 127 ≤ mass sum.old + nat_abs c * max (length w.now) r }
+    ensures large { IsErrOf result SumFault.Large → (x : List ℕ) × (2 ^ 127 ≤ nat_abs (over (only x) sum.old) + nat_abs c) }
 {
+    let _ = w.len();
     let covers = w.covers_at(r)?;
     add_each(sum, covers.up(), c)?;
     add_each(sum, covers.down(), negated(c)?)
@@ -64,8 +70,8 @@ pub(crate) fn add_times_var(sum: &mut Sum, list: &Sum, r: u16) -> Result<(), Sum
         → mass sum.new ≤ mass sum.old + mass list.now * most) }
     ensures short { OnOk result ((most : ℕ) → AreShort most list.now → r ≤ most → AreShort (most + 1) sum.old
         → AreShort (most + 1) sum.new) }
-    ensures large { IsErrOf result SumFault.Large → (most : ℕ) → AreShort most list.now → r ≤ most
-        → 2 ^ 127 ≤ mass sum.old + mass list.now * most }
+    ensures large { IsErrOf result SumFault.Large → (x : List ℕ)
+        × (2 ^ 127 ≤ nat_abs (over (only x) sum.old) + mass list.now) }
 {
     for (w, c) in list.iter() {
         add_product(sum, w, *c, r)?;
@@ -97,21 +103,26 @@ pub(crate) fn add_list(sum: &mut Sum, list: &Sum) -> Result<(), SumFault>
     Ok(())
 }
 
-/// The list times the variable x_r, by Monk's rule: x_r·S_w is the sum over the covers w·t_rj with j > r less the sum over
-/// the covers w·t_ir with i < r. The place r is from 1 to 254, and each label has at most 254 letters.
+/// The product of a sum of Schubert polynomials and the variable x_r, by Monk's rule: x_r·S_w is the sum over the covers
+/// w·t_rj with j > r less the sum over the covers w·t_ir with i < r. The place r is from 1 to 254, and each label has at
+/// most 254 letters.
 ///
-/// It is refused as `Large` only where the sum of the absolute values of the coefficients, times the greater of r and the
-/// greatest number of letters, is 2^127 or more.
+/// The weight of the product is at most that of the list times the greater of r and the greatest number of letters of a
+/// label. It is refused as `Large` only where the weight of the list is 2^127 or more.
 pub fn times_var(alloc: Global, list: Lin<Perm, Int>, r: u16) -> Result<Lin<Perm, Int>, SumFault>
     requires first { 1 ≤ r }
     requires last { r ≤ 254 }
     requires letters { AreShort 254 list }
-    ensures value { IfOk result (λ product. (φ : List ℕ → ℤ) → over φ product ≡ over (over_covers r φ) list) }
-    ensures mass { IfOk result (λ product. (most : ℕ) → AreShort most list → r ≤ most → mass product ≤ mass list * most) }
-    ensures large { IsErrOf result SumFault.Large → (most : ℕ) → AreShort most list → r ≤ most → 2 ^ 127 ≤ mass list * most }
+    ensures value { IfOk result (λ product. (n : ℕ) → Represents (λ w. schubert_in w n) product
+        (times (variable_in r n) (combined (λ w. schubert_in w n) (numerators list))) 1) }
+    ensures weight { IfOk result (λ product. list_weight product ≤ list_weight list * max r (greatest_length list)) }
+    ensures short { IfOk result (AreShort (max r (greatest_length list) + 1)) }
+    ensures large { IsErrOf result SumFault.Large → 2 ^ 127 ≤ list_weight list }
 {
+    is_whole(&list);
     let mut product = Lin::new(alloc);
     add_times_var(&mut product, &list, r)?;
+    is_whole(&product);
     Ok(product)
 }
 

@@ -118,3 +118,20 @@ size-padded (a ∷ e) k = ap (λ n. a + n) (size-padded e k)
 -- the same number of elements put in the place of a list's
 pub refilled : (xs ws : List ℕ) → length ws ≡ length xs → refill (length xs) xs ws ≡ ws
 refilled xs ws h = take-append-le (length xs) ws (drop (length ws) xs) (omega arith) ∙ ap (λ n. take n ws) (sym h) ∙ take_all (length ws) ws (omega arith)
+
+-- ---- a monomial is known by its product with a variable
+
+-- the number at a place lowered by 1
+abbrev lowered : ℕ → List ℕ → List ℕ
+lowered k [] = []
+lowered zero (a ∷ x) = (a - 1) ∷ x
+lowered (suc k) (a ∷ x) = a ∷ lowered k x
+
+back : (k : ℕ) (e : List ℕ) → without_last_zeros (lowered k (join e (unit k))) ≡ without_last_zeros e
+back zero [] = refl
+back zero (a ∷ e) = ap₂ (λ (n : ℕ) (x : List ℕ). in_front n (without_last_zeros x)) (let s : a + 1 - 1 ≡ a = omega arith in s) (join-nil e)
+back (suc k) [] = ap (in_front 0) (back k [])
+back (suc k) (a ∷ e) = ap₂ in_front (add-zero a) (back k e)
+
+pub raised-same : (r : ℕ) (e f : List ℕ) → without_last_zeros e ≡ e → without_last_zeros f ≡ f → raised r e ≡ raised r f → e ≡ f
+raised-same r e f t u h = sym t ∙ sym (back (r - 1) e) ∙ ap (λ x. without_last_zeros (lowered (r - 1) x)) h ∙ back (r - 1) f ∙ u

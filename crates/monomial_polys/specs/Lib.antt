@@ -1,3 +1,4 @@
 pub mod Limits
 pub mod Ties
 pub mod Raised
+pub mod Products

@@ -1,11 +1,12 @@
 //! The type of a monomial.
-ghost use Rattle.std.specs.Prelude.{◌≡◌, ℕ, ◌+◌, ◌<◌, ◌≤◌, ◌↔◌, [], length, slice_index, slice_set, nat_eq, IsOk, IfOk, OnOk, IsErrOf};
+ghost use Rattle.std.specs.Prelude.{◌≡◌, ℕ, ◌+◌, ◌^◌, ◌<◌, ◌≤◌, ◌↔◌, [], length, slice_index, slice_index_or, slice_set, nat_eq, IsOk, IfOk, OnOk, IsErrOf};
 ghost use Rattle.std.specs.Cmp.{partial_equiv_from_equiv};
 ghost use Rattle.std.specs.Cmp.Lexicographic.{pointwise, nat_list_eq_equiv};
 ghost use Rattle.std.specs.Cmp.Rules.{hashing};
 ghost use Rattle.std.specs.Hash as fed;
 ghost use Rattle.std.proofs.Common.{rules};
 ghost use Rattle.sym_model.specs.Partition.{size, without_last_zeros};
+ghost use Rattle.sym_model.specs.Polynomial.{join};
 ghost use Rattle.sym_model.specs.PrintedOrder.{printed_order};
 ghost use Rattle.monomial_polys.specs.Limits.{HasDegree, IsWithinLimits};
 ghost use Rattle.monomial_polys.specs.Raised.{raised};
@@ -109,6 +110,18 @@ impl Monomial {
         })
     }
 
+    /// The product with another monomial, where it stays within the limits. At most 16 exponents take no memory.
+    pub fn times(&self, other: &Monomial) -> Result<Monomial, NoMemory>
+        requires { IsWithinLimits (join self.now other.now) }
+        ensures { IfOk result (λ m. m ≡ join self.now other.now) }
+    {
+        let alloc = *self.exponents.allocator();
+        Ok(Monomial {
+            exponents: joined(alloc, self.exponents(), other.exponents())?,
+            degree: self.degree + other.degree,
+        })
+    }
+
     /// The exponents.
     pub fn exponents(&self) -> &[u16]
         ensures value { result.now ≡ self.now }
@@ -181,6 +194,25 @@ fn with_degree(alloc: Global, exponents: &[u16], degree: u16) -> Result<Monomial
         exponents: SmallVec::from_slice(alloc, exponents)?,
         degree,
     })
+}
+
+/// The sums of the numbers at each place, where a missing number is 0.
+fn joined(alloc: Global, first: &[u16], second: &[u16]) -> Result<Exponents, AllocError>
+    requires { size (join first.now second.now) < 2 ^ 16 }
+    ensures { IfOk result (λ sums. sums.items ≡ join first.now second.now) }
+{
+    let mut sums = SmallVec::new(alloc);
+    for at in 0..first.len().max(second.len()) {
+        sums.push(number_at(first, at) + number_at(second, at))?;
+    }
+    Ok(sums)
+}
+
+/// The number at an index, or 0 past the end.
+fn number_at(numbers: &[u16], at: usize) -> u16
+    ensures { result ≡ slice_index_or numbers.now at 0 }
+{
+    numbers.get(at).copied().unwrap_or(0)
 }
 
 /// Adds 1 to the exponent at a place, counted from 0.

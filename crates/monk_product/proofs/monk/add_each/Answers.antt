@@ -1,26 +1,19 @@
-use Rattle.std.proofs.Common.{◌≡◌, ℕ, suc, ◌+◌, ◌-◌, ◌*◌, ◌^◌, ◌<◌, ◌≤◌, max, [], ◌∷◌, ◌++◌, List, map, length, get_or, take, sym, ◌∙◌, ap, ap₂, subst, inl, inr, arith, ℤ, pos, ◌+ℤ◌, ◌-ℤ◌, ◌*ℤ◌, ◌≤ℤ◌, refl}
-use Rattle.std.specs.Prelude.{Err, FitsSigned, nat_abs, neg_ℤ}
+use Rattle.std.proofs.Common.{◌≡◌, ℕ, ◌+◌, ◌*◌, ◌<◌, List, length, take, ap, subst, arith, ℤ, ◌+ℤ◌}
+use Rattle.std.specs.Prelude.{Err, FitsSigned, nat_abs}
 use Rattle.std.specs.Int.{w128}
-use Rattle.std.specs.Map.Iter.{deref_pair}
-use Rattle.std.proofs.lemmas.List.{map-append}
-use Rattle.std.proofs.lemmas.Int.{ints}
 use Rattle.coeff_rings.specs.Fractions.{whole}
 use Rattle.coeff_rings.specs.Checked.{checked_i128}
-use Rattle.sym_model.specs.Sum.{Among, total}
-use Rattle.sym_model.specs.Expansion.{Fraction, Terms}
+use Rattle.sym_model.specs.Sum.{total}
 use Rattle.sym_model.specs.LabelLimits.{is_permutation_label}
-use Rattle.sym_model.specs.Permutation.{covers_up, covers_down}
-use Rattle.sparse_polys.specs.Combination.{terms_of, coefficient, HasMoreAt}
+use Rattle.sparse_polys.specs.Combination.{coefficient, HasMoreAt}
 use Rattle.sparse_polys.specs.Refusal.{IsRefused}
 use Rattle.sparse_polys.proofs.Steps.{error_is}
-use Rattle.schubert_transition.specs.TermLists.{equal, over}
+use Rattle.schubert_transition.specs.TermLists.{equal, over, only}
 use Rattle.schubert_transition.proofs.TermSums.{over_more}
-use Rattle.schubert_transition.proofs.SumSteps.{terms, whole_list, here_among, so_far_next}
-use Rattle.schubert_transition.proofs.WaitingSums.{on_ok}
-use Rattle.monk_product.specs.Monk.{mass, AreShort, over_covers}
-use Rattle.monk_product.proofs.Masses.{mass_more, mass_refused, short_more}
-use Rattle.monk_product.proofs.MassSums.{over_pairs_next, mass_pairs_next, mass_pairs_within, product_next, list_next}
-use Rattle.monk_product.proofs.Covers.{count_covers, up_within, down_within, total_take, among_get, split_product}
+use Rattle.monk_product.proofs.Masses.{mass_more, short_more}
+use Rattle.monk_product.proofs.MassSums.{product_next}
+use Rattle.monk_product.proofs.Covers.{total_take, among_get}
+use Rattle.monk_product.proofs.Bounds.{refused_at, large_at}
 use Rattle.monk_product.proofs.monk.add_each.Goals as goal
 
 pub loop-cover-preserved : goal.loop-cover-preserved
@@ -51,13 +44,12 @@ loop-cover-preserved c =
 
 pub returns-in_err-add_term-clause-large : goal.returns-in_err-add_term-clause-large
 returns-in_err-add_term-clause-large c err =
-    let inv = c.loop-cover.invariant in
+    let x = c.cover-item.result in
     let v = c.args.c in
     let cur = c.loop-cover.sum in
     let i = c.loop-cover.cover-index in
-    let inside : suc i ≤ length c.args.covers.now = omega arith in
-    let refused = c.in_err-add_term.ensures.large.0 (ap Err (error_is _ _ _ c.from_residual-in_err-add_term.ensures.1 err)) in
-    let large = mass_refused cur c.in_ok-copy.field-0 v c.is_whole.ensures.whole refused in
-    let a = inv.grows in
-    let b = split_product (nat_abs v) i 1 (length c.args.covers.now) (omega arith) in
-    omega arith
+    let refused : IsRefused (FitsSigned w128) whole (λ (y z : ℤ). checked_i128 (y +ℤ z)) (coefficient equal cur x) (whole v) =
+    subst (λ (y : List ℕ). IsRefused (FitsSigned w128) whole (λ (a b : ℤ). checked_i128 (a +ℤ b)) (coefficient equal cur y) (whole v)) c.in_ok-copy.ensures.ok
+    (c.in_err-add_term.ensures.large.0 (ap Err (error_is _ _ _ c.from_residual-in_err-add_term.ensures.1 err))) in
+    let large = refused_at cur x v c.in_err-add_term.ensures.was c.is_whole.ensures.whole refused in
+    (x, large_at v (over (only x) c.args.sum.now) (over (only x) cur) c.args.covers.now i x (omega arith) c.cover-item.is (c.loop-cover.invariant.value (only x)) large)

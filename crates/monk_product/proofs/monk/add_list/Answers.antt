@@ -1,26 +1,18 @@
-use Rattle.std.proofs.Common.{◌≡◌, ℕ, suc, ◌+◌, ◌-◌, ◌*◌, ◌^◌, ◌<◌, ◌≤◌, max, [], ◌∷◌, ◌++◌, List, map, length, get_or, take, sym, ◌∙◌, ap, ap₂, subst, inl, inr, arith, ℤ, pos, ◌+ℤ◌, ◌-ℤ◌, ◌*ℤ◌, ◌≤ℤ◌, refl}
-use Rattle.std.specs.Prelude.{Err, FitsSigned, nat_abs, neg_ℤ}
-use Rattle.std.specs.Int.{w128}
+use Rattle.std.proofs.Common.{◌≡◌, ℕ, [], ◌∷◌, ◌++◌, List, map, sym, ap, subst, arith}
+use Rattle.std.specs.Prelude.{Err}
 use Rattle.std.specs.Map.Iter.{deref_pair}
 use Rattle.std.proofs.lemmas.List.{map-append}
 use Rattle.std.proofs.lemmas.Int.{ints}
 use Rattle.coeff_rings.specs.Fractions.{whole}
-use Rattle.coeff_rings.specs.Checked.{checked_i128}
-use Rattle.sym_model.specs.Sum.{Among, total}
-use Rattle.sym_model.specs.Expansion.{Fraction, Terms}
 use Rattle.sym_model.specs.LabelLimits.{is_permutation_label}
-use Rattle.sym_model.specs.Permutation.{covers_up, covers_down}
-use Rattle.sparse_polys.specs.Combination.{terms_of, coefficient, HasMoreAt}
-use Rattle.sparse_polys.specs.Refusal.{IsRefused}
+use Rattle.sparse_polys.specs.Combination.{HasMoreAt}
 use Rattle.sparse_polys.proofs.Steps.{error_is}
 use Rattle.schubert_transition.specs.TermLists.{equal, over}
 use Rattle.schubert_transition.proofs.TermSums.{over_more}
-use Rattle.schubert_transition.proofs.SumSteps.{terms, whole_list, here_among, so_far_next}
-use Rattle.schubert_transition.proofs.WaitingSums.{on_ok}
-use Rattle.monk_product.specs.Monk.{mass, AreShort, over_covers}
-use Rattle.monk_product.proofs.Masses.{mass_more, mass_refused, short_more}
-use Rattle.monk_product.proofs.MassSums.{over_pairs_next, mass_pairs_next, mass_pairs_within, product_next, list_next}
-use Rattle.monk_product.proofs.Covers.{count_covers, up_within, down_within, total_take, among_get, split_product}
+use Rattle.schubert_transition.proofs.SumSteps.{terms, whole_list, so_far_next}
+use Rattle.monk_product.specs.Monk.{mass}
+use Rattle.monk_product.proofs.Masses.{mass_more, mass_refused}
+use Rattle.monk_product.proofs.MassSums.{over_pairs_next, mass_pairs_next, mass_pairs_within}
 use Rattle.monk_product.proofs.monk.add_list.Goals as goal
 
 pub loop-w-preserved : goal.loop-w-preserved

@@ -1,35 +1,30 @@
-use Rattle.std.proofs.Common.{◌≡◌, ℕ, suc, ◌+◌, ◌-◌, ◌*◌, ◌^◌, ◌<◌, ◌≤◌, max, [], ◌∷◌, ◌++◌, List, map, length, get_or, take, sym, ◌∙◌, ap, ap₂, subst, inl, inr, arith, ℤ, pos, ◌+ℤ◌, ◌-ℤ◌, ◌*ℤ◌, ◌≤ℤ◌, refl}
-use Rattle.std.specs.Prelude.{Err, FitsSigned, nat_abs, neg_ℤ}
-use Rattle.std.specs.Int.{w128}
-use Rattle.std.specs.Map.Iter.{deref_pair}
-use Rattle.std.proofs.lemmas.List.{map-append}
-use Rattle.std.proofs.lemmas.Int.{ints}
-use Rattle.coeff_rings.specs.Fractions.{whole}
-use Rattle.coeff_rings.specs.Checked.{checked_i128}
+use Rattle.std.proofs.Common.{◌*◌, max, length, ◌∙◌, ap, subst, arith, ◌+ℤ◌, ◌*ℤ◌}
+use Rattle.std.specs.Prelude.{Err, nat_abs}
 use Rattle.sym_model.specs.Sum.{Among, total}
-use Rattle.sym_model.specs.Expansion.{Fraction, Terms}
-use Rattle.sym_model.specs.LabelLimits.{is_permutation_label}
 use Rattle.sym_model.specs.Permutation.{covers_up, covers_down}
-use Rattle.sparse_polys.specs.Combination.{terms_of, coefficient, HasMoreAt}
-use Rattle.sparse_polys.specs.Refusal.{IsRefused}
 use Rattle.sparse_polys.proofs.Steps.{error_is}
-use Rattle.schubert_transition.specs.TermLists.{equal, over}
-use Rattle.schubert_transition.proofs.TermSums.{over_more}
-use Rattle.schubert_transition.proofs.SumSteps.{terms, whole_list, here_among, so_far_next}
+use Rattle.schubert_transition.specs.TermLists.{over, only}
 use Rattle.schubert_transition.proofs.WaitingSums.{on_ok}
-use Rattle.monk_product.specs.Monk.{mass, AreShort, over_covers}
-use Rattle.monk_product.proofs.Masses.{mass_more, mass_refused, short_more}
-use Rattle.monk_product.proofs.MassSums.{over_pairs_next, mass_pairs_next, mass_pairs_within, product_next, list_next, abs_negated, signed_next}
-use Rattle.monk_product.proofs.Covers.{count_covers, up_within, down_within, total_take, among_get, split_product}
+use Rattle.monk_product.specs.Monk.{count_of}
+use Rattle.monk_product.proofs.MassSums.{abs_negated, signed_next}
+use Rattle.monk_product.proofs.Covers.{count_covers, up_within, down_within, split_product}
+use Rattle.monk_product.proofs.Bounds.{count_added, within_one}
+use Rattle.monk_product.proofs.OneCover.{one_cover}
 use Rattle.monk_product.proofs.monk.add_product.Goals as goal
 
 pub returns-in_err-add_each-clause-large : goal.returns-in_err-add_each-clause-large
 returns-in_err-add_each-clause-large c err =
     let large = c.in_err-add_each.ensures.large (ap Err (error_is _ _ _ c.from_residual-in_err-add_each.ensures.1 err)) in
-    let e = ap length (c.up.ensures ∙ c.in_ok-covers.ensures.up) in
-    let n = count_covers c.args.r c.args.w.now c.requires.first in
-    let p = split_product (nat_abs c.args.c) (length c.up.result.now) 0 (max (length c.args.w.now) c.args.r) (omega arith) in
-    omega arith
+    let x = large.0 in
+    let l = large.1 in
+    let e = ap (λ vs. nat_abs c.args.c * count_of large.0 vs) (c.up.ensures ∙ c.in_ok-covers.ensures.up) in
+    let one = within_one (nat_abs c.args.c) _ _ (one_cover c.args.r c.args.w.now large.0 c.len.ensures.limits.kept.one_line c.requires.first) in
+    (large.0, omega arith)
+
+pub returns-in_err-negated-clause-large : goal.returns-in_err-negated-clause-large
+returns-in_err-negated-clause-large c err =
+    let large = c.in_err-negated.ensures.large (ap Err (error_is _ _ _ c.from_residual-in_err-negated.ensures.1 err)) in
+    (c.args.w.now, omega arith)
 
 pub returns-clause-value : goal.returns-clause-value
 returns-clause-value c =
@@ -67,11 +62,12 @@ returns-clause-short c =
 pub returns-clause-large : goal.returns-clause-large
 returns-clause-large c err =
     let large = c.add_each-2.ensures.large err in
-    let a = c.in_ok-add_each.ensures.mass in
-    let e = ap length (c.up.ensures ∙ c.in_ok-covers.ensures.up) in
-    let f = ap length (c.down.ensures ∙ c.in_ok-covers.ensures.down) in
-    let n = count_covers c.args.r c.args.w.now c.requires.first in
-    let p = split_product (nat_abs c.args.c) (length c.up.result.now) (length c.down.result.now) (max (length c.args.w.now) c.args.r) (omega arith) in
-    let g = ap (λ z. nat_abs z * length c.down.result.now) c.in_ok-negated.ensures.ok in
-    let h = ap (λ z. z * length c.down.result.now) (abs_negated c.args.c) in
-    omega arith
+    let l = large.1 in
+    let up = c.up.ensures ∙ c.in_ok-covers.ensures.up in
+    let a = count_added large.0 c.args.c (over (only large.0) c.args.sum.now) (over (only large.0) c.add_each.new.sum) c.up.result.now (c.in_ok-add_each.ensures.value (only large.0)) in
+    let e = ap (λ vs. nat_abs c.args.c * count_of large.0 vs) (c.up.ensures ∙ c.in_ok-covers.ensures.up) in
+    let f = ap (λ vs. nat_abs c.args.c * count_of large.0 vs) (c.down.ensures ∙ c.in_ok-covers.ensures.down) in
+    let g = ap (λ z. nat_abs z * count_of large.0 c.down.result.now) c.in_ok-negated.ensures.ok in
+    let h = ap (λ z. z * count_of large.0 c.down.result.now) (abs_negated c.args.c) in
+    let one = within_one (nat_abs c.args.c) _ _ (one_cover c.args.r c.args.w.now large.0 c.len.ensures.limits.kept.one_line c.requires.first) in
+    (large.0, omega arith)

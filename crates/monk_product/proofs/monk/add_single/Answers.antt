@@ -1,4 +1,4 @@
-use Rattle.std.proofs.Common.{◌≡◌, ℕ, List, subst, ℤ}
+use Rattle.std.proofs.Common.{ℕ, List, subst}
 use Rattle.coeff_rings.specs.Fractions.{whole}
 use Rattle.sym_model.specs.LabelLimits.{is_permutation_label}
 use Rattle.sparse_polys.specs.Combination.{HasMoreAt}

@@ -1,26 +1,19 @@
-use Rattle.std.proofs.Common.{◌≡◌, ℕ, suc, ◌+◌, ◌-◌, ◌*◌, ◌^◌, ◌<◌, ◌≤◌, max, [], ◌∷◌, ◌++◌, List, map, length, get_or, take, sym, ◌∙◌, ap, ap₂, subst, inl, inr, arith, ℤ, pos, ◌+ℤ◌, ◌-ℤ◌, ◌*ℤ◌, ◌≤ℤ◌, refl}
-use Rattle.std.specs.Prelude.{Err, FitsSigned, nat_abs, neg_ℤ}
-use Rattle.std.specs.Int.{w128}
+use Rattle.std.proofs.Common.{◌≡◌, ◌+◌, ◌*◌, max, [], ◌∷◌, ◌++◌, map, length, sym, ap, arith}
+use Rattle.std.specs.Prelude.{Err, nat_abs}
 use Rattle.std.specs.Map.Iter.{deref_pair}
 use Rattle.std.proofs.lemmas.List.{map-append}
 use Rattle.std.proofs.lemmas.Int.{ints}
 use Rattle.coeff_rings.specs.Fractions.{whole}
-use Rattle.coeff_rings.specs.Checked.{checked_i128}
-use Rattle.sym_model.specs.Sum.{Among, total}
-use Rattle.sym_model.specs.Expansion.{Fraction, Terms}
 use Rattle.sym_model.specs.LabelLimits.{is_permutation_label}
-use Rattle.sym_model.specs.Permutation.{covers_up, covers_down}
-use Rattle.sparse_polys.specs.Combination.{terms_of, coefficient, HasMoreAt}
-use Rattle.sparse_polys.specs.Refusal.{IsRefused}
 use Rattle.sparse_polys.proofs.Steps.{error_is}
-use Rattle.schubert_transition.specs.TermLists.{equal, over}
-use Rattle.schubert_transition.proofs.TermSums.{over_more}
+use Rattle.schubert_transition.specs.TermLists.{over, only}
 use Rattle.schubert_transition.proofs.SumSteps.{terms, whole_list, here_among, so_far_next}
-use Rattle.schubert_transition.proofs.WaitingSums.{on_ok}
-use Rattle.monk_product.specs.Monk.{mass, AreShort, over_covers}
-use Rattle.monk_product.proofs.Masses.{mass_more, mass_refused, short_more}
-use Rattle.monk_product.proofs.MassSums.{over_pairs_next, mass_pairs_next, mass_pairs_within, list_next, list_large}
-use Rattle.monk_product.proofs.Covers.{count_covers, up_within, down_within, total_take, among_get, split_product}
+use Rattle.monk_product.specs.Monk.{mass, over_covers}
+use Rattle.monk_product.proofs.MassSums.{over_pairs_next, mass_pairs_next, mass_pairs_within, list_next}
+use Rattle.sym_model.proofs.CanonicalLists.{each_term-among}
+use Rattle.std.proofs.lemmas.Bool.{and_parts}
+use Rattle.monk_product.proofs.Bounds.{cover_added}
+use Rattle.monk_product.proofs.Labels.{label_one_line}
 use Rattle.monk_product.proofs.monk.add_times_var.Goals as goal
 
 pub add_product-requires-clause-letters : goal.add_product-requires-clause-letters
@@ -64,6 +57,13 @@ loop-w-preserved c =
           let d = ap (λ z. z * most) (mass_pairs_next done k v) in
           let e = ap (λ es. mass (terms es) * most) pushed in
           list_next (mass (terms done)) (nat_abs v) most (max (length k) r) (mass old) (mass cur) (mass new) (mass (terms (done ++ (k, v) ∷ []))) (mass (terms (map deref_pair (c.loop-w.yielded ++ (c.in-Some.w, c.in-Some.c) ∷ [])))) (omega arith) a b (mass_pairs_next done k v) (ap (λ es. mass (terms es)) pushed);
+      bounded = λ x.
+          let a = inv.bounded x in
+          let o = label_one_line k (and_parts _ (is_permutation_label k) (each_term-among _ c.args.list.now c.iter-w-items.ensures.combination.proper (k, whole v) here)).1 in
+          let b = cover_added r k x v (over (only x) cur) (over (only x) new) o c.requires.first (c.in_ok-add_product.ensures.value (only x)) in
+          let d = mass_pairs_next done k v in
+          let e = ap (λ es. mass (terms es)) pushed in
+          omega arith;
       short = λ most short last old.
           let s = short (k, whole v) here in
           c.in_ok-add_product.ensures.short (most + 1) (inv.short most short last old) (omega arith);
@@ -71,18 +71,16 @@ loop-w-preserved c =
     }
 
 pub returns-in_err-add_product-clause-large : goal.returns-in_err-add_product-clause-large
-returns-in_err-add_product-clause-large c err most short last =
+returns-in_err-add_product-clause-large c err =
     let inv = c.loop-w.invariant in
     let done = map deref_pair c.loop-w.yielded in
     let rest = c.next.new.self in
     let k = c.in-Some.w.now in
     let v = c.in-Some.c.now in
-    let old = c.args.sum.now in
-    let cur = c.loop-w.sum in
     let all = whole_list done rest c.loop-w.w-iterator _ _ k v c.args.list.now c.in-Some.ensures.steps inv.so_far c.into_iter-w-iterator.ensures.into_iter_gives c.iter-w-items.ensures.rest in
-    let r = c.args.r in
-    let s = short (k, whole v) (here_among done rest k v c.args.list.now all) in
-    let a = inv.grows most short last in
     let large = c.in_err-add_product.ensures.large (ap Err (error_is _ _ _ c.from_residual.ensures.1 err)) in
+    let l = large.1 in
+    let a = inv.bounded large.0 in
     let b = mass_pairs_within done k v rest in
-    list_large (mass (terms done)) (nat_abs v) most (max (length k) r) (mass old) (mass cur) (mass c.args.list.now) (2 ^ 127) (omega arith) a large (subst (λ n. mass (terms done) + nat_abs v ≤ n) (ap mass all) b)
+    let d = ap mass all in
+    (large.0, omega arith)

@@ -1,6 +1,6 @@
-use Rattle.std.proofs.Common.{◌≡◌, ℕ, ◌+◌, ◌*◌, ◌^◌, ◌≤◌, List, [], ◌∷◌, sym, ap, ◌∙◌, subst, inl, inr, arith, refl, ℤ, pos, ◌+ℤ◌, length, get_or}
+use Rattle.std.proofs.Common.{◌≡◌, ℕ, ◌+◌, ◌*◌, ◌^◌, ◌≤◌, List, [], sym, ap, ◌∙◌, subst, inl, inr, arith, length, get_or}
 use Rattle.std.specs.List.{insert}
-use Rattle.sym_model.specs.Sum.{Among, total}
+use Rattle.sym_model.specs.Sum.{Among}
 use Rattle.sym_model.specs.Partition.{size}
 use Rattle.sym_model.specs.Expansion.{Terms}
 use Rattle.schubert_transition.specs.TermLists.{over}

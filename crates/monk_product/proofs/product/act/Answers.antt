@@ -1,4 +1,4 @@
-use Rattle.std.proofs.Common.{◌≡◌, ℕ, ◌+◌, ◌-◌, ◌*◌, ◌^◌, ◌<◌, ◌≤◌, List, [], ◌++◌, length, take, sym, ap, ◌∙◌, subst, arith, ℤ, pos, ◌+ℤ◌}
+use Rattle.std.proofs.Common.{◌≡◌, ℕ, ◌+◌, ◌-◌, ◌*◌, ◌^◌, ◌<◌, ◌≤◌, length, take, sym, ap, ◌∙◌, subst, arith}
 use Rattle.std.specs.Prelude.{Err}
 use Rattle.std.specs.Cmp.Lexicographic.{nat_list_eq_equiv}
 use Rattle.sym_model.specs.Partition.{size}
@@ -8,9 +8,8 @@ use Rattle.sym_model.specs.Schubert.{schubert_in}
 use Rattle.sparse_polys.proofs.Steps.{error_is}
 use Rattle.sparse_polys.proofs.Values.{represents-same_coefficients}
 use Rattle.schubert_transition.proofs.TermSums.{equal_tells}
-use Rattle.monk_product.specs.Monk.{mass}
-use Rattle.monk_product.specs.Pending.{growth, steps}
-use Rattle.monk_product.proofs.ProductSteps.{base_of, limit_of, start, mass_is, represents_pairs, popped_last, popped_rest, popped_steps, popped_growth, next, finished, past_heavy, short_weaker}
+use Rattle.monk_product.specs.Pending.{steps}
+use Rattle.monk_product.proofs.ProductSteps.{base_of, start, mass_is, represents_pairs, popped_last, popped_rest, popped_steps, popped_growth, next, finished, past_heavy, short_weaker}
 use Rattle.monk_product.proofs.product.act.Goals as goal
 
 pub returns-in_err-polynomial-clause-large : goal.returns-in_err-polynomial-clause-large

@@ -1,13 +1,10 @@
-use Rattle.std.proofs.Common.{◌≡◌, ℕ, ◌+◌, ◌-◌, ◌*◌, ◌^◌, ◌<◌, ◌≤◌, List, length, sym, ap, ◌∙◌, subst, arith, ℤ, pos, ◌+ℤ◌, ◌*ℤ◌}
+use Rattle.std.proofs.Common.{◌*◌, ◌^◌, length, ap, ◌∙◌, arith, ◌*ℤ◌}
 use Rattle.std.specs.Prelude.{nat_abs}
 use Rattle.std.proofs.lemmas.Int.{ints}
 use Rattle.sym_model.specs.Partition.{size}
-use Rattle.schubert_transition.specs.TermLists.{over}
 use Rattle.schubert_transition.specs.Transitions.{acted}
 use Rattle.schubert_transition.proofs.TodoLists.{among_at}
 use Rattle.schubert_transition.proofs.WaitingSums.{on_ok}
-use Rattle.monk_product.specs.Monk.{mass}
-use Rattle.monk_product.specs.Pending.{value_of, growth}
 use Rattle.monk_product.proofs.EntrySums.{set_value, set_growth, set_large, set_pending}
 use Rattle.monk_product.proofs.product.add_pending.Goals as goal
 

@@ -1,4 +1,4 @@
-use Rattle.std.proofs.Common.{◌≡◌, ℕ, suc, ◌+◌, ◌-◌, ◌*◌, ◌^◌, ◌<◌, ◌≤◌, max, List, length, sym, ap, ◌∙◌, subst, arith, ℤ, pos, ◌+ℤ◌, ◌*ℤ◌}
+use Rattle.std.proofs.Common.{◌≡◌, ℕ, ◌+◌, ◌-◌, ◌*◌, ◌^◌, ◌<◌, ◌≤◌, List, length, sym, ap, subst, arith}
 use Rattle.std.proofs.lemmas.Int.{ints}
 use Rattle.sym_model.specs.Partition.{size}
 use Rattle.sym_model.specs.Expansion.{Terms}
@@ -10,9 +10,10 @@ use Rattle.schubert_transition.proofs.TodoLists.{among_at}
 use Rattle.schubert_transition.proofs.WaitingSums.{on_ok}
 use Rattle.monk_product.specs.declared.pending.Pending.{Pending}
 use Rattle.monk_product.specs.Monk.{mass, AreShort, over_covers}
-use Rattle.monk_product.specs.Pending.{value_of, growth, steps, IsPending}
+use Rattle.monk_product.specs.Pending.{IsPending}
 use Rattle.monk_product.proofs.MonkSteps.{over_monk}
 use Rattle.monk_product.proofs.EntrySums.{set_value, set_growth, set_large, set_pending, set_steps, grow_step}
+use Rattle.monk_product.proofs.Bounds.{mass_large}
 use Rattle.monk_product.proofs.product.lower.Goals as goal
 
 -- what is known of the monomial that is left
@@ -125,7 +126,8 @@ returns-clause-large c err n d most base is last high fits some =
     let lp = l.place in
     let ls = l.sum in
     let x = ap length c.exponents.ensures.value in
-    let large = c.add_times_var.ensures.large err (most - size e) l.short (omega arith) in
+    let at = c.add_times_var.ensures.large err in
+    let large = mass_large at.0 c.index_mut-target.result.now.list (mass list) (most - size e) (omega arith) at.1 in
     let a = set_large c.index_of.new.todo.items c.in_ok-at.at c.index_mut-target.result.now c.add_times_var.new.sum c.in_ok-at.ensures.found.0 c.index_mut-target.ensures.value base (mass list * (most - size e)) (2 ^ 127) large some in
     let same = c.in_ok-at.ensures.found.1 c.index_mut-target.result.now c.index_mut-target.ensures.value in
     let b = c.in_ok-at.ensures.growth base in

@@ -1,4 +1,4 @@
-use Rattle.std.proofs.Common.{◌≡◌, ℕ, ◌+◌, ◌*◌, ◌^◌, ◌<◌, ◌≤◌, List, [], ◌∷◌, ◌++◌, length, map, sym, ap, ◌∙◌, subst, arith, ℤ, pos, ◌+ℤ◌, ◌*ℤ◌}
+use Rattle.std.proofs.Common.{◌≡◌, ℕ, ◌+◌, ◌*◌, ◌^◌, ◌≤◌, List, [], ◌∷◌, ◌++◌, map, sym, ap, ◌∙◌, subst, arith, ℤ}
 use Rattle.std.specs.Prelude.{Err, nat_abs}
 use Rattle.std.specs.Map.Iter.{deref_pair}
 use Rattle.std.proofs.lemmas.Int.{ints}
@@ -7,11 +7,11 @@ use Rattle.coeff_rings.specs.Fractions.{whole}
 use Rattle.sym_model.specs.Partition.{size}
 use Rattle.sym_model.specs.Expansion.{Terms}
 use Rattle.sparse_polys.proofs.Steps.{error_is, all_done}
-use Rattle.schubert_transition.specs.TermLists.{over, AreTerms}
+use Rattle.schubert_transition.specs.TermLists.{over}
 use Rattle.schubert_transition.specs.Transitions.{acted}
 use Rattle.schubert_transition.proofs.SumSteps.{terms, whole_list, here_among, so_far_next}
 use Rattle.monk_product.specs.Monk.{mass}
-use Rattle.monk_product.specs.Pending.{value_of, growth}
+use Rattle.monk_product.specs.Pending.{growth}
 use Rattle.monk_product.proofs.MassSums.{over_pairs_next, mass_pairs_next, mass_pairs_within}
 use Rattle.monk_product.proofs.EntrySums.{power_within}
 use Rattle.monk_product.proofs.product.pending_terms.Goals as goal

@@ -1,4 +1,4 @@
-use Rattle.std.proofs.Common.{◌≡◌, ℕ, ◌+◌, ◌*◌, ◌^◌, ◌≤◌, List, ◌++◌, length, map, ℤ, ◌+ℤ◌}
+use Rattle.std.proofs.Common.{◌≡◌, ℕ, ◌+◌, ◌*◌, ◌^◌, ◌≤◌, List, ◌++◌, length, map, ℤ}
 use Rattle.std.specs.Map.Iter.{deref_pair}
 use Rattle.schubert_transition.specs.TermLists.{over, AreTerms}
 use Rattle.schubert_transition.specs.Transitions.{acted}

@@ -1,15 +1,10 @@
-use Rattle.std.proofs.Common.{◌≡◌, ℕ, ◌+◌, ◌*◌, ◌^◌, ◌<◌, ◌≤◌, max, Bool, true, false, cond, List, length, sym, ap, ◌∙◌, refl, subst, arith, pos}
-use Rattle.std.specs.Prelude.{nat_abs, nat_le, IfOk, Result, Ok, Err}
-use Rattle.std.proofs.lemmas.Bool.{le-leb}
-use Rattle.sym_model.specs.PlaceOrders.{inversions}
+use Rattle.std.proofs.Common.{pos}
+use Rattle.std.specs.Prelude.{IfOk, Result, Ok, Err}
 use Rattle.sym_model.specs.Polynomial.{Poly, Same, times, scale}
-use Rattle.sym_model.specs.Schubert as polynomials
 use Rattle.sym_model.specs.Schubert.{schubert_in}
 use Rattle.sym_model.specs.Expansion.{Terms, Represents, denominators, value_by}
-use Rattle.sym_model.specs.LargeAnswer.{shorter, value_at_ones}
 use Rattle.sym_model.proofs.PolynomialLaws.{times_comm}
 use Rattle.sym_model.proofs.Polynomials.{Same_trans, scale_respects}
-use Rattle.schubert_laws.proofs.Dominant.{not_less}
 use Rattle.monk_product.proofs.product.schubmult.Goals as goal
 
 represents_as : {L : Type 0} (polynomial : L → Poly) (terms : Terms L) (f g : Poly) → Same f g → Represents polynomial terms f 1 → Represents polynomial terms g 1

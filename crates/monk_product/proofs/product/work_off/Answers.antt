@@ -1,4 +1,4 @@
-use Rattle.std.proofs.Common.{◌≡◌, ℕ, ◌+◌, ◌*◌, ◌^◌, ◌<◌, ◌≤◌, List, [], length, sym, ap, ◌∙◌, subst, arith, ℤ, pos, ◌+ℤ◌, ◌*ℤ◌}
+use Rattle.std.proofs.Common.{◌≡◌, ℕ, ◌*◌, ◌^◌, List, [], ap, ◌∙◌, arith, ◌*ℤ◌}
 use Rattle.std.proofs.lemmas.Int.{ints}
 use Rattle.std.proofs.Math.Nat.{pow-zero}
 use Rattle.sym_model.specs.Partition.{size}
@@ -11,7 +11,6 @@ use Rattle.schubert_transition.specs.Transitions.{acted}
 use Rattle.schubert_transition.proofs.Acted.{acted_start}
 use Rattle.schubert_transition.proofs.WaitingSums.{on_ok}
 use Rattle.monk_product.specs.Monk.{mass}
-use Rattle.monk_product.specs.Pending.{value_of, growth}
 use Rattle.monk_product.proofs.Dividing.{zero_size, some_length}
 use Rattle.monk_product.proofs.product.work_off.Goals as goal
 

@@ -1,0 +1,142 @@
+-- Coefficients and weights of lists of permutations, where Monk's rule adds to them.
+use Rattle.std.proofs.Common.{◌≡◌, ℕ, zero, suc, ◌+◌, ◌*◌, ◌/◌, ◌^◌, ◌<◌, ◌≤◌, max, Bool, true, false, cond, List, [], ◌∷◌, length, take, get_or, refl, sym, ap, ap₂, ◌∙◌, inl, inr, arith, ℤ, pos, ◌+ℤ◌, ◌-ℤ◌, ◌*ℤ◌}
+use Rattle.std.specs.Prelude.{FitsSigned, nat_abs}
+use Rattle.std.specs.Int.{w128}
+use Rattle.std.proofs.lemmas.Int.{ints, unsigned_abs-mul}
+use Rattle.coeff_rings.specs.Fractions.{whole}
+use Rattle.coeff_rings.specs.Checked.{checked_i128}
+use Rattle.coeff_rings.specs.Proved.Whole.{same_whole}
+use Rattle.sym_model.specs.Sum.{total}
+use Rattle.sym_model.specs.Expansion.{Fraction, Terms}
+use Rattle.sym_model.specs.Expression.{lcm}
+use Rattle.sym_model.specs.LabelLimits.{is_permutation_label}
+use Rattle.sym_model.specs.ListWeight.{common_denominator, absolute_sum, list_weight}
+use Rattle.sym_model.specs.Permutation.{IsOneLine, covers_up, covers_down}
+use Rattle.sym_model.specs.Polynomial.{same}
+use Rattle.sym_model.specs.WholeTerms.{AreWhole}
+use Rattle.sparse_polys.specs.Combination.{coefficient}
+use Rattle.sparse_polys.specs.Refusal.{IsRefused}
+use Rattle.monomial_polys.proofs.ClearedSums.{nat_abs-is}
+use Rattle.schubert_transition.specs.TermLists.{equal, over, only, IsTable}
+use Rattle.schubert_transition.proofs.TermSums.{whole_found, over_at}
+use Rattle.monk_product.specs.Monk.{mass, AreShort, over_covers, greatest_length, count_of}
+use Rattle.monk_product.proofs.Masses.{triangle, refused_size}
+use Rattle.monk_product.proofs.OneCover.{one_cover, total_count, count_next}
+use native.Mathlib.Nat.{mul-le-mul_left}
+
+pub abs_product : (c z : ℤ) → nat_abs (c *ℤ z) ≡ nat_abs c * nat_abs z
+abs_product c z = nat_abs-is (c *ℤ z) ∙ unsigned_abs-mul c z ∙ ap₂ ◌*◌ (sym (nat_abs-is c)) (sym (nat_abs-is z))
+
+-- ---- one coefficient
+
+-- where a sum is refused at a label, the coefficient there and what is added are large
+pub refused_at : (old : Terms (List ℕ)) (k : List ℕ) (c : ℤ) → IsTable is_permutation_label old → AreWhole old
+    → IsRefused (FitsSigned w128) whole (λ (x y : ℤ). checked_i128 (x +ℤ y)) (coefficient equal old k) (whole c) → 2 ^ 127 ≤ nat_abs (over (only k) old) + nat_abs c
+refused_at old k c is w r =
+    let left : r.left ≡ (coefficient equal old k).0 = same_whole r.left ((coefficient equal old k).0) (r.left_value ∙ whole_found old w k) in
+    let right : r.right ≡ c = same_whole r.right c r.right_value in
+    let size = refused_size ((coefficient equal old k).0 +ℤ c) (ap₂ (λ x y. checked_i128 (x +ℤ y)) (sym left) (sym right) ∙ r.refused) in
+    let a = triangle ((coefficient equal old k).0) c in
+    let b = ap nat_abs (over_at old is.distinct k) in
+    omega arith
+
+-- a coefficient is at most the mass
+pub coefficient_within : (x : List ℕ) (terms : Terms (List ℕ)) → nat_abs (over (only x) terms) ≤ mass terms
+coefficient_within x [] = omega arith
+coefficient_within x (t ∷ terms) =
+    let a = triangle (t.1.0 *ℤ only x t.0) (over (only x) terms) in
+    let b = here (same t.0 x) in
+    let r = coefficient_within x terms in
+    omega arith
+  where
+    here : (b : Bool) → nat_abs (t.1.0 *ℤ cond b (pos 1) (pos 0)) ≤ nat_abs t.1.0
+    here true = let e = abs_product t.1.0 (pos 1) in omega arith
+    here false = let e = abs_product t.1.0 (pos 0) in omega arith
+
+-- a coefficient with more of a permutation
+pub count_added : (x : List ℕ) (c old new : ℤ) (vs : List (List ℕ)) → new ≡ old +ℤ c *ℤ total (only x) vs → nat_abs new ≤ nat_abs old + nat_abs c * count_of x vs
+count_added x c old new vs e =
+    let a = ap nat_abs e in
+    let b = triangle old (c *ℤ total (only x) vs) in
+    let d = abs_product c (total (only x) vs) in
+    let f = ap (λ z. nat_abs c * nat_abs z) (total_count x vs) in
+    omega arith
+
+pub large_at : (c old cur : ℤ) (vs : List (List ℕ)) (i : ℕ) (v : List ℕ) → i < length vs → v ≡ get_or vs i v → cur ≡ old +ℤ c *ℤ total (only v) (take i vs)
+    → 2 ^ 127 ≤ nat_abs cur + nat_abs c → 2 ^ 127 ≤ nat_abs old + nat_abs c * count_of v vs
+large_at c old cur vs i v h is e l =
+    let a = count_added v c old cur (take i vs) e in
+    let b = mul-le-mul_left (nat_abs c) (count_next vs i v h is) in
+    let d : nat_abs c * (count_of v (take i vs) + 1) ≡ nat_abs c * count_of v (take i vs) + nat_abs c = omega arith in
+    omega arith
+
+pub within_one : (a m n : ℕ) → m + n ≤ 1 → a * m + a * n ≤ a
+within_one a m n h = let p = mul-le-mul_left a h in omega arith
+
+-- a coefficient changes by at most what is multiplied
+pub cover_added : (r : ℕ) (w x : List ℕ) (c old new : ℤ) → IsOneLine w → 1 ≤ r → new ≡ old +ℤ c *ℤ over_covers r (only x) w → nat_abs new ≤ nat_abs old + nat_abs c
+cover_added r w x c old new o h e =
+    let a = ap nat_abs e in
+    let b = triangle old (c *ℤ over_covers r (only x) w) in
+    let d = abs_product c (over_covers r (only x) w) in
+    let u = total_count x (covers_up r w) in
+    let v = total_count x (covers_down r w) in
+    let one = one_cover r w x o h in
+    let s : nat_abs (over_covers r (only x) w) ≤ 1 = small (total (only x) (covers_up r w)) (total (only x) (covers_down r w)) (count_of x (covers_up r w)) (count_of x (covers_down r w)) u v one in
+    let p = mul-le-mul_left (nat_abs c) s in
+    omega arith
+  where
+    small : (y z : ℤ) (m n : ℕ) → y ≡ pos m → z ≡ pos n → m + n ≤ 1 → nat_abs (y -ℤ z) ≤ 1
+    small y z m n e f l = let g = ap₂ (λ s t. nat_abs (s -ℤ t)) e f in let k = difference m n l in omega arith
+      where
+        difference : (m n : ℕ) → m + n ≤ 1 → nat_abs (pos m -ℤ pos n) ≤ 1
+        difference zero zero l = omega (arith, ints)
+        difference (suc m) zero l = omega (arith, ints)
+        difference zero (suc n) l = omega (arith, ints)
+        difference (suc m) (suc n) l = absurd (omega arith)
+
+-- a large coefficient makes the masses large
+pub mass_large : (x : List ℕ) (old : Terms (List ℕ)) (m most : ℕ) → 1 ≤ most → 2 ^ 127 ≤ nat_abs (over (only x) old) + m → 2 ^ 127 ≤ mass old + m * most
+mass_large x old m most h l =
+    let a = coefficient_within x old in
+    let p = mul-le-mul_left m h in
+    omega arith
+
+-- ---- weights
+
+whole_denominator : (terms : Terms (List ℕ)) → AreWhole terms → common_denominator terms ≡ 1
+whole_denominator [] w = refl
+whole_denominator (t ∷ terms) w = ap₂ lcm w.0 (whole_denominator terms w.1)
+
+whole_absolute : (terms : Terms (List ℕ)) → AreWhole terms → absolute_sum 1 terms ≡ mass terms
+whole_absolute [] w = refl
+whole_absolute (t ∷ terms) w =
+    let r = whole_absolute terms w.1 in
+    let e = ap (λ d. nat_abs t.1.0 * (1 / d)) w.0 in
+    omega arith
+
+pub whole_weight : (terms : Terms (List ℕ)) → AreWhole terms → list_weight terms ≡ max 1 (mass terms)
+whole_weight terms w =
+    let e = whole_denominator terms w in
+    ap (λ d. max 1 (absolute_sum d terms) * d) e ∙ ap (λ a. max 1 a * 1) (whole_absolute terms w) ∙ (let m : max 1 (mass terms) * 1 ≡ max 1 (mass terms) = omega arith in m)
+
+pub longest : (terms : Terms (List ℕ)) (r : ℕ) → AreShort (max r (greatest_length terms)) terms
+longest [] r t m = absurd m
+longest (u ∷ terms) r t (inl e) = let l = ap (λ (v : List ℕ × Fraction). length v.0) e in omega arith
+longest (u ∷ terms) r t (inr m) = let l = longest terms r t m in omega arith
+
+pub weight_grows : (list product : Terms (List ℕ)) (most : ℕ) → AreWhole list → AreWhole product → 1 ≤ most → mass product ≤ mass list * most → list_weight product ≤ list_weight list * most
+weight_grows list product most w v h l =
+    let a = whole_weight list w in
+    let b = whole_weight product v in
+    let p = by (mass list) (mass product) l in
+    let q = ap (λ n. n * most) a in
+    omega arith
+  where
+    by : (a b : ℕ) → b ≤ a * most → max 1 b ≤ max 1 a * most
+    by a b l =
+        let x : a ≤ max 1 a = omega arith in
+        let y : 1 ≤ max 1 a = omega arith in
+        let m = mul-le-mul_left most x in
+        let n = mul-le-mul_left most y in
+        omega arith
