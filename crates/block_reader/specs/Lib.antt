@@ -2,3 +2,4 @@
 pub mod Parts
 pub mod Fitting
 pub mod Readings
+pub mod Growing

@@ -4,6 +4,7 @@
 mod coefficients;
 mod cutting;
 mod fault;
+mod growing_sink;
 mod labels;
 mod lines;
 mod lists;

@@ -9,9 +9,10 @@ ghost use Rattle.block_reader.specs.Readings.{IsReading};
 
 use crate::ReadBackFault;
 use crate::cutting::cut;
+use crate::growing_sink::GrowingSink;
 use crate::lines::read_terms;
 use crate::numbers::signed_of;
-use calc_base::{CountSink, MemSink, NoMemory};
+use calc_base::{CountSink, NoMemory};
 use coeff_rings::Int;
 use expansion_printer::{Answer, Kind, print};
 use std::alloc::Global;
@@ -54,8 +55,9 @@ fn is_block(alloc: Global, answer: &Answer, text: &[u8]) -> Result<bool, NoMemor
     if !has_length(answer, text) {
         return Ok(false);
     }
-    let mut sink = MemSink::new(alloc, text.len(), &[])?;
+    let mut sink = GrowingSink::new(alloc);
     if print(answer, &mut sink).is_err() {
+        // This sink has no other fault.
         return Err(NoMemory);
     }
     Ok(sink.bytes() == text)
