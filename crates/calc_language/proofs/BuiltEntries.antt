@@ -1,9 +1,9 @@
 -- The commands that are built, and words that begin with none of their names.
-use Rattle.std.proofs.Common.{◌≡◌, ℕ, ◌<◌, true, false, List, [], ◌∷◌, length, refl, arith, inl, inr, Result, subst, sym}
+use Rattle.std.proofs.Common.{◌≡◌, ℕ, ◌<◌, true, false, List, [], ◌∷◌, length, refl, arith, inl, inr, Result}
 use Rattle.sym_model.specs.Sum.{Among}
 use Rattle.sym_model.specs.GoodTableau.{is_among}
-use Rattle.sym_model.specs.Form.{EachOf, can_be, Written, May}
-use Rattle.sym_model.specs.Command.{Command, expand}
+use Rattle.sym_model.specs.Form.{EachOf, can_be}
+use Rattle.sym_model.specs.Command.{Command}
 use Rattle.sym_model.specs.Entry.{Entry, SpellsFreely, SpellsWithoutOffence}
 use Rattle.sym_model.specs.SyntaxPlace.{IsSyntaxPlace}
 use Rattle.sym_model.proofs.Sums.{Among_from_select}
@@ -14,8 +14,8 @@ use Rattle.calc_words.specs.Reading.{IsRead}
 use Rattle.calc_words.specs.WrittenLimits.{KeepsLimits}
 use Rattle.calc_words.proofs.Joining.{joined_read}
 use Rattle.calc_words.proofs.WrittenCommands.{Keeps, all_keep, some_keeps, whole_tab_keeps}
-use Rattle.calc_language.specs.BuiltCommands.{built_names, built_targets, all_entries, all_line_entries, is_built, command_entries, batch_entries, IsTarget}
-use Rattle.calc_language.proofs.NamedEntries.{IsLed, are_named_apart, each_select, some_select, can_select, joined, unnamed, wordless, not_named}
+use Rattle.calc_language.specs.BuiltCommands.{built_names, built_targets, all_entries, all_line_entries, is_built, command_entries, batch_entries}
+use Rattle.calc_language.proofs.NamedEntries.{IsLed, are_named_apart, names_of, named_differently, each_select, some_select, can_select, joined, unnamed, wordless, not_named}
 
 abbrev Words : Type 0
 Words = List (List ℕ)
@@ -138,7 +138,7 @@ line_can = (refl, (refl, (refl, (refl, (refl, (refl, (refl, (refl, (refl, (refl,
 line_built_led : EachOf IsLed batch_entries
 line_built_led = each_select IsLed is_built all_line_entries line_led
 
-line_built_can : CanBe (forms_of batch_entries)
+pub line_built_can : CanBe (forms_of batch_entries)
 line_built_can = can_select is_built all_line_entries line_can
 
 some_line : 0 < length batch_entries
@@ -160,6 +160,11 @@ no_name_in_line w ws h =
     unnamed batch_entries line_built_led line_built_can some_line w ws
     (λ e m. not_named built_names w e.name h (Among_from_select is_built e all_line_entries m).1)
 
+-- the first word is no name of a command of a line
+pub no_line_name : (w : List ℕ) (ws : Words) → is_among w (names_of batch_entries) ≡ false → IsSyntaxPlace batch_entries (w ∷ ws) 0 0
+no_line_name w ws h =
+    unnamed batch_entries line_built_led line_built_can some_line w ws (λ e m. named_differently w e batch_entries h m)
+
 -- words without an offence keep the limits
 all_kept : EachOf Keeps all_entries
 all_kept =
@@ -171,48 +176,3 @@ kept_by_all words c h = some_keeps all_entries all_kept words c h
 
 pub built_of_all : (words : Words) (c : Command) → SpellsWithoutOffence command_entries words c → SpellsWithoutOffence all_entries words c
 built_of_all words c h = (some_select (λ (e : Entry). SpellsFreely e words c) is_built all_entries h)
-
--- ---- the targets of the expansions that words spell
-
-abbrev pub HasTarget : Command → Type 0
-HasTarget (expand target e) = IsTarget target
-HasTarget _ = Unit {0}
-
--- what the words of the entry say has a target that is built
-abbrev Targets : Entry → Type 0
-Targets e = (x : Written e.form) → May e.form x → HasTarget (e.says x)
-
-all_targets : EachOf Targets all_entries
-all_targets = (
-  (λ x m. tt),
-  (
-    (λ x m. tt),
-    (
-      (λ x m. tt),
-      (
-        (λ x m. tt),
-        (
-          (λ x m. tt),
-          (
-            (λ x m. tt),
-            (
-              (λ x m. tt),
-              (
-                (λ x m. tt),
-                ((λ x m. tt), ((λ x m. m.1.0), ((λ x m. tt), ((λ x m. tt), ((λ x m. tt), ((λ x m. tt), ((λ x m. tt), tt))))))),
-              ),
-            ),
-          ),
-        ),
-      ),
-    ),
-  ),
-)
-
-some_targets : (entries : List Entry) → EachOf Targets entries → (words : Words) (c : Command) → SpellsWithoutOffence entries words c → HasTarget c
-some_targets [] t words c h = absurd h
-some_targets (e ∷ entries) t words c (inl h) = subst HasTarget (sym h.says_it) (t.0 h.has.written h.has.allowed)
-some_targets (e ∷ entries) t words c (inr h) = some_targets entries t.1 words c h
-
-pub has_target : (words : Words) (c : Command) → SpellsWithoutOffence all_entries words c → HasTarget c
-has_target words c h = some_targets all_entries all_targets words c h

@@ -3,3 +3,4 @@ pub mod BuiltEntries
 pub mod ExpandWords
 pub mod ReadCommands
 pub mod LineCommands
+mod ReadTableaux

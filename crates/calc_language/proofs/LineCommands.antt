@@ -19,8 +19,7 @@ use Rattle.calc_language.specs.BuiltCommands.{all_entries, all_line_entries, is_
 use Rattle.calc_language.specs.Lines.{IsLineRead, KeepsItsLimits, AcceptsInLine}
 use Rattle.calc_language.specs.Reading.{command_of}
 use Rattle.calc_language.specs.declared.words.Command.{Command}
-use Rattle.calc_language.proofs.BuiltEntries.{kept_by_all, has_target}
-use Rattle.calc_language.proofs.ReadCommands.{its_limits}
+use Rattle.calc_language.proofs.BuiltEntries.{kept_by_all}
 use Rattle.calc_language.proofs.NamedEntries.{some_select}
 
 abbrev Words : Type 0
@@ -118,8 +117,7 @@ within too_long (Ok (Some command)) h = absurd h
 within passed_over (Ok (Some command)) h = absurd h
 within (spoken words) (Ok (Some command)) h =
     let c = command_of command in
-    let s = line_of_all words c h in
-    its_limits command (kept_by_all words c s) (has_target words c s)
+    kept_by_all words c (line_of_all words c h)
 
 spoken_accepts : (words : Words) (r : Result (Option Command) WordsFault) → IsLineRead (spoken words) r → (c : PlainCommand)
     → SpellsWithoutOffence batch_entries words c → AcceptsInLine c r

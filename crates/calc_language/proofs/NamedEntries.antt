@@ -81,12 +81,20 @@ among_names name e (f ∷ entries) (inl s) h =
     or_left (same name f.name) (is_among name (names_of entries)) (same_from name f.name (sym h ∙ ap (λ (x : Entry). x.name) s))
 among_names name e (f ∷ entries) (inr m) h = or_right (same name f.name) (is_among name (names_of entries)) (among_names name e entries m h)
 
+clash : {A : Type 0} (b : Bool) → b ≡ false → b ≡ true → A
+clash b h k = cc
+
+-- a word that is no name of these is not that of one of them
+pub named_differently : (w : List ℕ) (e : Entry) (entries : List Entry) → is_among w (names_of entries) ≡ false → Among e entries → same e.name w ≡ false
+named_differently w e entries h m = by (same e.name w) refl
+  where
+    by : (b : Bool) → same e.name w ≡ b → b ≡ false
+    by true s = clash (is_among w (names_of entries)) h (among_names w e entries m (same_true e.name w s))
+    by false s = refl
+
 not_both : (x y : Bool) → (not x && y) ≡ true → (x ≡ false) × (y ≡ true)
 not_both true y h = cc
 not_both false y h = (refl, h)
-
-clash : {A : Type 0} (b : Bool) → b ≡ false → b ≡ true → A
-clash b h k = cc
 
 pub one_named : (entries : List Entry) → are_named_apart entries ≡ true → (e f : Entry) → Among e entries → Among f entries → f.name ≡ e.name → f ≡ e
 one_named [] h e f m n s = absurd m

@@ -1,26 +1,22 @@
 -- What was read as a command, among all that are built.
-use Rattle.std.proofs.Common.{◌≡◌, ◌≢◌, ℕ, true, List, [], ◌∷◌, inl, inr, map, length, refl, sym, ap, ◌∙◌, subst, arith, Result, Ok, Err}
+use Rattle.std.proofs.Common.{◌≡◌, ℕ, true, false, List, [], ◌∷◌, inl, inr, map, length, refl, sym, ap, ◌∙◌, subst, arith, Result, Ok, Err}
 use Rattle.std.specs.Prelude.{IfOk}
 use Rattle.sym_model.specs.Sum.{Among}
 use Rattle.sym_model.specs.Command.{Command as PlainCommand}
 use Rattle.sym_model.specs.Entry.{Entry}
 use Rattle.sym_model.specs.SyntaxPlace.{IsSyntaxPlace}
-use Rattle.calc_base.specs.declared.words.Basis.{Basis as Letter}
-use Rattle.calc_base.specs.declared.words.Basis.TheVariants.{S}
-use Rattle.calc_expressions.specs.Trees.{basis_of}
-use Rattle.calc_words.specs.WrittenLimits.{KeepsLimits}
-use Rattle.sym_model.specs.Expansion.{schurs}
 use Rattle.calc_base.specs.declared.words.WordsFault.{WordsFault}
 use Rattle.calc_base.specs.declared.words.WordsFault.TheVariants.{Syntax, Literal, Range, Shape, NoMemory}
 use Rattle.calc_words.specs.Reading.{IsRead as IsReadBy}
 use Rattle.calc_language.specs.declared.words.Command.{Command}
-use Rattle.calc_language.specs.declared.words.Command.TheVariants.{Expand as Expands}
-use Rattle.calc_language.specs.BuiltCommands.{all_entries, all_line_entries, is_built, batch_entries, IsTarget}
+use Rattle.calc_language.specs.BuiltCommands.{all_entries, all_line_entries, is_built, batch_entries}
 use Rattle.calc_language.specs.Reading.{command_of, IsRead, IsWithinItsLimits}
-use Rattle.calc_language.specs.Names.{name_of, entry_of}
+use Rattle.sym_model.specs.GoodTableau.{is_among}
+use Rattle.calc_language.specs.Names.{name_of, entry_of, is_of_lines}
+use Rattle.calc_language.proofs.NamedEntries.{names_of}
 use Rattle.calc_language.specs.declared.name.Name.{Name}
-use Rattle.calc_language.specs.declared.name.Name.TheVariants.{Mult, Skew, Coef, Coprod, Tab, Quantum, Fusion, Schubert, Schubmult, Expand}
-use Rattle.calc_language.proofs.BuiltEntries.{built_read, line_read, built_of_all, kept_by_all, HasTarget, has_target}
+use Rattle.calc_language.specs.declared.name.Name.TheVariants.{Mult, Skew, Coef, Coprod, Tab, Quantum, Fusion, Schubert, Schubmult, Expand, Rsk, Unrsk, Rect, Batch, Work}
+use Rattle.calc_language.proofs.BuiltEntries.{built_read, line_read, no_line_name, built_of_all, kept_by_all}
 
 -- a refusal does not depend on what the answers say
 pub refused : {A : Type 0} (entries : List Entry) (says : A → PlainCommand) (words : List (List ℕ)) (fault : WordsFault)
@@ -44,6 +40,11 @@ name_is Fusion = refl
 name_is Schubert = refl
 name_is Schubmult = refl
 name_is Expand = refl
+name_is Rsk = refl
+name_is Unrsk = refl
+name_is Rect = refl
+name_is Batch = refl
+name_is Work = refl
 
 is_among_all : (n : Name) → Among (entry_of n) all_entries
 is_among_all Mult = inl refl
@@ -56,6 +57,11 @@ is_among_all Fusion = inr (inr (inr (inr (inr (inr (inl refl))))))
 is_among_all Schubert = inr (inr (inr (inr (inr (inr (inr (inl refl)))))))
 is_among_all Schubmult = inr (inr (inr (inr (inr (inr (inr (inr (inl refl))))))))
 is_among_all Expand = inr (inr (inr (inr (inr (inr (inr (inr (inr (inl refl)))))))))
+is_among_all Rsk = inr (inr (inr (inr (inr (inr (inr (inr (inr (inr (inl refl))))))))))
+is_among_all Unrsk = inr (inr (inr (inr (inr (inr (inr (inr (inr (inr (inr (inl refl)))))))))))
+is_among_all Rect = inr (inr (inr (inr (inr (inr (inr (inr (inr (inr (inr (inr (inl refl))))))))))))
+is_among_all Batch = inr (inr (inr (inr (inr (inr (inr (inr (inr (inr (inr (inr (inr (inl refl)))))))))))))
+is_among_all Work = inr (inr (inr (inr (inr (inr (inr (inr (inr (inr (inr (inr (inr (inr (inl refl))))))))))))))
 
 is_built_named : (n : Name) → is_built (entry_of n) ≡ true
 is_built_named Mult = refl
@@ -68,18 +74,52 @@ is_built_named Fusion = refl
 is_built_named Schubert = refl
 is_built_named Schubmult = refl
 is_built_named Expand = refl
+is_built_named Rsk = refl
+is_built_named Unrsk = refl
+is_built_named Rect = refl
+is_built_named Batch = refl
+is_built_named Work = refl
 
-is_among_lines : (n : Name) → Among (entry_of n) all_line_entries
-is_among_lines Mult = inl refl
-is_among_lines Skew = inr (inl refl)
-is_among_lines Coef = inr (inr (inl refl))
-is_among_lines Coprod = inr (inr (inr (inl refl)))
-is_among_lines Tab = inr (inr (inr (inr (inl refl))))
-is_among_lines Quantum = inr (inr (inr (inr (inr (inl refl)))))
-is_among_lines Fusion = inr (inr (inr (inr (inr (inr (inl refl))))))
-is_among_lines Schubert = inr (inr (inr (inr (inr (inr (inr (inl refl)))))))
-is_among_lines Schubmult = inr (inr (inr (inr (inr (inr (inr (inr (inl refl))))))))
-is_among_lines Expand = inr (inr (inr (inr (inr (inr (inr (inr (inr (inl refl)))))))))
+is_among_lines : (n : Name) → is_of_lines n ≡ true → Among (entry_of n) all_line_entries
+is_among_lines Mult l = inl refl
+is_among_lines Skew l = inr (inl refl)
+is_among_lines Coef l = inr (inr (inl refl))
+is_among_lines Coprod l = inr (inr (inr (inl refl)))
+is_among_lines Tab l = inr (inr (inr (inr (inl refl))))
+is_among_lines Quantum l = inr (inr (inr (inr (inr (inl refl)))))
+is_among_lines Fusion l = inr (inr (inr (inr (inr (inr (inl refl))))))
+is_among_lines Schubert l = inr (inr (inr (inr (inr (inr (inr (inl refl)))))))
+is_among_lines Schubmult l = inr (inr (inr (inr (inr (inr (inr (inr (inl refl))))))))
+is_among_lines Expand l = inr (inr (inr (inr (inr (inr (inr (inr (inr (inl refl)))))))))
+is_among_lines Rsk l = inr (inr (inr (inr (inr (inr (inr (inr (inr (inr (inl refl))))))))))
+is_among_lines Unrsk l = inr (inr (inr (inr (inr (inr (inr (inr (inr (inr (inr (inl refl)))))))))))
+is_among_lines Rect l = inr (inr (inr (inr (inr (inr (inr (inr (inr (inr (inr (inr (inl refl))))))))))))
+is_among_lines Batch l = cc
+is_among_lines Work l = cc
+
+-- the names of the commands that stand in no line
+not_of_lines : (n : Name) → is_of_lines n ≡ false → is_among (name_of n) (names_of batch_entries) ≡ false
+not_of_lines Mult l = cc
+not_of_lines Skew l = cc
+not_of_lines Coef l = cc
+not_of_lines Coprod l = cc
+not_of_lines Tab l = cc
+not_of_lines Quantum l = cc
+not_of_lines Fusion l = cc
+not_of_lines Schubert l = cc
+not_of_lines Schubmult l = cc
+not_of_lines Expand l = cc
+not_of_lines Rsk l = cc
+not_of_lines Unrsk l = cc
+not_of_lines Rect l = cc
+not_of_lines Batch l = refl
+not_of_lines Work l = refl
+
+-- words whose first word is the name of a command that stands in no line
+pub named_elsewhere : (n : Name) (first : List ℕ) (rest : List (List ℕ)) → is_of_lines n ≡ false → first ≡ name_of n
+    → IsSyntaxPlace batch_entries (first ∷ rest) 0 0
+named_elsewhere n first rest l f =
+    no_line_name first rest (ap (λ w. is_among w (names_of batch_entries)) f ∙ not_of_lines n l)
 
 -- words whose first word is the name of the command
 pub named_read : (n : Name) (words : List (List ℕ)) (first : List ℕ) (rest : List (List ℕ)) (result : Result Command WordsFault)
@@ -89,9 +129,9 @@ named_read n words first rest result w f h =
 
 pub named_line_read : (n : Name) (words : List (List ℕ)) (first : List ℕ) (rest : List (List ℕ)) (result : Result Command WordsFault)
     → words ≡ first ∷ rest → first ≡ name_of n → IsReadBy (entry_of n ∷ []) command_of words result
-    → IsReadBy batch_entries command_of words result
-named_line_read n words first rest result w f h =
-    line_read (entry_of n) (is_among_lines n) (is_built_named n) command_of words rest (w ∙ ap (λ t. t ∷ rest) (f ∙ name_is n)) result h
+    → is_of_lines n ≡ true → IsReadBy batch_entries command_of words result
+named_line_read n words first rest result w f h l =
+    line_read (entry_of n) (is_among_lines n l) (is_built_named n) command_of words rest (w ∙ ap (λ t. t ∷ rest) (f ∙ name_is n)) result h
 
 -- words that go wrong at their first word
 pub wrong_first : (entries : List Entry) (words v : List (List ℕ)) (fault : WordsFault) → words ≡ v → fault ≡ Syntax (record { word = 0; byte = 0 })
@@ -103,24 +143,9 @@ pub no_words : {A : Type 0} (f : A → List ℕ) (xs : List A) → length xs ≡
 no_words f [] h = refl
 no_words f (x ∷ xs) h = absurd (omega (arith, h))
 
--- the limits that are kept, and a target that is built
-not_schur : (target : Letter) → IsTarget (basis_of target) → target ≢ S
-not_schur target t e = none (subst (λ b. IsTarget (basis_of b)) e t)
-  where
-    none : IsTarget schurs → ⊥
-    none (inl h) = cc
-    none (inr (inl h)) = cc
-    none (inr (inr (inl h))) = cc
-    none (inr (inr (inr (inl h)))) = cc
-    none (inr (inr (inr (inr h)))) = h
-
-pub its_limits : (command : Command) → KeepsLimits (command_of command) → HasTarget (command_of command) → IsWithinItsLimits command
-its_limits (Expands target formula) k t = (k, not_schur target t)
-its_limits _ k t = k
-
+-- the limits that are kept
 pub within : (words : List (List ℕ)) (result : Result Command WordsFault) → IsRead words result → IfOk result IsWithinItsLimits
 within words (Ok command) h =
     let c = command_of command in
-    let s = built_of_all words c h in
-    its_limits command (kept_by_all words c s) (has_target words c s)
+    kept_by_all words c (built_of_all words c h)
 within words (Err fault) h = tt

@@ -3,7 +3,7 @@ use Rattle.std.specs.Prelude.{◌≡◌, ℕ, Bool, cond, List, [], ◌∷◌, m
 use Rattle.sym_model.specs.Polynomial.{same}
 use Rattle.sym_model.specs.Sum.{select}
 use Rattle.sym_model.specs.GoodTableau.{is_among}
-use Rattle.sym_model.specs.Expansion.{Basis, monomials, elementaries, completes, power_sums}
+use Rattle.sym_model.specs.Expansion.{Basis, monomials, elementaries, completes, power_sums, schurs}
 use Rattle.sym_model.specs.Form.{SomeOf}
 use Rattle.sym_model.specs.Entry.{Entry}
 use Rattle.calc_words.specs.Entries.{whole_tab_entry}
@@ -11,7 +11,7 @@ use Rattle.sym_model.specs.Grammar.{entries_of, line_entries}
 
 -- the names of the commands that are built
 abbrev pub built_names : List (List ℕ)
-built_names = codes "mult" ∷ codes "skew" ∷ codes "coef" ∷ codes "coprod" ∷ codes "tab" ∷ codes "quantum" ∷ codes "fusion" ∷ codes "schubert" ∷ codes "schubmult" ∷ codes "expand" ∷ []
+built_names = codes "mult" ∷ codes "skew" ∷ codes "coef" ∷ codes "coprod" ∷ codes "tab" ∷ codes "quantum" ∷ codes "fusion" ∷ codes "schubert" ∷ codes "schubmult" ∷ codes "expand" ∷ codes "rsk" ∷ codes "unrsk" ∷ codes "rect" ∷ codes "batch" ∷ codes "work" ∷ []
 
 -- whether a command is built
 abbrev pub is_built : Entry → Bool
@@ -19,7 +19,7 @@ is_built e = is_among e.name built_names
 
 -- the bases into which an expansion is built
 abbrev pub built_targets : List Basis
-built_targets = monomials ∷ elementaries ∷ completes ∷ power_sums ∷ []
+built_targets = monomials ∷ elementaries ∷ completes ∷ power_sums ∷ schurs ∷ []
 
 -- the expansion is into one of them
 abbrev pub IsTarget : Basis → Type 0

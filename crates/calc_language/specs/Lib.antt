@@ -2,3 +2,5 @@ pub mod Reading
 pub mod BuiltCommands
 pub mod Names
 pub mod Lines
+pub mod ReadRows
+pub mod Pairs

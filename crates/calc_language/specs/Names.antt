@@ -1,11 +1,11 @@
 -- The commands that are built, by the variants that stand for them (this project's own).
-use Rattle.std.specs.Prelude.{ℕ, List, codes}
+use Rattle.std.specs.Prelude.{ℕ, Bool, true, false, List, codes}
 use Rattle.sym_model.specs.Entry.{Entry}
-use Rattle.sym_model.specs.Grammar.{mult_entry, skew_entry, coef_entry, coprod_entry, quantum_entry, fusion_entry, schubert_entry, schubmult_entry, expand_entry}
+use Rattle.sym_model.specs.Grammar.{mult_entry, skew_entry, coef_entry, coprod_entry, quantum_entry, fusion_entry, schubert_entry, schubmult_entry, expand_entry, rsk_entry, unrsk_entry, rect_entry, batch_entry, work_entry}
 use Rattle.calc_words.specs.Entries.{whole_tab_entry}
 use Rattle.calc_language.specs.BuiltCommands.{built_targets}
 use Rattle.calc_language.specs.declared.name.Name.{Name}
-use Rattle.calc_language.specs.declared.name.Name.TheVariants.{Mult, Skew, Coef, Coprod, Tab, Quantum, Fusion, Schubert, Schubmult, Expand}
+use Rattle.calc_language.specs.declared.name.Name.TheVariants.{Mult, Skew, Coef, Coprod, Tab, Quantum, Fusion, Schubert, Schubmult, Expand, Rsk, Unrsk, Rect, Batch, Work}
 
 -- the name
 abbrev pub name_of : Name → List ℕ
@@ -19,6 +19,11 @@ name_of Fusion = codes "fusion"
 name_of Schubert = codes "schubert"
 name_of Schubmult = codes "schubmult"
 name_of Expand = codes "expand"
+name_of Rsk = codes "rsk"
+name_of Unrsk = codes "unrsk"
+name_of Rect = codes "rect"
+name_of Batch = codes "batch"
+name_of Work = codes "work"
 
 -- the entry of the grammar
 abbrev pub entry_of : Name → Entry
@@ -32,3 +37,14 @@ entry_of Fusion = fusion_entry
 entry_of Schubert = schubert_entry
 entry_of Schubmult = schubmult_entry
 entry_of Expand = expand_entry built_targets
+entry_of Rsk = rsk_entry
+entry_of Unrsk = unrsk_entry
+entry_of Rect = rect_entry
+entry_of Batch = batch_entry
+entry_of Work = work_entry
+
+-- whether the command may stand in a line of a batch
+abbrev pub is_of_lines : Name → Bool
+is_of_lines Batch = false
+is_of_lines Work = false
+is_of_lines _ = true

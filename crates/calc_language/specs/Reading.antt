@@ -1,8 +1,7 @@
 -- What the words of a command are read as (this project's own).
-use Rattle.std.specs.Prelude.{ℕ, List, Result, None, ◌≢◌}
-use Rattle.sym_model.specs.Command.{Command as PlainCommand, mult, skew, coef, coprod, quantum, fusion, expand, schubert, schubmult, tab}
+use Rattle.std.specs.Prelude.{ℕ, List, Result, None}
+use Rattle.sym_model.specs.Command.{Command as PlainCommand, mult, skew, coef, coprod, quantum, fusion, expand, schubert, schubmult, tab, rsk, unrsk, rect, batch, work}
 use Rattle.calc_language.specs.BuiltCommands.{command_entries}
-use Rattle.calc_base.specs.declared.words.Basis.TheVariants.{S}
 use Rattle.calc_base.specs.declared.words.WordsFault.{WordsFault}
 use Rattle.calc_base.specs.declared.words.WordsFault.TheVariants.{Syntax, Literal, Range, Shape, NoMemory}
 use Rattle.calc_expressions.specs.Trees.{basis_of, tree_of}
@@ -11,7 +10,7 @@ use Rattle.calc_expressions.specs.declared.reading.ExpressionFault.TheVariants.{
 use Rattle.calc_words.specs.Reading.{IsRead as IsReadBy, Accepts as AcceptsBy}
 use Rattle.calc_words.specs.WrittenLimits.{KeepsLimits}
 use Rattle.calc_language.specs.declared.words.Command.{Command}
-use Rattle.calc_language.specs.declared.words.Command.TheVariants.{Mult, Skew, Coef, Coprod, Quantum, Fusion, Expand, Schubert, Schubmult, Tab}
+use Rattle.calc_language.specs.declared.words.Command.TheVariants.{Mult, Skew, Coef, Coprod, Quantum, Fusion, Expand, Schubert, Schubmult, Tab, Rsk, Unrsk, Rect, Batch, Work}
 pub use Rattle.calc_words.specs.Reading.{IsFaultOf, Refuses, GoesWrong}
 
 -- the plain command
@@ -26,10 +25,14 @@ command_of (Fusion rows level left right) = fusion rows level left right
 command_of (Schubert perm) = schubert perm
 command_of (Schubmult left right) = schubmult left right
 command_of (Expand target formula) = expand (basis_of target) (tree_of formula.tree)
+command_of (Rsk letters) = rsk letters
+command_of (Unrsk pair) = unrsk pair.0.rows pair.1.rows
+command_of (Rect tableau) = rect tableau.outer tableau.inner tableau.rows
+command_of Batch = batch
+command_of (Work lines seed) = work lines seed
 
--- what the command names is within the limits of words, and its target is built
+-- what the command names is within the limits of words
 abbrev pub IsWithinItsLimits : Command → Type 0
-IsWithinItsLimits (Expand target formula) = KeepsLimits (command_of (Expand target formula)) × (target ≢ S)
 IsWithinItsLimits command = KeepsLimits (command_of command)
 
 -- the words are this command without offence, or go wrong or first offend at this place; want of memory says nothing of them

@@ -12,6 +12,7 @@ ghost use Rattle.calc_language.specs.BuiltCommands.{command_entries, batch_entri
 pub fn built_commands_law()
     ensures commands { are_unambiguous (forms_of command_entries) ≡ true }
     ensures line_commands { are_unambiguous (forms_of batch_entries) ≡ true }
-    ensures not_built { IsSyntaxPlace command_entries (words_of_line (codes "rsk 1")) 0 0 }
+    ensures not_built { IsSyntaxPlace command_entries (words_of_line (codes "growth 1")) 0 0 }
+    ensures not_in_lines { IsSyntaxPlace batch_entries (words_of_line (codes "work 1 0")) 0 0 }
     ensures no_target { IsSyntaxPlace command_entries (words_of_line (codes "expand q 1")) 1 0 }
 {}

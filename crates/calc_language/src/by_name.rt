@@ -5,9 +5,13 @@ ghost use Rattle.calc_language.specs.Names.{entry_of};
 ghost use Rattle.calc_language.specs.Reading.{command_of};
 
 use crate::Command;
+use crate::batches::{batch, work};
 use crate::expand::read_expand;
+use crate::letters::rsk;
 use crate::name::Name;
+use crate::pairs::unrsk;
 use crate::permutations::{schubert, schubmult};
+use crate::rectifying::rect;
 use crate::shapes::{coef, coprod, fusion, mult, quantum, skew, tab};
 use calc_base::WordsFault;
 use std::alloc::Global;
@@ -27,5 +31,10 @@ pub(crate) fn by_name(alloc: Global, name: Name, words: &[String]) -> Result<Com
         Name::Schubert => schubert(alloc, words),
         Name::Schubmult => schubmult(alloc, words),
         Name::Expand => read_expand(alloc, words),
+        Name::Rsk => rsk(alloc, words),
+        Name::Unrsk => unrsk(alloc, words),
+        Name::Rect => rect(alloc, words),
+        Name::Batch => batch(words),
+        Name::Work => work(words),
     }
 }

@@ -34,6 +34,7 @@ fn target_named(word: &str) -> Option<Basis>
         "e" => Some(Basis::E),
         "h" => Some(Basis::H),
         "p" => Some(Basis::P),
+        "s" => Some(Basis::S),
         _ => None,
     }
 }

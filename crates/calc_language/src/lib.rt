@@ -2,17 +2,23 @@
 //! passed on.
 #![tactic(auto)]
 
+mod batches;
 mod built;
 mod by_name;
 mod expand;
+mod letters;
 mod lines;
 mod name;
+mod pairs;
 mod permutations;
+mod rectifying;
 mod refusal;
 mod shapes;
+mod tableaux;
 mod words;
 
 pub use built::built_commands_law;
 pub use calc_expressions::{Basis, Expr, Formula, Weight, degree_limit};
 pub use lines::read_line;
+pub use pairs::Pair;
 pub use words::{Command, read_words};

@@ -12,7 +12,7 @@ ghost use Rattle.calc_language.specs.Reading.{command_of};
 
 use crate::Command;
 use crate::by_name::by_name;
-use crate::name::named;
+use crate::name::{named, stands_in_line};
 use crate::refusal::syntax;
 use calc_base::{NoMemory, Place, WordsFault};
 use calc_words::{are_passed_over, line_words, without_return};
@@ -76,5 +76,8 @@ fn read_in_line(alloc: Global, words: &[String]) -> Result<Command, WordsFault>
     let Some(name) = named(first.as_str()) else {
         return Err(syntax(0, 0));
     };
+    if !stands_in_line(name) {
+        return Err(syntax(0, 0));
+    }
     by_name(alloc, name, words)
 }

@@ -2,7 +2,7 @@
 ghost use Rattle.std.specs.Prelude.{◌≡◌, false, MatchOption};
 ghost use Rattle.sym_model.specs.GoodTableau.{is_among};
 ghost use Rattle.calc_language.specs.BuiltCommands.{built_names};
-ghost use Rattle.calc_language.specs.Names.{name_of};
+ghost use Rattle.calc_language.specs.Names.{name_of, is_of_lines};
 
 /// A command that is built, by its name.
 #[derive(Clone, Copy, Debug)]
@@ -17,6 +17,11 @@ pub(crate) enum Name {
     Schubert,
     Schubmult,
     Expand,
+    Rsk,
+    Unrsk,
+    Rect,
+    Batch,
+    Work,
 }
 
 /// The command of this name.
@@ -34,6 +39,18 @@ pub(crate) fn named(word: &str) -> Option<Name>
         "schubert" => Some(Name::Schubert),
         "schubmult" => Some(Name::Schubmult),
         "expand" => Some(Name::Expand),
+        "rsk" => Some(Name::Rsk),
+        "unrsk" => Some(Name::Unrsk),
+        "rect" => Some(Name::Rect),
+        "batch" => Some(Name::Batch),
+        "work" => Some(Name::Work),
         _ => None,
     }
+}
+
+/// Whether the command may stand in a line of a batch.
+pub(crate) fn stands_in_line(name: Name) -> bool
+    ensures { result ≡ is_of_lines name }
+{
+    !matches!(name, Name::Batch | Name::Work)
 }

@@ -9,11 +9,13 @@ ghost use Rattle.calc_language.specs.Reading.{IsWithinItsLimits, IsRead, Accepts
 
 use crate::by_name::by_name;
 use crate::name::named;
+use crate::pairs::Pair;
 use crate::refusal::syntax;
 use crate::{Basis, Formula};
-use calc_base::WordsFault;
+use calc_base::{Word, WordsFault};
 use partitions::Partition;
 use perm_codes::Perm;
+use skew_shapes::Tableau;
 use std::alloc::Global;
 
 /// A command.
@@ -74,13 +76,32 @@ pub enum Command {
         target: Basis,
         formula: Formula,
     },
+    /// The pair of tableaux that the insertion of a word of letters makes.
+    Rsk {
+        letters: Word,
+    },
+    /// The word whose insertion makes the pair of tableaux.
+    Unrsk {
+        pair: Pair,
+    },
+    /// The rectification of a skew tableau.
+    Rect {
+        tableau: Tableau,
+    },
+    /// Each line of the input.
+    Batch,
+    /// So many lines that the generator makes from a seed.
+    Work {
+        lines: u16,
+        seed: u32,
+    },
 }
 
 /// Reads the words of a command.
 ///
 /// The commands are `mult`, `skew`, `coef`, `coprod`, `tab`, `quantum` and `fusion` with their partitions, `schubert` and `schubmult`
-/// with their permutations, and `expand` with the letter `m`, `e`, `h` or `p` of a target and an expression. Words that
-/// are no command are refused as `Syntax`, at the word where they go wrong, and in the word of an expression at the byte after
+/// with their permutations, `expand` with the letter `m`, `e`, `h` or `p` of a target and an expression, `rsk` with its letters,
+/// `unrsk` with two tableaux, `rect` with two partitions and a tableau, `batch`, and `work` with its two numbers. Words that are no command are refused as `Syntax`, at the word where they go wrong, and in the word of an expression at the byte after
 /// its longest prefix that begins one. Otherwise the first offence is refused, as `calc_words::read_mult` and its like and
 /// `calc_expressions::read_expression` say.
 pub fn read_words(alloc: Global, words: &[String]) -> Result<Command, WordsFault>

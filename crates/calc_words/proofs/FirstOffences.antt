@@ -15,7 +15,7 @@ first-head o os h = by (first_offence os) refl
     by None e = ap (earlier_of o) e
     by (Some p) e = ap (earlier_of o) e ∙ ap (λ b. cond b (Some o) (Some p)) (h p (first-among os p e))
 
-no_later_word : (o p : Offence) → o.0 < p.0 → is_no_later o p ≡ true
+pub no_later_word : (o p : Offence) → o.0 < p.0 → is_no_later o p ≡ true
 no_later_word o p h = ap (λ x. x || ((o.0 == p.0) && (nat_lt o.1 p.1 || ((o.1 == p.1) && nat_le (rank o.2) (rank p.2))))) (lt-ltb o.0 p.0 h)
 
 or_true : (b : Bool) → (b || true) ≡ true

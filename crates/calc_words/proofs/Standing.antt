@@ -68,7 +68,7 @@ behind_the text g words left w entries all before c n s =
     w entries all (before ++ text ∷ []) c n
     (step entries all before text words (sequence (the text) g) (sequence empty g) g s (the_next text g) (behind_empty g words) refl)
 
-not_same : (u v : List ℕ) → (v ≡ u → ⊥) → same u v ≡ false
+pub not_same : (u v : List ℕ) → (v ≡ u → ⊥) → same u v ≡ false
 not_same u v n = by (same u v) refl
   where
     by : (b : Bool) → same u v ≡ b → b ≡ false

@@ -17,4 +17,5 @@ pub returns-in_default : goal.returns-in_default
 returns-in_default c =
     none_of c.args.word.now built_names
     (both c.in_default.not-mult (both c.in_default.not-skew (both c.in_default.not-coef (both c.in_default.not-coprod (both c.in_default.not-tab (both c.in_default.not-quantum
-    (both c.in_default.not-fusion (both c.in_default.not-schubert (both c.in_default.not-schubmult (both c.in_default.not-expand tt))))))))))
+    (both c.in_default.not-fusion (both c.in_default.not-schubert (both c.in_default.not-schubmult (both c.in_default.not-expand
+    (both c.in_default.not-rsk (both c.in_default.not-unrsk (both c.in_default.not-rect (both c.in_default.not-batch (both c.in_default.not-work tt)))))))))))))))

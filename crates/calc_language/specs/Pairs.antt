@@ -1,0 +1,14 @@
+-- Pairs of tableaux (this project's own).
+use Rattle.std.specs.Prelude.{◌≡◌, ◌≤◌, [], length}
+use Rattle.sym_model.specs.CommandOffence.{most_letters}
+use Rattle.sym_model.specs.Schur.{letters_of}
+use Rattle.sym_model.specs.StandardTableau.{IsStandard}
+use Rattle.sym_model.specs.Tableau.{IsStraightTableau, SkewFilling}
+
+-- a straight tableau and a standard one of its shape, of at most 256 cells
+pub record IsPair (p q : SkewFilling) : Type 0 where
+  pub straight : p.inner ≡ []
+  pub standard_straight : q.inner ≡ []
+  pub standard : IsStandard q.rows
+  pub one_shape : p.outer ≡ q.outer
+  pub few : length (letters_of p.rows) ≤ most_letters

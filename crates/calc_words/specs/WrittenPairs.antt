@@ -1,0 +1,13 @@
+-- Two tableaux that words without an offence name (this project's own).
+use Rattle.std.specs.Prelude.{◌≡◌, ◌≤◌, ℕ, List, length}
+use Rattle.sym_model.specs.Schur.{letters_of}
+use Rattle.sym_model.specs.Tableau.{IsStraightTableau, shape_of}
+use Rattle.sym_model.specs.StandardTableau.{IsStandard}
+use Rattle.sym_model.specs.CommandOffence.{most_letters}
+
+-- a straight tableau and a standard one of its shape, of at most 256 cells
+pub record IsWrittenPair (p q : List (List ℕ)) : Type 0 where
+  pub straight : IsStraightTableau p
+  pub standard : IsStandard q
+  pub one_shape : shape_of p ≡ shape_of q
+  pub few : length (letters_of p) ≤ most_letters

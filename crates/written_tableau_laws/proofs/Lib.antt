@@ -1,0 +1,3 @@
+pub mod EarlierOffences
+pub mod JudgedRows
+pub mod LeftShapes

@@ -1,0 +1,52 @@
+-- Tableaux as they are written, row by row: the number words of each row (this project's own).
+use Rattle.std.specs.Prelude.{ℕ, ◌+◌, ◌==◌, cond, min, List, [], ◌∷◌, ◌++◌, map, length, codes}
+use Rattle.std.proofs.Common.{inl, inr}
+use Rattle.sym_model.specs.ExpressionOffence.{shape}
+use Rattle.sym_model.specs.Form.{Written}
+use Rattle.sym_model.specs.CommandOffence.{Offence, PlacedRow}
+use Rattle.sym_model.specs.WordForms.{row_words, tableau_words, numbers}
+
+-- the words of a row: `.` where it has no number
+abbrev pub row_text : List (List ℕ) → List (List ℕ)
+row_text [] = codes "." ∷ []
+row_text (w ∷ row) = w ∷ row
+
+-- the words of further rows, each behind a `/`
+abbrev pub further_text : List (List (List ℕ)) → List (List ℕ)
+further_text [] = []
+further_text (row ∷ rows) = codes "/" ∷ (row_text row ++ further_text rows)
+
+-- the words of rows
+abbrev pub rows_text : List (List (List ℕ)) → List (List ℕ)
+rows_text [] = []
+rows_text (row ∷ rows) = row_text row ++ further_text rows
+
+-- a row as it is written
+abbrev pub row_written : List (List ℕ) → Written row_words
+row_written [] = inl tt
+row_written (w ∷ row) = inr (w, row)
+
+-- a tableau of a first row and further ones as it is written
+abbrev pub tableau_written : List (List ℕ) → List (List (List ℕ)) → Written tableau_words
+tableau_written row rows = (row_written row, map (λ (r : List (List ℕ)). (tt, row_written r)) rows)
+
+-- the rows with their numbers, the first of which begins at the word
+abbrev pub rows_at : ℕ → List (List (List ℕ)) → List PlacedRow
+rows_at k [] = []
+rows_at k (row ∷ rows) = (k, numbers row) ∷ rows_at (k + length (row_text row) + 1) rows
+
+-- behind a row that ends at the word: no rows more where none are asked for, else what is said of the later ones
+abbrev pub left_behind : ℕ → List ℕ → List (List (List ℕ)) → List Offence → List Offence
+left_behind k [] [] later = []
+left_behind k [] (row ∷ rows) later = (k, 0, shape) ∷ []
+left_behind k (n ∷ lengths) [] later = (k, 0, shape) ∷ []
+left_behind k (n ∷ lengths) (row ∷ rows) later = later
+
+-- where rows from the word on leave a shape with rows of these lengths: inside a row, or behind one
+abbrev pub left_at : ℕ → List ℕ → List (List (List ℕ)) → List Offence
+left_at k [] rows = []
+left_at k (n ∷ lengths) [] = []
+left_at k (n ∷ lengths) (row ∷ rows) =
+    cond (length row == n)
+    (left_behind (k + length (row_text row)) lengths rows (left_at (k + length (row_text row) + 1) lengths rows))
+    ((k + min n (length row), 0, shape) ∷ [])
