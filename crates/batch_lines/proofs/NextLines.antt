@@ -7,7 +7,7 @@ use Rattle.std.proofs.lemmas.List.{append-nil}
 use Rattle.sym_model.specs.BatchLine.{most_bytes}
 use Rattle.batch_lines.specs.Feeds.{HasNoFeed}
 use Rattle.batch_lines.specs.Heard.{IsHeard, IsTaken, Hears}
-use Rattle.batch_lines.specs.Reading.{Took, EndsAtFeed, EndsAtEnd, IsNext, ReadsNext, next_at_feed, next_at_end}
+use Rattle.batch_lines.specs.Reading.{Took, TookPart, EndsAtFeed, EndsAtEnd, IsNext, ReadsNext, next_at_feed, next_at_end}
 use Rattle.batch_lines.specs.declared.heard.Heard.{Heard}
 use Rattle.batch_lines.specs.declared.next.Next.{Next}
 use Rattle.batch_lines.proofs.Parts.{no_feed_append}
@@ -93,6 +93,20 @@ goes_on before now later allowance less still_less faults count more_count first
           sym (append_assoc first r.taken piece)
           ∙ ap (λ xs. xs ++ piece) (r.bytes ∙ ap (λ xs. r.text ++ xs) cut.0);
       heard = h.heard;
+    }
+
+-- ---- a fault of the source
+
+pub cuts : (before now later : Option (List ℕ)) (allowance less faults count : ℕ) (first pending kept behind line : List ℕ) (is_long : Bool) (heard : Heard)
+    → (r : ReadsSo before now allowance less faults count first pending kept is_long) → Hears r.text pending behind line heard → heard.has_ended ≡ false
+    → later ≡ now → TookPart before later first
+cuts before now later allowance less faults count first pending kept behind line is_long heard r h e kept_left =
+    let cut : (pending ≡ h.part) × (behind ≡ []) = subst (IsTaken h.part pending behind) e h.taken in
+    record {
+      taken = r.taken;
+      took = subst (λ told. Took before told r.taken) (sym kept_left) r.took;
+      no_feed =
+          subst HasNoFeed (sym (r.bytes ∙ ap (λ xs. r.text ++ xs) cut.0)) (no_feed_append r.text h.part r.no_feed h.no_feed);
     }
 
 -- ---- the end of the source

@@ -60,3 +60,15 @@ abbrev pub CountsLine : (before now : ℕ) → Result Next LineFault → Type 0
 CountsLine before now (Ok next) = now ≡ before
 CountsLine before now (Err SourceFault) = Rose before now
 CountsLine before now (Err NoMemory) = now ≡ before
+
+-- some bytes were taken, and no line ends in them and those that were pending
+pub record TookPart (before now : Option (List ℕ)) (pending : List ℕ) : Type 0 where
+  pub taken : List ℕ
+  pub took : Took before now taken
+  pub no_feed : HasNoFeed (pending ++ taken)
+
+-- where a fault of the source came, no line ends in what was taken
+abbrev pub CutsLine : (before now : Option (List ℕ)) → List ℕ → Result Next LineFault → Type 0
+CutsLine before now pending (Ok next) = Unit {0}
+CutsLine before now pending (Err SourceFault) = TookPart before now pending
+CutsLine before now pending (Err NoMemory) = Unit {0}

@@ -1,6 +1,6 @@
 //! A reader of lines.
 ghost use Rattle.std.specs.Prelude.{◌≡◌, ◌≤◌, ℕ, List, [], IfOk, vec_len};
-ghost use Rattle.batch_lines.specs.Reading.{Took, ReadsNext, CountsLine, next_at_feed, next_at_end};
+ghost use Rattle.batch_lines.specs.Reading.{Took, ReadsNext, CutsLine, CountsLine, next_at_feed, next_at_end};
 
 use crate::heard::hear;
 use crate::pieces::Pieces;
@@ -48,11 +48,13 @@ impl LineReader {
     /// Reads the next line. Bytes behind the last line feed of the source are a line, where there are any.
     ///
     /// A line of more than 4,096 bytes is passed over as `TooLong`. `SourceFault` comes exactly where a call of the source
-    /// failed. After an error bytes may be lost, and the reader is not to be used.
+    /// failed, and then no line ends among the bytes that were taken. After an error bytes may be lost, and the reader is
+    /// not to be used.
     pub fn next<S: Source>(&mut self, source: &mut S) -> Result<Next, LineFault>
         ensures reads { IfOk result (ReadsNext (S.left source.old) (S.left source.new) (S.allowance source.old) (S.allowance source.new)
             self.old.pending self.new.pending self.new.line) }
         ensures takes { (taken : List ℕ) × Took (S.left source.old) (S.left source.new) taken }
+        ensures cuts { CutsLine (S.left source.old) (S.left source.new) self.old.pending result }
         ensures counts { CountsLine (S.faults source.old) (S.faults source.new) result }
         ensures later { S.faults source.old ≤ S.faults source.new }
     {
@@ -89,6 +91,7 @@ fn read_next<S: Source>(
     ensures reads { IfOk result (ReadsNext (S.left source.old) (S.left source.new) (S.allowance source.old) (S.allowance source.new)
         pieces.old pieces.new line.new.items) }
     ensures takes { (taken : List ℕ) × Took (S.left source.old) (S.left source.new) taken }
+    ensures cuts { CutsLine (S.left source.old) (S.left source.new) pieces.old result }
     ensures counts { CountsLine (S.faults source.old) (S.faults source.new) result }
     ensures later { S.faults source.old ≤ S.faults source.new }
 {

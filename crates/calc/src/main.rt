@@ -5,7 +5,7 @@
 use calc_app::run;
 use calc_base::{Status, StdIn, StdOut};
 use std::alloc::Global;
-use std::io::ErrorKind;
+use std::io::{BufWriter, ErrorKind, LineWriter};
 use std::process::ExitCode;
 use std::rt::Env;
 use std::{env, io};
@@ -16,16 +16,28 @@ const WORDS_REFUSED: u8 = 8;
 
 fn main(rt: HostRuntime) -> ExitCode {
     match words_of(&rt) {
-        Ok(words) => {
-            let mut source = StdIn::new(rt.stdin());
-            let mut sink = StdOut::new(rt.stdout());
-            ExitCode::from(run(rt.alloc(), &words, &mut source, &mut sink).code())
-        }
+        Ok(words) => ExitCode::from(status_of(&rt, &words).code()),
         Err(error) if error.kind() == ErrorKind::OutOfMemory => {
             ExitCode::from(Status::NoMemory.code())
         }
         Err(_) => ExitCode::from(WORDS_REFUSED),
     }
+}
+
+/// Runs the words. The text is written in large pieces, but for a batch, of which each line is written when it is whole: who
+/// sends a line and waits for its block gets it.
+fn status_of(rt: &HostRuntime, words: &[String]) -> Status {
+    let mut source = StdIn::new(rt.stdin());
+    if words.len() == 1 && words[0].as_str() == "batch" {
+        let Ok(writer) = LineWriter::new(rt.alloc(), rt.stdout()) else {
+            return Status::NoMemory;
+        };
+        return run(rt.alloc(), words, &mut source, &mut StdOut::new(writer));
+    }
+    let Ok(writer) = BufWriter::new(rt.alloc(), rt.stdout()) else {
+        return Status::NoMemory;
+    };
+    run(rt.alloc(), words, &mut source, &mut StdOut::new(writer))
 }
 
 /// The words after the program's name.

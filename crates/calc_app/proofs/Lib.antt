@@ -5,3 +5,8 @@ pub mod Outcomes
 pub mod Expansions
 pub mod FewInversions
 pub mod Listings
+pub mod PositiveLetters
+pub mod LinesRead
+pub mod Batches
+pub mod Ends
+pub mod WorkSums

@@ -1,12 +1,13 @@
 -- What is put for what was computed is what is defined for the words.
-use Rattle.std.proofs.Common.{◌≡◌, ◌≢◌, ℕ, List, ◌++◌, Bool, true, Option, Some, refl, sym, ◌∙◌, ap, subst, inl, inr}
-use Rattle.std.specs.Prelude.{codes, Ok, Err}
+use Rattle.std.proofs.Common.{◌≡◌, ℕ, List, ◌++◌, Bool, true, Option, Some, refl, sym, ◌∙◌, ap, subst, inl, inr}
+use Rattle.std.specs.Prelude.{codes, None, Ok, []}
 use Rattle.calc_base.specs.declared.status.Status.{Status}
 use Rattle.calc_base.specs.declared.status.Status.TheVariants as status
 use Rattle.calc_base.specs.declared.words.WordsFault.{WordsFault}
 use Rattle.calc_base.specs.declared.words.WordsFault.TheVariants as fault
-use Rattle.calc_base.specs.Sink.{Appends, AppendsPrefix}
-use Rattle.calc_language.specs.Reading.{IsRead, IsFaultOf}
+use Rattle.calc_base.specs.Sink.{Appends, AppendsPrefix, grown}
+use Rattle.calc_language.specs.BuiltCommands.{command_entries, batch_entries}
+use Rattle.calc_language.specs.Reading.{IsFaultOf}
 use Rattle.expansion_printer.specs.declared.answer.Answer.{Answer}
 use Rattle.expansion_printer.specs.Answers.{plain_answer}
 use Rattle.expansion_printer.specs.Refusal.{refusal_text}
@@ -19,13 +20,16 @@ use Rattle.sym_model.specs.Ending.{Ending, done, some_refused, syntax, range, pa
 use Rattle.sym_model.specs.ExpressionOffence as offences
 use Rattle.sym_model.specs.Headline.{ReadsBack}
 use Rattle.sym_model.specs.Kind.{label_rules}
-use Rattle.sym_model.specs.Outcome.{Answers, MustBeLarge, MayBeLarge, ending_of}
+use Rattle.sym_model.specs.BatchLine.{lines_of}
+use Rattle.sym_model.specs.BatchOutcome.{AnswersWith}
+use Rattle.sym_model.specs.Entry.{Entry}
+use Rattle.sym_model.specs.Outcome.{Answers, Expands, IsLineOutcome, MustBeLarge, MayBeLarge, ending_of}
 use Rattle.sym_model.specs.RefusalText.{refusal_line, offence_line, large_line}
 use Rattle.sym_model.specs.Target.{Meets}
 use Rattle.calc_app.specs.declared.outcome.Outcome.{Outcome}
-use Rattle.calc_app.specs.declared.outcome.Outcome.TheVariants.{Answered, Refused, Large, Listed}
-use Rattle.calc_app.specs.Computed.{Computes, Accepts, Refuses, GoesWrong, Lists, listing_text, text_of, HasBlock, refusal_status, status_for}
-use Rattle.calc_app.specs.Top.{IsOutcome, Says, status_of, PutsPrefix, Leaves, PrintsAnswerTo, WasCutOff, IsAccepted, IsRefused}
+use Rattle.calc_app.specs.declared.outcome.Outcome.TheVariants.{Answered, Refused, Large, Told}
+use Rattle.calc_app.specs.Computed.{Computes, AreRefused, Accepts, Refuses, GoesWrong, Tells, lines_text, text_of, HasBlock, refusal_status, status_for}
+use Rattle.calc_app.specs.Top.{IsOutcome, IsInput, IsFrontOf, RunsLines, Says, status_of, PutsPrefix, Leaves, PrintsAnswerTo, WasCutOff, IsAccepted, IsRefused}
 
 -- ---- what comes of a command
 
@@ -79,46 +83,58 @@ answers_large batch (inr h) = absurd h.1
 answers_large (work lines seed) (inl h) = absurd h.1
 answers_large (work lines seed) (inr h) = absurd h.1
 
-lists_answer : (command : Command) (text : List ℕ) → Lists command text → Answers command text done
-lists_answer command text lists =
-    let P : Command → Type 0 = λ c. Answers c text done in
-    subst P (sym lists.is) (lists.lines, refl)
+tells_answer : (command : Command) (text : List ℕ) → Tells command text → Answers command text done
+tells_answer (tab outer inner last) text tells = (tells, refl)
+tells_answer (rsk w) text tells = (tells, refl)
+tells_answer (unrsk p q) text tells = (tells, refl)
+tells_answer (rect outer inner rows) text tells = (tells, refl)
+tells_answer (mult variables left right) text tells = absurd tells
+tells_answer (skew variables outer inner) text tells = absurd tells
+tells_answer (coef outer left right) text tells = absurd tells
+tells_answer (coprod shape) text tells = absurd tells
+tells_answer (quantum k columns left right) text tells = absurd tells
+tells_answer (fusion k level left right) text tells = absurd tells
+tells_answer (schubert w) text tells = absurd tells
+tells_answer (schubmult u v) text tells = absurd tells
+tells_answer (expand target e) text tells = absurd tells
+tells_answer batch text tells = absurd tells
+tells_answer (work lines seed) text tells = absurd tells
 
 -- ---- what comes of the words
 
--- an outcome of the words with a text, and the status that goes with it
-pub record HasOutcome (words : List (List ℕ)) (text : List ℕ) (answer : Status) : Type 0 where
+-- an outcome of the words by the commands of the list, with a text, and the status that goes with it
+pub record HasOutcome (entries : List Entry) (words : List (List ℕ)) (text : List ℕ) (answer : Status) : Type 0 where
   pub ending : Ending
-  pub outcome : IsOutcome words text ending
+  pub outcome : IsLineOutcome entries words text ending
   pub same : answer ≡ status_of ending
 
-offending : (words : List (List ℕ)) (reason : WordsFault) → IsRead words (Err reason) → reason ≢ fault.NoMemory
-    → HasOutcome words (refusal_text reason) (refusal_status reason)
-offending words (fault.Syntax at) read memory = record {
+offending : (entries : List Entry) (words : List (List ℕ)) (reason : WordsFault) → AreRefused entries words reason
+    → HasOutcome entries words (refusal_text reason) (refusal_status reason)
+offending entries words (fault.Syntax at) are = record {
   ending = syntax;
-  outcome = inl (record { word = at.word; byte = at.byte; place = read; line = refl }, refl);
+  outcome = inl (record { word = at.word; byte = at.byte; place = are.0; line = refl }, refl);
   same = refl;
 }
-offending words (fault.Literal at) read memory = record {
+offending entries words (fault.Literal at) are = record {
   ending = past;
-  outcome = inr (inl (record { offence = (at.word, at.byte, offences.literal); first = read; line = refl; ends = refl }));
+  outcome = inr (inl (record { offence = (at.word, at.byte, offences.literal); first = are.0; line = refl; ends = refl }));
   same = refl;
 }
-offending words (fault.Range at) read memory = record {
+offending entries words (fault.Range at) are = record {
   ending = range;
-  outcome = inr (inl (record { offence = (at.word, at.byte, offences.range); first = read; line = refl; ends = refl }));
+  outcome = inr (inl (record { offence = (at.word, at.byte, offences.range); first = are.0; line = refl; ends = refl }));
   same = refl;
 }
-offending words (fault.Shape at) read memory = record {
+offending entries words (fault.Shape at) are = record {
   ending = range;
-  outcome = inr (inl (record { offence = (at.word, at.byte, offences.shape); first = read; line = refl; ends = refl }));
+  outcome = inr (inl (record { offence = (at.word, at.byte, offences.shape); first = are.0; line = refl; ends = refl }));
   same = refl;
 }
-offending words fault.NoMemory read memory = absurd (memory refl)
+offending entries words fault.NoMemory are = absurd (are.1 refl)
 
-pub has_outcome : (words : List (List ℕ)) (outcome : Outcome) → Computes words (Ok outcome) → HasBlock outcome
-    → HasOutcome words (text_of outcome) (status_for outcome)
-has_outcome words (Answered answer) computes block = record {
+pub has_outcome : (entries : List Entry) (words : List (List ℕ)) (outcome : Outcome) → Computes entries words (Ok outcome)
+    → HasBlock outcome → HasOutcome entries words (text_of outcome) (status_for outcome)
+has_outcome entries words (Answered answer) computes block = record {
   ending = done;
   outcome = inr (inr (
     computes.command,
@@ -127,62 +143,111 @@ has_outcome words (Answered answer) computes block = record {
   ));
   same = refl;
 }
-has_outcome words (Refused reason) computes block = offending words reason computes.0 computes.1
-has_outcome words Large computes block = record {
+has_outcome entries words (Refused reason) computes block = offending entries words reason computes
+has_outcome entries words Large computes block = record {
   ending = past;
   outcome = inr (inr (computes.command, computes.spelled, answers_large computes.command computes.reply));
   same = refl;
 }
-has_outcome words (Listed list) computes block = record {
+has_outcome entries words (Told lines) computes block = record {
   ending = done;
-  outcome = inr (inr (computes.command, computes.spelled, lists_answer computes.command (listing_text list) computes.reply));
+  outcome = inr (inr (computes.command, computes.spelled, tells_answer computes.command (lines_text lines) computes.reply));
   same = refl;
 }
 
+-- what comes of a command that runs no other ones comes of it over every input
+answers_alone : (input : List ℕ) (command : Command) (text : List ℕ) (ending : Ending) → Answers command text ending
+    → AnswersWith batch_entries input command text ending
+answers_alone input (mult variables left right) text ending answers = answers
+answers_alone input (skew variables outer inner) text ending answers = answers
+answers_alone input (coef outer left right) text ending answers = answers
+answers_alone input (coprod shape) text ending answers = answers
+answers_alone input (quantum k columns left right) text ending answers = answers
+answers_alone input (fusion k level left right) text ending answers = answers
+answers_alone input (schubert w) text ending answers = answers
+answers_alone input (schubmult u v) text ending answers = answers
+answers_alone input (expand target e) text ending answers = answers
+answers_alone input (tab outer inner last) text ending answers = answers
+answers_alone input (rsk w) text ending answers = answers
+answers_alone input (unrsk p q) text ending answers = answers
+answers_alone input (rect outer inner rows) text ending answers = answers
+answers_alone input batch text ending answers = absurd answers
+answers_alone input (work lines seed) text ending answers = absurd answers
+
+alone : (words : List (List ℕ)) (input text : List ℕ) (ending : Ending) → IsLineOutcome command_entries words text ending
+    → IsOutcome words input text ending
+alone words input text ending (inl wrong) = inl wrong
+alone words input text ending (inr (inl offends)) = inr (inl offends)
+alone words input text ending (inr (inr comes)) = inr (inr (comes.0, comes.1, answers_alone input comes.0 text ending comes.2))
+
 -- ---- what a command leaves in the sink
 
-no_some_refused : (words : List (List ℕ)) (outcome : Outcome) → status_for outcome ≡ status.SomeRefused → ⊥
-no_some_refused words (Answered answer) is = cc
-no_some_refused words (Refused (fault.Syntax at)) is = cc
-no_some_refused words (Refused (fault.Literal at)) is = cc
-no_some_refused words (Refused (fault.Range at)) is = cc
-no_some_refused words (Refused (fault.Shape at)) is = cc
-no_some_refused words (Refused fault.NoMemory) is = cc
-no_some_refused words Large is = cc
-no_some_refused words (Listed list) is = cc
+no_some_refused : (outcome : Outcome) → status_for outcome ≡ status.SomeRefused → ⊥
+no_some_refused (Answered answer) is = cc
+no_some_refused (Refused (fault.Syntax at)) is = cc
+no_some_refused (Refused (fault.Literal at)) is = cc
+no_some_refused (Refused (fault.Range at)) is = cc
+no_some_refused (Refused (fault.Shape at)) is = cc
+no_some_refused (Refused fault.NoMemory) is = cc
+no_some_refused Large is = cc
+no_some_refused (Told lines) is = cc
 
 -- where the text was put whole
-leaves_ending : {S : Type 0} (written : S → Option (List ℕ)) (count : S → Option ℕ) (settled : S → Bool) (old new : S)
-    (words : List (List ℕ)) (text : List ℕ) (ending : Ending) → IsOutcome words text ending
-    → (status_of ending ≡ status.SomeRefused → ⊥) → Appends written count old new text → settled new ≡ true
-    → Leaves written count settled old new words (status_of ending)
-leaves_ending written count settled old new words text done outcome never appended is_settled =
-    record { text = text; outcome = outcome; appended = appended; is_settled = is_settled }
-leaves_ending written count settled old new words text some_refused outcome never appended is_settled = absurd (never refl)
-leaves_ending written count settled old new words text syntax outcome never appended is_settled =
-    record { text = text; outcome = outcome; appended = appended; is_settled = is_settled }
-leaves_ending written count settled old new words text range outcome never appended is_settled =
-    record { text = text; outcome = outcome; appended = appended; is_settled = is_settled }
-leaves_ending written count settled old new words text past outcome never appended is_settled =
-    record { text = text; outcome = outcome; appended = appended; is_settled = is_settled }
+pub leaves_ending : {S : Type 0} (written : S → Option (List ℕ)) (count : S → Option ℕ) (settled : S → Bool) (old new : S)
+    (left now_left : Option (List ℕ)) (Runs : Type 0) (Defined : List ℕ → List ℕ → Ending → Type 0) (input text : List ℕ) (ending : Ending)
+    → IsInput left input → Defined input text ending → (status_of ending ≡ status.SomeRefused → Runs)
+    → Appends written count old new text → settled new ≡ true
+    → Leaves written count settled old new left now_left Runs Defined (status_of ending)
+leaves_ending written count settled old new left now_left Runs Defined input text done is_input outcome runs appended is_settled =
+    record { input = input; is_input = is_input; text = text; outcome = outcome; appended = appended; is_settled = is_settled }
+leaves_ending written count settled old new left now_left Runs Defined input text some_refused is_input outcome runs appended is_settled = (
+  runs refl,
+  record { input = input; is_input = is_input; text = text; outcome = outcome; appended = appended; is_settled = is_settled },
+)
+leaves_ending written count settled old new left now_left Runs Defined input text syntax is_input outcome runs appended is_settled =
+    record { input = input; is_input = is_input; text = text; outcome = outcome; appended = appended; is_settled = is_settled }
+leaves_ending written count settled old new left now_left Runs Defined input text range is_input outcome runs appended is_settled =
+    record { input = input; is_input = is_input; text = text; outcome = outcome; appended = appended; is_settled = is_settled }
+leaves_ending written count settled old new left now_left Runs Defined input text past is_input outcome runs appended is_settled =
+    record { input = input; is_input = is_input; text = text; outcome = outcome; appended = appended; is_settled = is_settled }
+
+-- all that is left, where it is told
+pub told_input : (left : Option (List ℕ)) → (input : List ℕ) × IsInput left input
+told_input None = ([], tt)
+told_input (Some bytes) = (bytes, refl)
+
+-- no line is a front of each input
+pub no_front : (left : Option (List ℕ)) → IsFrontOf left []
+no_front None = tt
+no_front (Some bytes) = (lines_of bytes, refl)
 
 pub leaves_whole : {S : Type 0} (written : S → Option (List ℕ)) (count : S → Option ℕ) (settled : S → Bool) (old new : S)
-    (words : List (List ℕ)) (outcome : Outcome) (answer : Status) → Computes words (Ok outcome) → HasBlock outcome
+    (left now_left : Option (List ℕ)) (words : List (List ℕ)) (outcome : Outcome) (answer : Status)
+    → Computes command_entries words (Ok outcome) → HasBlock outcome
     → answer ≡ status_for outcome → Appends written count old new (text_of outcome) → settled new ≡ true
-    → Leaves written count settled old new words answer
-leaves_whole written count settled old new words outcome answer computes block is appended is_settled =
-    let has = has_outcome words outcome computes block in
-    let P : Status → Type 0 = λ s. Leaves written count settled old new words s in
+    → Leaves written count settled old new left now_left (RunsLines words) (IsOutcome words) answer
+leaves_whole written count settled old new left now_left words outcome answer computes block is appended is_settled =
+    let has = has_outcome command_entries words outcome computes block in
+    let told = told_input left in
+    let P : Status → Type 0 = λ s. Leaves written count settled old new left now_left (RunsLines words) (IsOutcome words) s in
     subst P (sym (is ∙ has.same))
-    (leaves_ending written count settled old new words (text_of outcome) has.ending has.outcome
-    (λ e. no_some_refused words outcome (has.same ∙ e)) appended is_settled)
+    (leaves_ending written count settled old new left now_left (RunsLines words) (IsOutcome words) told.0 (text_of outcome) has.ending
+    told.1 (alone words told.0 (text_of outcome) has.ending has.outcome)
+    (λ e. absurd (no_some_refused outcome (has.same ∙ e))) appended is_settled)
 
 pub leaves_prefix : {S : Type 0} (written : S → Option (List ℕ)) (count : S → Option ℕ) (old new : S)
-    (words : List (List ℕ)) (outcome : Outcome) → Computes words (Ok outcome) → HasBlock outcome
-    → AppendsPrefix written count old new (text_of outcome) → PutsPrefix written count old new words
-leaves_prefix written count old new words outcome computes block appended =
-    let has = has_outcome words outcome computes block in
-    record { text = text_of outcome; ending = has.ending; outcome = has.outcome; appended = appended }
+    (left : Option (List ℕ)) (words : List (List ℕ)) (outcome : Outcome) → Computes command_entries words (Ok outcome) → HasBlock outcome
+    → AppendsPrefix written count old new (text_of outcome) → PutsPrefix written count old new left (IsOutcome words)
+leaves_prefix written count old new left words outcome computes block appended =
+    let has = has_outcome command_entries words outcome computes block in
+    record {
+      front = [];
+      is_front = no_front left;
+      text = text_of outcome;
+      ending = has.ending;
+      outcome = alone words [] (text_of outcome) has.ending has.outcome;
+      appended = appended;
+    }
 
 -- ---- the headline
 
@@ -196,54 +261,73 @@ says_block command (listed kind terms) meets printable = record {
   meets = meets;
 }
 
-says_answer : (command : Command) (block : PlainAnswer) → Meets command block → IsPrintable block → Says command (answer_text block)
-says_answer (mult variables left right) block meets printable = says_block (mult variables left right) block meets printable
-says_answer (skew variables outer inner) block meets printable = says_block (skew variables outer inner) block meets printable
-says_answer (coef outer left right) block meets printable = says_block (coef outer left right) block meets printable
-says_answer (coprod shape) block meets printable = says_block (coprod shape) block meets printable
-says_answer (quantum k columns left right) block meets printable = says_block (quantum k columns left right) block meets printable
-says_answer (fusion k level left right) block meets printable = says_block (fusion k level left right) block meets printable
-says_answer (schubert w) block meets printable = says_block (schubert w) block meets printable
-says_answer (schubmult u v) block meets printable = says_block (schubmult u v) block meets printable
-says_answer (expand target e) block meets printable = says_block (expand target e) block meets printable
-says_answer (tab outer inner last) block meets printable = absurd meets
-says_answer (rsk w) block meets printable = absurd meets
-says_answer (unrsk p q) block meets printable = absurd meets
-says_answer (rect outer inner rows) block meets printable = absurd meets
-says_answer batch block meets printable = absurd meets
-says_answer (work lines seed) block meets printable = absurd meets
+expands_say : (command : Command) (text : List ℕ) → Expands command text done → ReadsBack command text
+expands_say command text (inl expands) =
+    let prints = expands.1 in
+    subst (ReadsBack command) (sym prints.printed) (says_block command prints.answer prints.meets prints.printable)
+expands_say command text (inr refused) = let clash : done ≡ past = refused.2 in cc
 
-says_list : (command : Command) (text : List ℕ) → Lists command text → Says command text
-says_list command text lists =
-    let P : Command → Type 0 = λ c. Says c text in
-    subst P (sym lists.is) (lists.lines, refl)
+-- the text of a command that was answered says what the command names
+pub answers_say : (command : Command) (text : List ℕ) → Answers command text done → Says command text
+answers_say (mult variables left right) text answers = expands_say (mult variables left right) text answers
+answers_say (skew variables outer inner) text answers = expands_say (skew variables outer inner) text answers
+answers_say (coef outer left right) text answers = expands_say (coef outer left right) text answers
+answers_say (coprod shape) text answers = expands_say (coprod shape) text answers
+answers_say (quantum k columns left right) text answers = expands_say (quantum k columns left right) text answers
+answers_say (fusion k level left right) text answers = expands_say (fusion k level left right) text answers
+answers_say (schubert w) text answers = expands_say (schubert w) text answers
+answers_say (schubmult u v) text answers = expands_say (schubmult u v) text answers
+answers_say (expand target e) text answers = expands_say (expand target e) text answers
+answers_say (tab outer inner last) text answers = answers
+answers_say (rsk w) text answers = answers
+answers_say (unrsk p q) text answers = answers
+answers_say (rect outer inner rows) text answers = answers
+answers_say batch text answers = absurd answers
+answers_say (work lines seed) text answers = absurd answers
 
-no_block : (reason : WordsFault) → refusal_status reason ≡ status.Done → ⊥
-no_block (fault.Syntax at) is = cc
-no_block (fault.Literal at) is = cc
-no_block (fault.Range at) is = cc
-no_block (fault.Shape at) is = cc
-no_block fault.NoMemory is = cc
+answers_with_say : (input : List ℕ) (command : Command) (text : List ℕ) → AnswersWith batch_entries input command text done
+    → Says command text
+answers_with_say input (mult variables left right) text answers = answers_say (mult variables left right) text answers
+answers_with_say input (skew variables outer inner) text answers = answers_say (skew variables outer inner) text answers
+answers_with_say input (coef outer left right) text answers = answers_say (coef outer left right) text answers
+answers_with_say input (coprod shape) text answers = answers_say (coprod shape) text answers
+answers_with_say input (quantum k columns left right) text answers = answers_say (quantum k columns left right) text answers
+answers_with_say input (fusion k level left right) text answers = answers_say (fusion k level left right) text answers
+answers_with_say input (schubert w) text answers = answers_say (schubert w) text answers
+answers_with_say input (schubmult u v) text answers = answers_say (schubmult u v) text answers
+answers_with_say input (expand target e) text answers = answers_say (expand target e) text answers
+answers_with_say input (tab outer inner last) text answers = answers
+answers_with_say input (rsk w) text answers = answers
+answers_with_say input (unrsk p q) text answers = answers
+answers_with_say input (rect outer inner rows) text answers = answers
+answers_with_say input batch text answers = (input, answers)
+answers_with_say input (work lines seed) text answers = answers.0
 
-pub prints_answer : (words : List (List ℕ)) (outcome : Outcome) → Computes words (Ok outcome) → HasBlock outcome
-    → status_for outcome ≡ status.Done → (before : List ℕ) (now : Option (List ℕ)) → now ≡ Some (before ++ text_of outcome)
-    → PrintsAnswerTo words before now
-prints_answer words (Answered answer) computes block ended before now appended = record {
-  text = answer_text (plain_answer answer);
-  appended = appended;
-  command = computes.command;
-  spelled = computes.spelled;
-  says = says_answer computes.command (plain_answer answer) computes.reply.1 block;
-}
-prints_answer words (Refused reason) computes block ended before now appended = absurd (no_block reason ended)
-prints_answer words Large computes block ended before now appended = cc
-prints_answer words (Listed list) computes block ended before now appended = record {
-  text = listing_text list;
-  appended = appended;
-  command = computes.command;
-  spelled = computes.spelled;
-  says = says_list computes.command (listing_text list) computes.reply;
-}
+pub not_done : (kind : offences.OffenceKind) → done ≡ ending_of kind → ⊥
+not_done offences.literal is = cc
+not_done offences.range is = cc
+not_done offences.shape is = cc
+
+-- a text that was put whole with the status Done says what the command of the words names
+pub headline : {S : Type 0} (written : S → Option (List ℕ)) (count : S → Option ℕ) (settled : S → Bool) (old new : S)
+    (left now_left : Option (List ℕ)) (words : List (List ℕ)) (answer : Status)
+    → Leaves written count settled old new left now_left (RunsLines words) (IsOutcome words) answer
+    → answer ≡ status.Done → (before : List ℕ) → written old ≡ Some before → PrintsAnswerTo words before (written new)
+headline {S = S} written count settled old new left now_left words answer leaves ended before told =
+    let P : Status → Type 0 = λ s. Leaves written count settled old new left now_left (RunsLines words) (IsOutcome words) s in
+    let whole = subst P ended leaves in
+    by whole.text whole.input (whole.appended.bytes ∙ ap (λ t. grown t whole.text) told) whole.outcome
+  where
+    by : (text input : List ℕ) → written new ≡ Some (before ++ text) → IsOutcome words input text done → PrintsAnswerTo words before (written new)
+    by text input appended (inl wrong) = let clash : done ≡ syntax = wrong.1 in cc
+    by text input appended (inr (inl offends)) = absurd (not_done offends.offence.2 offends.ends)
+    by text input appended (inr (inr comes)) = record {
+      text = text;
+      appended = appended;
+      command = comes.0;
+      spelled = comes.1;
+      says = answers_with_say input comes.0 text comes.2;
+    }
 
 -- ---- each refusal by its own line
 
@@ -251,7 +335,7 @@ pub accepted : (command : Command) (outcome : Outcome) → Accepts command (Ok o
 accepted command (Answered answer) accepts = inl refl
 accepted command (Refused reason) accepts = absurd accepts
 accepted command Large accepts = inr (inl (refl, accepts))
-accepted command (Listed list) accepts = inl refl
+accepted command (Told lines) accepts = inl refl
 
 -- the line and the status of a refusal that names the offence
 names : (offence : Offence) (reason : WordsFault) → IsFaultOf offence reason
@@ -274,7 +358,7 @@ refuses_offence written count old new offence (Refused reason) refuses appended 
     let P : List ℕ → Type 0 = λ t. Appends written count old new t in
     record { ends = inl both.0; puts = λ ended. subst P both.1 appended }
 refuses_offence written count old new offence Large refuses appended = absurd refuses
-refuses_offence written count old new offence (Listed list) refuses appended = absurd refuses
+refuses_offence written count old new offence (Told lines) refuses appended = absurd refuses
 
 pub refuses_place : {S : Type 0} (written : S → Option (List ℕ)) (count : S → Option ℕ) (old new : S) (word byte : ℕ)
     (outcome : Outcome) → GoesWrong word byte (Ok outcome) → Appends written count old new (text_of outcome)
@@ -284,7 +368,7 @@ refuses_place written count old new word byte (Refused reason) wrong appended =
     let P : List ℕ → Type 0 = λ t. Appends written count old new t in
     record { ends = inl (ap refusal_status wrong); puts = λ ended. subst P (ap refusal_text wrong) appended }
 refuses_place written count old new word byte Large wrong appended = absurd wrong
-refuses_place written count old new word byte (Listed list) wrong appended = absurd wrong
+refuses_place written count old new word byte (Told lines) wrong appended = absurd wrong
 
 -- where memory was refused, or the sink failed, no line is owed
 no_ending : (ending : Ending) (answer : Status) → WasCutOff answer → answer ≡ status_of ending → ⊥

@@ -1,3 +1,5 @@
 -- The definitions that the contracts cite.
 pub mod Computed
 pub mod Top
+pub mod Batch
+pub mod Work

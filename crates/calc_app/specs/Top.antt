@@ -1,18 +1,36 @@
 -- What the top call promises, by cases on the status that it answers (this project's own).
-use Rattle.std.specs.Prelude.{◌≡◌, ◌⊎◌, ℕ, List, ◌++◌, Bool, true, Option, Some}
+use Rattle.std.specs.Prelude.{◌≡◌, ◌⊎◌, ℕ, List, ◌∷◌, ◌++◌, Bool, true, map, Option, Some, IfSome}
 use Rattle.calc_base.specs.declared.status.Status.{Status}
 use Rattle.calc_base.specs.declared.status.Status.TheVariants.{Done, SomeRefused, Syntax, Range, Past, SinkFault, SourceFault, NoMemory}
 use Rattle.calc_base.specs.Sink.{Appends, AppendsPrefix}
-use Rattle.sym_model.specs.Command.{Command, tab}
+use Rattle.batch_lines.specs.Feeds.{HasNoFeed}
+use Rattle.batch_lines.specs.Reading.{Took}
+use Rattle.sym_model.specs.BatchLine.{BatchLine, too_long, passed_over, spoken, batch_line, lines_of}
+use Rattle.sym_model.specs.BatchOutcome.{Block, AreBlocks, batch_text, RunsInput, RunsWorkload, IsOutcomeOf}
+use Rattle.sym_model.specs.Command.{Command, tab, rsk, unrsk, rect, batch, work}
 use Rattle.sym_model.specs.Ending.{Ending, done, some_refused, syntax, range, past}
 use Rattle.sym_model.specs.Entry.{SpellsWithoutOffence}
-use Rattle.calc_language.specs.BuiltCommands.{command_entries}
+use Rattle.calc_language.specs.BuiltCommands.{command_entries, batch_entries}
 use Rattle.sym_model.specs.Headline.{ReadsBack}
-use Rattle.sym_model.specs.Outcome.{Answers, MayBeLarge, IsLineOutcome}
+use Rattle.sym_model.specs.Outcome.{Answers, MayBeLarge}
 
--- the text is defined for the words, with this ending
-abbrev pub IsOutcome : List (List ℕ) → List ℕ → Ending → Type 0
-IsOutcome words text ending = IsLineOutcome command_entries words text ending
+-- ---- which text is defined
+
+-- the text is defined for the words over an input, with this ending
+abbrev pub IsOutcome : List (List ℕ) → List ℕ → List ℕ → Ending → Type 0
+IsOutcome words input text ending = IsOutcomeOf command_entries batch_entries words input text ending
+
+-- the words are those of the command that runs the lines of its input
+abbrev pub RunsLines : List (List ℕ) → Type 0
+RunsLines words = SpellsWithoutOffence command_entries words batch
+
+-- the input is all that the source has left, where it tells that
+abbrev pub IsInput : Option (List ℕ) → List ℕ → Type 0
+IsInput left input = IfSome left (λ bytes. bytes ≡ input)
+
+-- the lines of the front are the first ones of all that the source has left, where it tells that
+abbrev pub IsFrontOf : Option (List ℕ) → List ℕ → Type 0
+IsFrontOf left front = IfSome left (λ bytes. (more : List (List ℕ)) × (lines_of bytes ≡ lines_of front ++ more))
 
 -- the status that says how a command ended
 abbrev pub status_of : Ending → Status
@@ -22,39 +40,82 @@ status_of syntax = Syntax
 status_of range = Range
 status_of past = Past
 
--- a text that is defined for the words, with this ending, was appended whole, and the sink is settled
+-- ---- what is left in the sink, where `Defined input text ending` says which texts are defined over an input
+
+-- a text that is defined over the whole input, with this ending, was appended whole, and the sink is settled
 pub record PutsWhole {S : Type 0} (written : S → Option (List ℕ)) (count : S → Option ℕ) (settled : S → Bool)
-    (old new : S) (words : List (List ℕ)) (ending : Ending) : Type 0 where
+    (old new : S) (left : Option (List ℕ)) (Defined : List ℕ → List ℕ → Ending → Type 0) (ending : Ending) : Type 0 where
+  pub input : List ℕ
+  pub is_input : IsInput left input
   pub text : List ℕ
-  pub outcome : IsOutcome words text ending
+  pub outcome : Defined input text ending
   pub appended : Appends written count old new text
   pub is_settled : settled new ≡ true
 
--- a prefix of a text that is defined for the words was appended
+-- a prefix of a text that is defined over the first lines of the input was appended
 pub record PutsPrefix {S : Type 0} (written : S → Option (List ℕ)) (count : S → Option ℕ)
-    (old new : S) (words : List (List ℕ)) : Type 0 where
+    (old new : S) (left : Option (List ℕ)) (Defined : List ℕ → List ℕ → Ending → Type 0) : Type 0 where
+  pub front : List ℕ
+  pub is_front : IsFrontOf left front
   pub text : List ℕ
   pub ending : Ending
-  pub outcome : IsOutcome words text ending
+  pub outcome : Defined front text ending
   pub appended : AppendsPrefix written count old new text
 
--- What a command leaves in the sink, by its status: the whole text, settled; after a fault of the sink a prefix; without
--- memory nothing. The other statuses never come.
-abbrev pub Leaves : {S : Type 0} → (S → Option (List ℕ)) → (S → Option ℕ) → (S → Bool)
-    → (old new : S) → List (List ℕ) → Status → Type 0
-Leaves written count settled old new words Done = PutsWhole written count settled old new words done
-Leaves written count settled old new words SomeRefused = ⊥
-Leaves written count settled old new words Syntax = PutsWhole written count settled old new words syntax
-Leaves written count settled old new words Range = PutsWhole written count settled old new words range
-Leaves written count settled old new words Past = PutsWhole written count settled old new words past
-Leaves written count settled old new words SinkFault = PutsPrefix written count old new words
-Leaves written count settled old new words SourceFault = ⊥
-Leaves written count settled old new words NoMemory = new ≡ old
+-- a text that is defined over the first lines of the input was appended whole
+pub record PutsFront {S : Type 0} (written : S → Option (List ℕ)) (count : S → Option ℕ)
+    (old new : S) (left : Option (List ℕ)) (Defined : List ℕ → List ℕ → Ending → Type 0) : Type 0 where
+  pub front : List ℕ
+  pub is_front : IsFrontOf left front
+  pub text : List ℕ
+  pub ending : Ending
+  pub outcome : Defined front text ending
+  pub appended : Appends written count old new text
 
--- what the text of a command says: of `tab` it is the lines of the lattice tableaux, in their order; of the other commands it
--- reads back as a canonical list of terms, which is what the command names
+-- The text of the lines that were wholly read was appended whole, and the sink is settled. Behind those lines no line ends in
+-- what was read.
+pub record PutsRead {S : Type 0} (written : S → Option (List ℕ)) (count : S → Option ℕ) (settled : S → Bool)
+    (old new : S) (left now_left : Option (List ℕ)) (Defined : List ℕ → List ℕ → Ending → Type 0) : Type 0 where
+  pub front : List ℕ
+  pub piece : List ℕ
+  pub took : Took left now_left (front ++ piece)
+  pub no_feed : HasNoFeed piece
+  pub is_front : IsFrontOf left front
+  pub text : List ℕ
+  pub ending : Ending
+  pub outcome : Defined front text ending
+  pub appended : Appends written count old new text
+  pub is_settled : settled new ≡ true
+
+-- What a command leaves in the sink, by its status: the whole text, settled; after a fault of the sink a prefix of the text of
+-- the first lines; after a fault of the source the text of the lines wholly read, settled; without memory nothing, or, where
+-- lines are run, the text of the first ones. `Runs` says that lines are run: without that two of the statuses never come.
+abbrev pub Leaves : {S : Type 0} → (S → Option (List ℕ)) → (S → Option ℕ) → (S → Bool) → (old new : S)
+    → (left now_left : Option (List ℕ)) → Type 0 → (List ℕ → List ℕ → Ending → Type 0) → Status → Type 0
+Leaves written count settled old new left now_left Runs Defined Done = PutsWhole written count settled old new left Defined done
+Leaves written count settled old new left now_left Runs Defined SomeRefused =
+    Runs × PutsWhole written count settled old new left Defined some_refused
+Leaves written count settled old new left now_left Runs Defined Syntax = PutsWhole written count settled old new left Defined syntax
+Leaves written count settled old new left now_left Runs Defined Range = PutsWhole written count settled old new left Defined range
+Leaves written count settled old new left now_left Runs Defined Past = PutsWhole written count settled old new left Defined past
+Leaves written count settled old new left now_left Runs Defined SinkFault = PutsPrefix written count old new left Defined
+Leaves written count settled old new left now_left Runs Defined SourceFault =
+    Runs × PutsRead written count settled old new left now_left Defined
+Leaves written count settled old new left now_left Runs Defined NoMemory =
+    (new ≡ old) ⊎ (Runs × PutsFront written count old new left Defined)
+
+-- ---- the headline
+
+-- what the text of a command says: of `tab`, `rsk`, `unrsk` and `rect` it is what is defined for them, of `batch` the blocks of
+-- some lines, of `work` the sums over the blocks of its lines; of the other commands it reads back as a canonical list of
+-- terms, which is what the command names
 abbrev pub Says : Command → List ℕ → Type 0
 Says (tab outer inner last) text = Answers (tab outer inner last) text done
+Says (rsk w) text = Answers (rsk w) text done
+Says (unrsk p q) text = Answers (unrsk p q) text done
+Says (rect outer inner rows) text = Answers (rect outer inner rows) text done
+Says batch text = (input : List ℕ) × RunsInput batch_entries input text done
+Says (work lines seed) text = RunsWorkload batch_entries lines seed text
 Says command text = ReadsBack command text
 
 -- The headline. A text was appended to the bytes that stood before. The words spell a command without an offence; the text,
@@ -67,14 +128,44 @@ pub record PrintsAnswerTo (words : List (List ℕ)) (before : List ℕ) (now : O
   pub spelled : SpellsWithoutOffence command_entries words command
   pub says : Says command text
 
+-- the words of a line spell a command of a line without an offence, and its block says what the command names
+pub record SaysLine (words : List (List ℕ)) (text : List ℕ) : Type 0 where
+  pub command : Command
+  pub spelled : SpellsWithoutOffence batch_entries words command
+  pub says : Says command text
+
+-- each line that was not refused has a block that says what its command names
+abbrev pub SayLines : List BatchLine → List Block → Type 0
+SayLines (spoken words ∷ lines) (b ∷ blocks) = (b.1 ≡ done → SaysLine words b.0) × SayLines lines blocks
+SayLines (too_long ∷ lines) (b ∷ blocks) = SayLines lines blocks
+SayLines (passed_over ∷ lines) blocks = SayLines lines blocks
+SayLines _ _ = Unit {0}
+
+-- The headline of a batch. The blocks of all lines were appended, in their order, to the bytes that stood before, and each
+-- block of a line that was not refused says what the line's command names.
+pub record PrintsLines (input before : List ℕ) (now : Option (List ℕ)) : Type 0 where
+  pub blocks : List Block
+  pub appended : now ≡ Some (before ++ batch_text blocks)
+  pub are_blocks : AreBlocks batch_entries (map batch_line (lines_of input)) blocks
+  pub say : SayLines (map batch_line (lines_of input)) blocks
+
+-- ---- what comes of words
+
 -- memory was refused or the sink failed
 abbrev pub WasCutOff : Status → Type 0
 WasCutOff status = (status ≡ NoMemory) ⊎ (status ≡ SinkFault)
 
+-- the input was read to its end
+abbrev pub IsThrough : Status → Type 0
+IsThrough status = (status ≡ Done) ⊎ (status ≡ SomeRefused)
+
 -- a command without an offence is answered, but for want of memory and faults of the sink; it is refused only where a
--- coefficient that is defined for it is past 2^127 - 1, or its weight is 2^127 or more
+-- coefficient that is defined for it is past 2^127 - 1, or its weight is 2^127 or more; in a batch lines can be refused, and its
+-- source can fail
 abbrev pub IsAccepted : Command → Status → Type 0
-IsAccepted command status = (status ≡ Done) ⊎ ((status ≡ Past) × MayBeLarge command) ⊎ WasCutOff status
+IsAccepted command status =
+    (status ≡ Done) ⊎ ((status ≡ Past) × MayBeLarge command) ⊎ WasCutOff status
+    ⊎ ((command ≡ batch) × ((status ≡ SomeRefused) ⊎ (status ≡ SourceFault)))
 
 -- words that are refused with this ending and line are refused so, but for want of memory and faults of the sink
 pub record IsRefused {S : Type 0} (written : S → Option (List ℕ)) (count : S → Option ℕ) (old new : S)

@@ -1,5 +1,5 @@
 //! The answer to `expand`.
-ghost use Rattle.std.specs.Prelude.{◌≡◌, ◌≢◌, ℕ, ◌*◌, ◌^◌, ◌≤◌, IfOk, IsErrOf};
+ghost use Rattle.std.specs.Prelude.{◌≡◌, ℕ, ◌*◌, ◌^◌, ◌≤◌, IfOk, IsErrOf};
 ghost use Rattle.sym_model.specs.Command.{expand};
 ghost use Rattle.sym_model.specs.Expansion.{IsExpansionOf};
 ghost use Rattle.sym_model.specs.Expression.{cleared_value, degree, denominator};
@@ -21,8 +21,7 @@ use std::alloc::Global;
 
 /// The expansion of a formula in the target basis.
 pub(crate) fn expanded(alloc: Global, target: Basis, formula: &Formula) -> Result<Outcome, NoMemory>
-    requires low { degree (tree_of formula.now.tree) ≤ degree_limit (basis_of target) }
-    requires built { target ≢ Basis.S }
+    requires { degree (tree_of formula.now.tree) ≤ degree_limit (basis_of target) }
     ensures { IsReplyTo (expand (basis_of target) (tree_of formula.now.tree)) result }
 {
     match expansion(alloc, target, formula) {
@@ -40,8 +39,7 @@ fn expansion(
     target: Basis,
     formula: &Formula,
 ) -> Result<Terms<Partition, Frac>, SumFault>
-    requires low { degree (tree_of formula.now.tree) ≤ degree_limit (basis_of target) }
-    requires built { target ≢ Basis.S }
+    requires { degree (tree_of formula.now.tree) ≤ degree_limit (basis_of target) }
     ensures expands { IfOk result (λ terms. (n : ℕ) → IsExpansionOf (basis_of target) terms n
         (cleared_value (tree_of formula.now.tree) n) (denominator (tree_of formula.now.tree))) }
     ensures large { IsErrOf result SumFault.Large → 2 ^ 127 ≤ weight (basis_of target) (tree_of formula.now.tree) }
@@ -64,8 +62,7 @@ fn in_target(
     target: Basis,
     formula: &Formula,
 ) -> Result<Lin<Partition, Frac>, SumFault>
-    requires low { degree (tree_of formula.now.tree) ≤ degree_limit (basis_of target) }
-    requires built { target ≢ Basis.S }
+    requires { degree (tree_of formula.now.tree) ≤ degree_limit (basis_of target) }
     ensures expands { IfOk result (λ list. (n : ℕ) → IsExpansionOf (basis_of target) list n
         (cleared_value (tree_of formula.now.tree) n) (denominator (tree_of formula.now.tree))) }
     ensures large { IsErrOf result SumFault.Large → 2 ^ 127 ≤ weight (basis_of target) (tree_of formula.now.tree) }

@@ -2,15 +2,22 @@
 //! puts its text, or the one line that says why there is none.
 #![tactic(auto)]
 
+mod batch;
+mod block;
 mod expanding;
+mod insertion;
 mod listing;
 mod outcome;
 mod permutations;
 mod products;
 mod reductions;
+mod tableau_answer;
 mod top;
+mod workload;
 
 pub use top::run;
+pub use work_lines::{LineBuf, work_line};
+pub use workload::work;
 
 #[cfg(test)]
 mod tests;

@@ -9,6 +9,7 @@ ghost use Rattle.calc_words.specs.WrittenLimits.{KeepsLimits};
 ghost use Rattle.calc_app.specs.Computed.{IsReplyTo, listing_text};
 
 use crate::outcome::Outcome;
+use crate::tableau_answer::{TableauAnswer, told};
 use calc_base::{Lister, NoMemory, Sink, put_if};
 use expansion_printer::print_reading;
 use partitions::Partition;
@@ -29,15 +30,15 @@ pub(crate) fn tab(alloc: Global, outer: &Partition, inner: &Partition) -> Result
     ensures { IsReplyTo (commands.tab outer.now inner.now None) result }
 {
     let Some(shape) = Skew::new(outer.copy()?, inner.copy()?) else {
-        return Ok(Outcome::Listed { list: None });
+        return Ok(told(TableauAnswer::Listed { list: None }));
     };
     // This tells the proof that the shape has no more cells than the outer one.
     shape.cells();
     let start = Partition::from_valid_parts(alloc, &[])?;
     let lattice = Lattice::new(alloc, &shape, &start, outer.rows())?;
-    Ok(Outcome::Listed {
+    Ok(told(TableauAnswer::Listed {
         list: Some(Listing { shape, lattice }),
-    })
+    }))
 }
 
 /// Puts what is listed: a line for each tableau, and the line `0` where there is none.

@@ -6,11 +6,11 @@ ghost use Rattle.sym_model.specs.Entry.{SpellsWithoutOffence, HasFirstOffence};
 ghost use Rattle.calc_language.specs.BuiltCommands.{command_entries};
 ghost use Rattle.sym_model.specs.SyntaxPlace.{IsSyntaxPlace};
 ghost use Rattle.calc_language.specs.Reading.{command_of, IsWithinItsLimits};
-ghost use Rattle.calc_app.specs.Computed.{Computes, IsReplyTo, Accepts, Refuses, GoesWrong};
+ghost use Rattle.calc_app.specs.Computed.{IsReplyTo, RunsNoOther, IsKind, IsTaskOf, IsTaskFor, AcceptsTask, RefusesTask, TaskGoesWrong};
 
 use crate::expanding::expanded;
-use crate::listing::Listing;
-use crate::{listing, permutations, products, reductions};
+use crate::tableau_answer::TableauAnswer;
+use crate::{insertion, listing, permutations, products, reductions};
 use calc_base::{NoMemory, WordsFault};
 use calc_language::{Command, read_words};
 use expansion_printer::Answer;
@@ -25,30 +25,84 @@ pub(crate) enum Outcome {
     Refused { fault: WordsFault },
     /// The answer is too large.
     Large,
-    /// The tableaux that are listed; none where the shape is no skew shape.
-    Listed { list: Option<Listing> },
+    /// What a command on tableaux answers.
+    Told { lines: TableauAnswer },
 }
 
-/// What comes of the words: the whole answer, or why there is none.
-pub(crate) fn outcome_of(alloc: Global, words: &[String]) -> Result<Outcome, NoMemory>
-    ensures computes { Computes (map string_bytes words.now) result }
+/// What is to be done for the words of a command.
+#[derive(Drop)]
+pub(crate) enum Task {
+    /// The lines of the input are to be run.
+    Lines,
+    /// So many lines of the generator are to be run.
+    Workload { lines: u16, seed: u32 },
+    /// What comes of the words is to be put.
+    Put { outcome: Outcome },
+}
+
+/// What is to be done for the words: the whole answer is there, or why there is none, or lines are to be run.
+pub(crate) fn task_of(alloc: Global, words: &[String]) -> Result<Task, NoMemory>
+    ensures computes { IsTaskFor (map string_bytes words.now) result }
     ensures accepts { (command : PlainCommand) → SpellsWithoutOffence command_entries (map string_bytes words.now) command
-        → Accepts command result }
+        → AcceptsTask command result }
     ensures refuses { (offence : Offence) → HasFirstOffence command_entries (map string_bytes words.now) (Some offence)
-        → Refuses offence result }
+        → RefusesTask offence result }
     ensures goes_wrong { (word byte : ℕ) → IsSyntaxPlace command_entries (map string_bytes words.now) word byte
-        → GoesWrong word byte result }
+        → TaskGoesWrong word byte result }
 {
     match read_words(alloc, words) {
-        Ok(command) => reply_to(alloc, &command),
+        Ok(command) => task_for(alloc, &command),
         Err(WordsFault::NoMemory) => Err(NoMemory),
-        Err(fault) => Ok(Outcome::Refused { fault }),
+        Err(fault) => Ok(Task::Put {
+            outcome: Outcome::Refused { fault },
+        }),
+    }
+}
+
+/// What is to be done for a command.
+fn task_for(alloc: Global, command: &Command) -> Result<Task, NoMemory>
+    requires { IsWithinItsLimits command.now }
+    ensures { IsTaskOf (command_of command.now) result }
+{
+    match kind_of(command) {
+        Kind::Lines => Ok(Task::Lines),
+        Kind::Workload { lines, seed } => Ok(Task::Workload { lines, seed }),
+        Kind::Alone => match reply_to(alloc, command) {
+            Ok(outcome) => Ok(Task::Put { outcome }),
+            Err(NoMemory) => Err(NoMemory),
+        },
+    }
+}
+
+/// Whether a command runs others.
+#[derive(Clone, Copy, Debug)]
+enum Kind {
+    /// It runs the lines of the input.
+    Lines,
+    /// It runs so many lines of the generator.
+    Workload { lines: u16, seed: u32 },
+    /// It runs no other command.
+    Alone,
+}
+
+/// Whether the command runs others.
+fn kind_of(command: &Command) -> Kind
+    ensures { IsKind (command_of command.now) result }
+{
+    match command {
+        Command::Batch => Kind::Lines,
+        Command::Work { lines, seed } => Kind::Workload {
+            lines: *lines,
+            seed: *seed,
+        },
+        _ => Kind::Alone,
     }
 }
 
 /// What comes of a command: its answer, or that this is too large.
-fn reply_to(alloc: Global, command: &Command) -> Result<Outcome, NoMemory>
-    requires { IsWithinItsLimits command.now }
+pub(crate) fn reply_to(alloc: Global, command: &Command) -> Result<Outcome, NoMemory>
+    requires limits { IsWithinItsLimits command.now }
+    requires alone { RunsNoOther (command_of command.now) }
     ensures { IsReplyTo (command_of command.now) result }
 {
     match command {
@@ -72,5 +126,9 @@ fn reply_to(alloc: Global, command: &Command) -> Result<Outcome, NoMemory>
         Command::Schubmult { left, right } => permutations::schubmult(alloc, left, right),
         Command::Tab { outer, inner } => listing::tab(alloc, outer, inner),
         Command::Expand { target, formula } => expanded(alloc, *target, formula),
+        Command::Rsk { letters } => insertion::rsk(alloc, letters),
+        Command::Unrsk { pair } => insertion::unrsk(alloc, pair),
+        Command::Rect { tableau } => insertion::rect(tableau),
+        Command::Batch | Command::Work { .. } => unreachable!(),
     }
 }

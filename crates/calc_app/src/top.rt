@@ -1,6 +1,6 @@
 //! The top call.
 
-ghost use Rattle.std.specs.Prelude.{◌≡◌, ◌≢◌, ◌≤◌, ℕ, List, Some, IsTrue, true, codes, map, string_bytes};
+ghost use Rattle.std.specs.Prelude.{◌≡◌, ◌≢◌, ◌≤◌, ℕ, List, [], Some, IfSome, IsTrue, true, codes, map, string_bytes};
 ghost use Rattle.calc_base.specs.Fault.{Rose};
 ghost use Rattle.calc_base.specs.Puts.{Puts};
 ghost use Rattle.sym_model.specs.Command.{Command};
@@ -11,26 +11,32 @@ ghost use Rattle.calc_language.specs.BuiltCommands.{command_entries};
 ghost use Rattle.sym_model.specs.Outcome.{ending_of};
 ghost use Rattle.sym_model.specs.RefusalText.{refusal_line, offence_line};
 ghost use Rattle.sym_model.specs.SyntaxPlace.{IsSyntaxPlace};
-ghost use Rattle.calc_app.specs.Computed.{text_of, HasText, HasBlock, refusal_status, status_for};
-ghost use Rattle.calc_app.specs.Top.{Leaves, PrintsAnswerTo, IsAccepted, IsRefused};
+ghost use Rattle.calc_app.specs.Computed.{text_of, HasText, HasBlock, PutsOutcome};
+ghost use Rattle.calc_app.specs.Top.{Leaves, IsOutcome, RunsLines, PrintsAnswerTo, PrintsLines, IsThrough, IsAccepted, IsRefused};
 
-use crate::listing::put_listed;
-use crate::outcome::{Outcome, outcome_of};
-use calc_base::{Sink, Source, Status, WordsFault, finish_if};
-use expansion_printer::{print, print_large, print_refusal};
+use crate::batch::batch;
+use crate::block::{put_text, status_if_put};
+use crate::outcome::{Outcome, Task, task_of};
+use crate::workload::work;
+use calc_base::{NoMemory, Sink, Source, Status, finish_if};
 use std::alloc::Global;
 
 /// Runs the command that the words name, without the program's name, and puts its text to the sink.
 ///
-/// The commands are `mult`, `skew`, `coef`, `coprod`, `tab`, `quantum`, `fusion`, `schubert`, `schubmult`, and `expand` into m,
-/// e, h and p. The text is a line for each term of the answer, or of `tab` for each tableau, and `0` where there is none.
+/// The commands are `mult`, `skew`, `coef`, `coprod`, `tab`, `quantum`, `fusion`, `schubert`, `schubmult`, `expand` into m,
+/// e, h and p, and `batch`. The text is a line for each term of the answer, or of `tab` for each tableau, and `0` where there
+/// is none.
 ///
 /// In this order: the words are read, and refused by one line where they are no command (`Syntax`) or offend (`Range`, or
 /// `Past` for a number that is too large). The whole answer is computed, and refused by the line `! Large` (`Past`) only
 /// where a coefficient that is defined for it is past 2^127 - 1, or its weight is 2^127 or more; tableaux are put as they are
 /// listed. Its text is put, then `finish` is called, after a refusal too.
 /// `SinkFault` comes exactly where a call of the sink failed, and the sink is not called after it. Where memory is refused
-/// the answer is `NoMemory`, and nothing was put. The source is not touched.
+/// the answer is `NoMemory`, and nothing was put.
+///
+/// `batch` runs each line of the source as a command, and puts its block, a refusal too, as soon as the line is read, with the
+/// line `--` between two blocks. It ends with `SomeRefused` where a line was refused, and with `SourceFault` after the lines
+/// that were wholly read where a call of the source failed. Other commands do not touch the source.
 pub fn run<S: Source, K: Sink>(
     alloc: Global,
     words: &[String],
@@ -42,10 +48,16 @@ pub fn run<S: Source, K: Sink>(
     ensures headline { result ≡ Status.Done → (before : List ℕ) → K.written sink.old ≡ Some before
         → PrintsAnswerTo (map string_bytes words.now) before (K.written sink.new) }
 
-    // By cases on the status: the whole text that is defined for the words, and the sink settled;
-    // after a fault of the sink a prefix of it; without memory nothing.
-    ensures leaves { Leaves K.written K.length K.settled sink.old sink.new
-        (map string_bytes words.now) result }
+    // Where a batch was read to its end, the blocks of all its lines were put, and that of each line that was not refused says
+    // what the line's command names.
+    ensures lines { RunsLines (map string_bytes words.now) → IsThrough result → (before input : List ℕ)
+        → K.written sink.old ≡ Some before → S.left source.old ≡ Some input → PrintsLines input before (K.written sink.new) }
+
+    // By cases on the status: the whole text that is defined for the words, and the sink settled; after a fault of the sink a
+    // prefix of it; after a fault of the source that of the lines wholly read, and the sink settled; without memory nothing,
+    // or, of a batch, the text of its first lines.
+    ensures leaves { Leaves K.written K.length K.settled sink.old sink.new (S.left source.old) (S.left source.new)
+        (RunsLines (map string_bytes words.now)) (IsOutcome (map string_bytes words.now)) result }
 
     // Words that spell a command without an offence are answered, and refused only where a coefficient that is defined for
     // them is past 2^127 - 1, or their weight is 2^127 or more.
@@ -63,12 +75,31 @@ pub fn run<S: Source, K: Sink>(
     ensures sink_fault { result ≡ Status.SinkFault → Rose (K.faults sink.old) (K.faults sink.new) }
     ensures no_fault { result ≢ Status.SinkFault → K.faults sink.new ≡ K.faults sink.old }
     ensures later { K.faults sink.old ≤ K.faults sink.new }
-    ensures untouched { source.new ≡ source.old }
+
+    // The same of the source, but that a fault of the sink can follow one of the source.
+    ensures source_fault { result ≡ Status.SourceFault → Rose (S.faults source.old) (S.faults source.new) }
+    ensures no_source_fault { result ≢ Status.SourceFault → result ≢ Status.SinkFault
+        → S.faults source.new ≡ S.faults source.old }
+    ensures source_later { S.faults source.old ≤ S.faults source.new }
+
+    // A batch is read to its end, and other commands leave the source as it was.
+    ensures all_read { RunsLines (map string_bytes words.now) → IsThrough result → IfSome (S.left source.new) (λ rest. rest ≡ []) }
+    ensures untouched { (RunsLines (map string_bytes words.now) → ⊥) → source.new ≡ source.old }
 {
-    let _ = source;
-    let Ok(mut outcome) = outcome_of(alloc, words) else {
-        return Status::NoMemory;
-    };
+    match task_of(alloc, words) {
+        Ok(Task::Lines) => batch(alloc, source, sink),
+        Ok(Task::Workload { lines, seed }) => work(alloc, lines, seed, sink),
+        Ok(Task::Put { outcome }) => put_outcome(outcome, sink),
+        Err(NoMemory) => Status::NoMemory,
+    }
+}
+
+/// Puts what comes of the words of a command, and answers the status.
+fn put_outcome<K: Sink>(outcome: Outcome, sink: &mut K) -> Status
+    requires { HasText outcome }
+    ensures { PutsOutcome K.written K.length K.faults K.settled sink.old sink.new outcome result }
+{
+    let mut outcome = outcome;
     let status = status_if_put(&outcome);
     if deliver(&mut outcome, sink) {
         status
@@ -84,34 +115,6 @@ fn deliver<K: Sink>(outcome: &mut Outcome, sink: &mut K) -> bool
     ensures settled { IsTrue result → K.settled sink.new ≡ true }
     ensures printable { HasBlock outcome.old }
 {
-    let well = match outcome {
-        Outcome::Answered { answer } => print(answer, sink).is_ok(),
-        Outcome::Refused { fault } => print_refusal(fault, sink).is_ok(),
-        Outcome::Large => print_large(sink).is_ok(),
-        Outcome::Listed { list } => put_listed(list, sink),
-    };
+    let well = put_text(outcome, sink);
     finish_if(well, sink)
-}
-
-/// The status at the end, where the sink does not fail.
-fn status_if_put(outcome: &Outcome) -> Status
-    ensures { result ≡ status_for outcome.now }
-{
-    match outcome {
-        Outcome::Answered { .. } | Outcome::Listed { .. } => Status::Done,
-        Outcome::Refused { fault } => refused(*fault),
-        Outcome::Large => Status::Past,
-    }
-}
-
-/// The status of words that are refused.
-fn refused(fault: WordsFault) -> Status
-    ensures { result ≡ refusal_status fault }
-{
-    match fault {
-        WordsFault::Syntax { .. } => Status::Syntax,
-        WordsFault::Literal { .. } => Status::Past,
-        WordsFault::Range { .. } | WordsFault::Shape { .. } => Status::Range,
-        WordsFault::NoMemory => Status::NoMemory,
-    }
 }

@@ -1,6 +1,6 @@
 use Rattle.std.proofs.Common.{◌≡◌, ◌+◌, ◌≤◌, length, sym, ap, ◌∙◌, subst}
 use Rattle.batch_lines.specs.Reading.{next_at_end}
-use Rattle.batch_lines.proofs.NextLines.{ends, goes_on, stops}
+use Rattle.batch_lines.proofs.NextLines.{ends, goes_on, stops, cuts}
 use Rattle.batch_lines.proofs.reader.read_next.Goals as goal
 
 pub returns-then-heard-clause-reads : goal.returns-then-heard-clause-reads
@@ -34,3 +34,11 @@ loop-heard-preserved g c =
     (g.S.Source.faults c.args.source.now) (g.S.Source.faults c.loop-heard.source) (g.S.Source.faults c.refill.new.source) c.args.pieces.now c.loop-heard.pieces c.loop-heard.line.items
     c.hear.new.pieces c.hear.new.line.items c.refill.new.self c.loop-heard.is_long c.in-Ok.heard r (c.in-Ok.ensures r.text r.heard) c.if-heard.false
     e.taken spent e.counts.still
+
+pub returns-in-Err-refill-clause-cuts : goal.returns-in-Err-refill-clause-cuts
+returns-in-Err-refill-clause-cuts g c =
+    let r = c.loop-heard.invariant in
+    cuts (g.S.Source.left c.args.source.now) (g.S.Source.left c.loop-heard.source) (g.S.Source.left c.refill.new.source) (g.S.Source.allowance c.args.source.now)
+    (g.S.Source.allowance c.loop-heard.source) (g.S.Source.faults c.args.source.now) (g.S.Source.faults c.loop-heard.source) c.args.pieces.now c.loop-heard.pieces
+    c.loop-heard.line.items c.hear.new.pieces c.hear.new.line.items c.loop-heard.is_long c.in-Ok.heard r (c.in-Ok.ensures r.text r.heard) c.if-heard.false
+    c.in-Err-refill.ensures.kept

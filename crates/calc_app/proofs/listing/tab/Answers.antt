@@ -13,7 +13,7 @@ returns-in_default c =
     let Q : List ℕ → Type 0 = λ y. Holds outer y in
     let outside = contains-false outer inner
     (λ holds. let some = c.in_default.ensures.some.1 (subst P (sym c.in_ok-copy.ensures.ok) (subst Q (sym c.in_ok-copy-2.ensures.ok) holds)) in cc) in
-    record { outer = outer; inner = inner; is = refl; lines = ap (readings_text outer inner) (sym (none_outside outer inner outside)) }
+    rw (c.told.ensures) (ap (readings_text outer inner) (sym (none_outside outer inner outside)))
 
 pub new-requires-2-clause-small : goal.new-requires-2-clause-small
 new-requires-2-clause-small c =
@@ -30,11 +30,6 @@ returns c =
     c.in-Some.ensures.value
     ∙ ap (λ (x : List ℕ). (x, c.in_ok-copy-2.field-0)) c.in_ok-copy.ensures.ok
     ∙ ap (λ (y : List ℕ). (outer, y)) c.in_ok-copy-2.ensures.ok in
-    record {
-      outer = outer;
-      inner = inner;
-      is = refl;
-      lines =
-          listed-lines outer inner c.in-Some.shape c.rows.result c.in_ok-start.start c.in_ok-lattice.lattice.rest shape
-          c.rows.ensures.value c.in_ok-start.ensures.ok c.in_ok-lattice.ensures.rest;
-    }
+    rw (c.told-2.ensures)
+    (listed-lines outer inner c.in-Some.shape c.rows.result c.in_ok-start.start c.in_ok-lattice.lattice.rest shape
+    c.rows.ensures.value c.in_ok-start.ensures.ok c.in_ok-lattice.ensures.rest)

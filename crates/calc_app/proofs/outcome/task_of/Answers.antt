@@ -2,16 +2,16 @@ use Rattle.std.proofs.Common.{◌≢◌, map, rules, tests}
 use Rattle.calc_base.specs.declared.words.WordsFault.TheVariants as fault
 use Rattle.std.specs.Prelude.{string_bytes}
 use Rattle.calc_language.specs.Reading.{command_of}
-use Rattle.calc_app.proofs.Replies.{computes_reply, accepts_reply, refused_by, refused_at}
-use Rattle.calc_app.proofs.outcome.outcome_of.Goals as goal
+use Rattle.calc_app.proofs.Replies.{task_reply, accepts_task, refused_by, refused_at}
+use Rattle.calc_app.proofs.outcome.task_of.Goals as goal
 
 pub returns-in-Ok-clause-computes : goal.returns-in-Ok-clause-computes
 returns-in-Ok-clause-computes c =
-    computes_reply (map string_bytes c.args.words.now) (command_of c.in-Ok.command) c.reply_to.result c.in-Ok.ensures.read c.reply_to.ensures
+    task_reply (map string_bytes c.args.words.now) (command_of c.in-Ok.command) c.task_for.result c.in-Ok.ensures.read c.task_for.ensures
 
 pub returns-in-Ok-clause-accepts : goal.returns-in-Ok-clause-accepts
 returns-in-Ok-clause-accepts c = λ command spelled.
-    accepts_reply (command_of c.in-Ok.command) c.reply_to.result command c.reply_to.ensures (c.in-Ok.ensures.accepts command spelled)
+    accepts_task (command_of c.in-Ok.command) c.task_for.result command c.task_for.ensures (c.in-Ok.ensures.accepts command spelled)
 
 pub returns-in-Ok-clause-refuses : goal.returns-in-Ok-clause-refuses
 returns-in-Ok-clause-refuses c = λ offence first. absurd (c.in-Ok.ensures.refuses offence first)
@@ -24,7 +24,7 @@ returns-in-Err c =
     let memory : c.in-Err.fault ≢ fault.NoMemory = search (rules, tests) in
     record {
       computes = (c.in-Err.ensures.read, memory);
-      accepts = λ command spelled. memory (c.in-Err.ensures.accepts command spelled);
+      accepts = λ command spelled. absurd (memory (c.in-Err.ensures.accepts command spelled));
       refuses = λ offence first. refused_by offence c.in-Err.fault memory (c.in-Err.ensures.refuses offence first);
       goes_wrong = λ word byte place. refused_at word byte c.in-Err.fault memory (c.in-Err.ensures.goes_wrong word byte place);
     }

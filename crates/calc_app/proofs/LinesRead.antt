@@ -1,0 +1,200 @@
+-- Which lines were read so far of a source that tells its bytes.
+use Rattle.std.proofs.Common.{◌≡◌, ◌⊎◌, ℕ, ◌+◌, ◌<◌, ◌≤◌, List, [], ◌∷◌, ◌++◌, append_assoc, append-nil, length, length-append, refl, sym, ap, ◌∙◌, arith, Option, Some, None, inl, inr}
+use Rattle.batch_lines.proofs.Lines.{line_first, line_last}
+use Rattle.batch_lines.specs.Feeds.{HasNoFeed}
+use Rattle.batch_lines.specs.Reading.{Took, EndsAtFeed, EndsAtEnd, TookPart}
+use Rattle.sym_model.specs.BatchLine.{lines_of}
+use Rattle.calc_app.specs.Top.{IsInput, IsFrontOf}
+
+-- the text ends where a line does: its lines are these, and whatever follows has its own
+abbrev pub IsEnded : List ℕ → List (List ℕ) → Type 0
+IsEnded front lines = (text : List ℕ) → lines_of (front ++ text) ≡ lines ++ lines_of text
+
+-- these lines were read of the input, and the bytes that are pending and the rest are still to be read
+pub record Reads (input rest : List ℕ) (lines : List (List ℕ)) (pending : List ℕ) : Type 0 where
+  pub front : List ℕ
+  pub cut : input ≡ front ++ (pending ++ rest)
+  pub state : IsEnded front lines ⊎ ((pending ++ rest ≡ []) × (lines_of front ≡ lines))
+
+-- the same of a source that may tell its bytes, and some text that has these lines
+abbrev pub ReadsTold : Option (List ℕ) → Option (List ℕ) → List (List ℕ) → List ℕ → Type 0
+ReadsTold (Some input) (Some rest) lines pending = Reads input rest lines pending
+ReadsTold (Some input) None lines pending = ⊥
+ReadsTold None (Some rest) lines pending = ⊥
+ReadsTold None None lines pending = Unit {0}
+
+pub begin_read : (left : Option (List ℕ)) → ReadsTold left left [] []
+begin_read None = tt
+begin_read (Some input) = record { front = []; cut = refl; state = inl (λ text. refl) }
+
+pub begin_spelled : IsEnded [] []
+begin_spelled = λ text. refl
+
+-- ---- one line more
+
+-- the bytes of a line that is read next, and what stands behind it
+abbrev pub EndsLine : (all text behind : List ℕ) → Option (List ℕ) → Type 0
+EndsLine all text behind now = EndsAtFeed all text behind ⊎ (EndsAtEnd all text behind now × (0 < length text))
+
+pub spelled_more : (spelled : List ℕ) (lines : List (List ℕ)) (line : List ℕ) → IsEnded spelled lines → HasNoFeed line
+    → IsEnded (spelled ++ (line ++ 10 ∷ [])) (lines ++ line ∷ [])
+spelled_more spelled lines line h n = λ text.
+    ap lines_of (append_assoc spelled (line ++ 10 ∷ []) text ∙ ap (λ t. spelled ++ t) (append_assoc line (10 ∷ []) text))
+    ∙ h (line ++ 10 ∷ text)
+    ∙ ap (λ ls. lines ++ ls) (line_first line text n)
+    ∙ sym (append_assoc lines (line ∷ []) (lines_of text))
+
+not_empty : (text : List ℕ) (byte : ℕ) (more : List ℕ) → text ++ byte ∷ more ≡ [] → ⊥
+not_empty [] byte more h = cc
+not_empty (b ∷ text) byte more h = cc
+
+at_feed : (input all rest taken pending text behind : List ℕ) (lines : List (List ℕ)) → Reads input all lines pending → all ≡ taken ++ rest
+    → HasNoFeed text → EndsAtFeed (pending ++ taken) text behind → Reads input rest (lines ++ text ∷ []) behind
+at_feed input all rest taken pending text behind lines r a n e =
+    let bytes : pending ++ all ≡ text ++ 10 ∷ (behind ++ rest) =
+    ap (λ t. pending ++ t) a ∙ sym (append_assoc pending taken rest) ∙ ap (λ t. t ++ rest) e ∙ append_assoc text (10 ∷ behind) rest in
+    record {
+      front = r.front ++ (text ++ 10 ∷ []);
+      cut =
+          r.cut ∙ ap (λ t. r.front ++ t) (bytes ∙ sym (append_assoc text (10 ∷ []) (behind ++ rest)))
+          ∙ sym (append_assoc r.front (text ++ 10 ∷ []) (behind ++ rest));
+      state = by bytes r.state;
+    }
+  where
+    by : pending ++ all ≡ text ++ 10 ∷ (behind ++ rest) → IsEnded r.front lines ⊎ ((pending ++ all ≡ []) × (lines_of r.front ≡ lines))
+        → IsEnded (r.front ++ (text ++ 10 ∷ [])) (lines ++ text ∷ []) ⊎ ((behind ++ rest ≡ []) × (lines_of (r.front ++ (text ++ 10 ∷ [])) ≡ lines ++ text ∷ []))
+    by bytes (inl ended) = inl (spelled_more r.front lines text ended n)
+    by bytes (inr empty) = absurd (not_empty text 10 (behind ++ rest) (sym bytes ∙ empty.0))
+
+at_end : (input all rest taken pending text behind : List ℕ) (lines : List (List ℕ)) → Reads input all lines pending → all ≡ taken ++ rest
+    → HasNoFeed text → EndsAtEnd (pending ++ taken) text behind (Some rest) → 0 < length text → Reads input rest (lines ++ text ∷ []) behind
+at_end input all rest taken pending text behind lines r a n e positive =
+    let bytes : pending ++ all ≡ text =
+    ap (λ t. pending ++ t) (a ∙ ap (λ t. taken ++ t) e.none_left ∙ append-nil taken) ∙ e.whole in
+    let none : behind ++ rest ≡ [] = ap (λ t. t ++ rest) e.none_pending ∙ e.none_left in
+    record {
+      front = r.front ++ text;
+      cut = r.cut ∙ ap (λ t. r.front ++ t) bytes ∙ sym (append-nil (r.front ++ text)) ∙ ap (λ t. (r.front ++ text) ++ t) (sym none);
+      state = inr (none, by bytes r.state);
+    }
+  where
+    by : pending ++ all ≡ text → IsEnded r.front lines ⊎ ((pending ++ all ≡ []) × (lines_of r.front ≡ lines))
+        → lines_of (r.front ++ text) ≡ lines ++ text ∷ []
+    by bytes (inl ended) = ended text ∙ ap (λ ls. lines ++ ls) (line_last text n positive)
+    by bytes (inr empty) = let l = ap length (sym bytes ∙ empty.0) in absurd (omega (arith, l, positive))
+
+told : (all rest taken : List ℕ) → ◌≡◌ {A = Option (List ℕ)} (Some all) (Some (taken ++ rest)) → all ≡ taken ++ rest
+told all rest taken h = cc
+
+pub read_more : (left before now : Option (List ℕ)) (taken pending text behind : List ℕ) (lines : List (List ℕ))
+    → ReadsTold left before lines pending → Took before now taken → HasNoFeed text → EndsLine (pending ++ taken) text behind now
+    → ReadsTold left now (lines ++ text ∷ []) behind
+read_more (Some input) (Some all) (Some rest) taken pending text behind lines r took n (inl e) =
+    at_feed input all rest taken pending text behind lines r (told all rest taken took) n e
+read_more (Some input) (Some all) (Some rest) taken pending text behind lines r took n (inr e) =
+    at_end input all rest taken pending text behind lines r (told all rest taken took) n e.0 e.1
+read_more (Some input) (Some all) None taken pending text behind lines r took n e = cc
+read_more (Some input) None now taken pending text behind lines r took n e = absurd r
+read_more None (Some all) now taken pending text behind lines r took n e = absurd r
+read_more None None (Some rest) taken pending text behind lines r took n e = cc
+read_more None None None taken pending text behind lines r took n e = tt
+
+-- fewer bytes are left to be read
+pub fewer_left : (allowance less : ℕ) (taken pending text behind : List ℕ) (now : Option (List ℕ)) → less + length taken ≤ allowance
+    → EndsLine (pending ++ taken) text behind now → less + length behind < allowance + length pending
+fewer_left allowance less taken pending text behind now spent (inl e) =
+    let l = ap length e in let p = length-append pending taken in let t = length-append text (10 ∷ behind) in
+    omega (arith, l, p, t, spent)
+fewer_left allowance less taken pending text behind now spent (inr e) =
+    let l = ap length e.0.whole in let p = length-append pending taken in let b = ap length e.0.none_pending in let positive = e.1 in
+    omega (arith, l, p, b, positive, spent)
+
+-- ---- the end of the lines
+
+front_lines : (front : List ℕ) (lines : List (List ℕ)) → IsEnded front lines → lines_of front ≡ lines
+front_lines front lines h = ap lines_of (sym (append-nil front)) ∙ h [] ∙ append-nil lines
+
+-- an input with these lines, which is all that was left where that is told
+pub record Whole (left : Option (List ℕ)) (lines : List (List ℕ)) : Type 0 where
+  pub input : List ℕ
+  pub is_input : IsInput left input
+  pub are : lines_of input ≡ lines
+
+whole_told : (input all : List ℕ) (lines : List (List ℕ)) (pending : List ℕ) → Reads input all lines pending → pending ++ all ≡ [] → lines_of input ≡ lines
+whole_told input all lines pending r none =
+    ap lines_of (r.cut ∙ ap (λ t. r.front ++ t) none ∙ append-nil r.front) ∙ by r.state
+  where
+    by : IsEnded r.front lines ⊎ ((pending ++ all ≡ []) × (lines_of r.front ≡ lines)) → lines_of r.front ≡ lines
+    by (inl ended) = front_lines r.front lines ended
+    by (inr empty) = empty.1
+
+pub read_whole : (left before now : Option (List ℕ)) (taken pending behind spelled : List ℕ) (lines : List (List ℕ))
+    → ReadsTold left before lines pending → IsEnded spelled lines → Took before now taken → EndsAtEnd (pending ++ taken) [] behind now → Whole left lines
+read_whole (Some input) (Some all) (Some rest) taken pending behind spelled lines r ended took e = record {
+  input = input;
+  is_input = refl;
+  are = whole_told input all lines pending r
+      (ap (λ t. pending ++ t) (told all rest taken took ∙ ap (λ t. taken ++ t) e.none_left ∙ append-nil taken) ∙ e.whole);
+}
+read_whole (Some input) (Some all) None taken pending behind spelled lines r ended took e = cc
+read_whole (Some input) None now taken pending behind spelled lines r ended took e = absurd r
+read_whole None before now taken pending behind spelled lines r ended took e =
+    record { input = spelled; is_input = tt; are = front_lines spelled lines ended }
+
+-- ---- the first lines
+
+-- a text with these lines, which are the first ones of all that was left, where that is told
+pub record Front (left : Option (List ℕ)) (lines : List (List ℕ)) : Type 0 where
+  pub front : List ℕ
+  pub is_front : IsFrontOf left front
+  pub are : lines_of front ≡ lines
+
+front_told : (input rest : List ℕ) (lines : List (List ℕ)) (pending : List ℕ) → (r : Reads input rest lines pending)
+    → (lines_of r.front ≡ lines) × (more : List (List ℕ)) × (lines_of input ≡ lines_of r.front ++ more)
+front_told input rest lines pending r = by r.state
+  where
+    by : IsEnded r.front lines ⊎ ((pending ++ rest ≡ []) × (lines_of r.front ≡ lines))
+        → (lines_of r.front ≡ lines) × (more : List (List ℕ)) × (lines_of input ≡ lines_of r.front ++ more)
+    by (inl ended) =
+        let are = front_lines r.front lines ended in
+        (are, lines_of (pending ++ rest), ap lines_of r.cut ∙ ended (pending ++ rest) ∙ ap (λ ls. ls ++ lines_of (pending ++ rest)) (sym are))
+    by (inr empty) =
+        (empty.1, [], ap lines_of (r.cut ∙ ap (λ t. r.front ++ t) empty.0 ∙ append-nil r.front) ∙ sym (append-nil (lines_of r.front)))
+
+pub read_front : (left now : Option (List ℕ)) (pending spelled : List ℕ) (lines : List (List ℕ)) → ReadsTold left now lines pending → IsEnded spelled lines
+    → Front left lines
+read_front (Some input) (Some rest) pending spelled lines r ended =
+    let f = front_told input rest lines pending r in record { front = r.front; is_front = (f.1, f.2); are = f.0 }
+read_front (Some input) None pending spelled lines r ended = absurd r
+read_front None now pending spelled lines r ended =
+    record { front = spelled; is_front = tt; are = front_lines spelled lines ended }
+
+-- the first lines, and what was read behind them, in which no line ends
+pub record Part (left now : Option (List ℕ)) (lines : List (List ℕ)) : Type 0 where
+  pub front : List ℕ
+  pub piece : List ℕ
+  pub took : Took left now (front ++ piece)
+  pub no_feed : HasNoFeed piece
+  pub is_front : IsFrontOf left front
+  pub are : lines_of front ≡ lines
+
+pub read_part : (left before now : Option (List ℕ)) (pending spelled : List ℕ) (lines : List (List ℕ)) → ReadsTold left before lines pending → IsEnded spelled lines
+    → TookPart before now pending → Part left now lines
+read_part (Some input) (Some all) (Some rest) pending spelled lines r ended t =
+    let f = front_told input all lines pending r in
+    record {
+      front = r.front;
+      piece = pending ++ t.taken;
+      took =
+          ap Some (r.cut ∙ ap (λ xs. r.front ++ (pending ++ xs)) (told all rest t.taken t.took)
+          ∙ ap (λ xs. r.front ++ xs) (sym (append_assoc pending t.taken rest)) ∙ sym (append_assoc r.front (pending ++ t.taken) rest));
+      no_feed = t.no_feed;
+      is_front = (f.1, f.2);
+      are = f.0;
+    }
+read_part (Some input) (Some all) None pending spelled lines r ended t = let clash = t.took in cc
+read_part (Some input) None now pending spelled lines r ended t = absurd r
+read_part None (Some all) now pending spelled lines r ended t = absurd r
+read_part None None (Some rest) pending spelled lines r ended t = let clash = t.took in cc
+read_part None None None pending spelled lines r ended t =
+    record { front = spelled; piece = []; took = refl; no_feed = tt; is_front = tt; are = front_lines spelled lines ended }

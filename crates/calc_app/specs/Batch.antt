@@ -1,0 +1,119 @@
+-- What comes of the lines of a batch, one after another (this project's own).
+use Rattle.std.specs.Prelude.{◌≡◌, ◌≢◌, ℕ, ◌≤◌, List, [], Bool, true, false, ◌&&◌, codes, cond, Option, Some, None, IfSome, Result, Ok, Err}
+use Rattle.batch_lines.specs.declared.next.LineFault.{LineFault}
+use Rattle.batch_lines.specs.declared.next.LineFault.TheVariants as line_fault
+use Rattle.batch_lines.specs.declared.next.Next.{Next}
+use Rattle.batch_lines.specs.declared.next.Next.TheVariants as next
+use Rattle.batch_lines.specs.Reading.{ReadsNext, TookPart}
+use Rattle.calc_base.specs.declared.status.Status.{Status}
+use Rattle.calc_base.specs.declared.status.Status.TheVariants as status
+use Rattle.calc_base.specs.declared.words.WordsFault.{WordsFault}
+use Rattle.calc_base.specs.Fault.{Rose}
+use Rattle.calc_base.specs.Puts.{Puts}
+use Rattle.calc_language.specs.BuiltCommands.{batch_entries}
+use Rattle.calc_language.specs.Reading.{IsFaultOf}
+use Rattle.sym_model.specs.BatchLine.{BatchLine, too_long, passed_over, spoken, batch_line, too_long_offence}
+use Rattle.sym_model.specs.BatchOutcome.{RunsInput}
+use Rattle.calc_app.specs.declared.outcome.Outcome.{Outcome}
+use Rattle.calc_app.specs.declared.outcome.Outcome.TheVariants.{Refused}
+use Rattle.calc_app.specs.declared.batch.Turn.{Turn}
+use Rattle.calc_app.specs.declared.batch.Turn.TheVariants.{Passed, Block, Last}
+use Rattle.calc_app.specs.declared.batch.Progress.{Progress}
+use Rattle.calc_app.specs.Computed.{Computes}
+use Rattle.calc_app.specs.Top.{Leaves, IsThrough}
+
+-- ---- what comes of one line
+
+-- the outcome is the refusal of a line that is too long
+pub record RefusesLong (outcome : Outcome) : Type 0 where
+  pub reason : WordsFault
+  pub is : outcome ≡ Refused reason
+  pub names : IsFaultOf too_long_offence reason
+
+-- what comes of a line: nothing where it is passed over, and otherwise its refusal or what comes of its words
+abbrev pub ComesOfLine : BatchLine → Option Outcome → Type 0
+ComesOfLine too_long None = ⊥
+ComesOfLine too_long (Some outcome) = RefusesLong outcome
+ComesOfLine passed_over None = Unit {0}
+ComesOfLine passed_over (Some outcome) = ⊥
+ComesOfLine (spoken words) None = ⊥
+ComesOfLine (spoken words) (Some outcome) = Computes batch_entries words (Ok outcome)
+
+-- what comes of what is read next
+abbrev pub IsTurn : Next → List ℕ → Turn → Type 0
+IsTurn next.Line line Passed = ComesOfLine (batch_line line) None
+IsTurn next.Line line (Block outcome) = ComesOfLine (batch_line line) (Some outcome)
+IsTurn next.Line line Last = ⊥
+IsTurn next.TooLong line Passed = ⊥
+IsTurn next.TooLong line (Block outcome) = ComesOfLine too_long (Some outcome)
+IsTurn next.TooLong line Last = ⊥
+IsTurn next.End line Passed = ⊥
+IsTurn next.End line (Block outcome) = ⊥
+IsTurn next.End line Last = Unit {0}
+
+-- the next line was read, and this comes of it
+pub record TakesTurn (before now : Option (List ℕ)) (allowance less : ℕ) (pending left_pending : List ℕ) (turn : Turn) : Type 0 where
+  pub line : List ℕ
+  pub read : Next
+  pub reads : ReadsNext before now allowance less pending left_pending line read
+  pub is : IsTurn read line turn
+
+-- where a fault of the source came, no line ends in what was taken
+abbrev pub CutsTurn : (before now : Option (List ℕ)) → List ℕ → Result Turn LineFault → Type 0
+CutsTurn before now pending (Ok turn) = Unit {0}
+CutsTurn before now pending (Err line_fault.SourceFault) = TookPart before now pending
+CutsTurn before now pending (Err line_fault.NoMemory) = Unit {0}
+
+-- a fault of the source is counted, and nothing else is
+abbrev pub CountsTurn : (before now : ℕ) → Result Turn LineFault → Type 0
+CountsTurn before now (Ok turn) = now ≡ before
+CountsTurn before now (Err line_fault.SourceFault) = Rose before now
+CountsTurn before now (Err line_fault.NoMemory) = now ≡ before
+
+-- ---- what comes of the lines so far
+
+-- what stands in front of a block: nothing in front of the first one, and the line `--` in front of the others
+abbrev pub separator : Bool → List ℕ
+separator true = []
+separator false = codes "--\n"
+
+-- whether the status says that the line was not refused
+abbrev pub is_done_status : Status → Bool
+is_done_status status.Done = true
+is_done_status status.SomeRefused = false
+is_done_status status.Syntax = false
+is_done_status status.Range = false
+is_done_status status.Past = false
+is_done_status status.SinkFault = false
+is_done_status status.SourceFault = false
+is_done_status status.NoMemory = false
+
+-- how far a batch is, after one block more
+abbrev pub progress_after : Progress → Status → Progress
+progress_after progress answer = record { is_first = false; is_done = progress.is_done && is_done_status answer }
+
+-- the status at the end, where neither the source nor the sink fails
+abbrev pub end_status : Progress → Status
+end_status progress = cond progress.is_done status.Done status.SomeRefused
+
+-- ---- the end
+
+-- The sink is finished, and the answer is the status; or that failed.
+pub record Finishes {K : Type 0} (written : K → Option (List ℕ)) (count : K → Option ℕ) (faults : K → ℕ) (settled : K → Bool)
+    (old new : K) (answer result : Status) : Type 0 where
+  pub well : Bool
+  pub puts : Puts written count faults true old well new []
+  pub settles : well ≡ true → settled new ≡ true
+  pub is : result ≡ cond well answer status.SinkFault
+
+-- how a batch ends: what it leaves in the sink, which faults were counted, and that all was read where the status says so
+pub record EndsBatch {K : Type 0} (written : K → Option (List ℕ)) (count : K → Option ℕ) (faults : K → ℕ) (settled : K → Bool)
+    (old new : K) (left now_left : Option (List ℕ)) (source_faults now_faults : ℕ) (result : Status) : Type 0 where
+  pub leaves : Leaves written count settled old new left now_left (Unit {0}) (RunsInput batch_entries) result
+  pub sink_fault : result ≡ status.SinkFault → Rose (faults old) (faults new)
+  pub no_fault : result ≢ status.SinkFault → faults new ≡ faults old
+  pub later : faults old ≤ faults new
+  pub source_fault : result ≡ status.SourceFault → Rose source_faults now_faults
+  pub no_source_fault : result ≢ status.SourceFault → result ≢ status.SinkFault → now_faults ≡ source_faults
+  pub source_later : source_faults ≤ now_faults
+  pub all_read : IsThrough result → IfSome now_left (λ rest. rest ≡ [])

@@ -1,0 +1,54 @@
+-- What comes of the generated lines, one after another (this project's own).
+use Rattle.std.specs.Prelude.{◌≡◌, ◌⊎◌, ℕ, ◌+◌, ◌≤◌, List, [], ◌∷◌, Bool, true, cond, map, Option}
+use Rattle.calc_base.specs.declared.status.Status.{Status}
+use Rattle.calc_base.specs.declared.status.Status.TheVariants as status
+use Rattle.calc_base.specs.Puts.{Puts}
+use Rattle.calc_language.specs.BuiltCommands.{batch_entries}
+use Rattle.sym_model.specs.BatchLine.{BatchLine, batch_line}
+use Rattle.sym_model.specs.BatchOutcome.{Block, AreBlocks}
+use Rattle.sym_model.specs.Workload.{work_lines}
+use Rattle.work_lines.specs.declared.sums.Sums.{Sums}
+use Rattle.work_lines.specs.Totals.{sums_over, sums_with, AreSmall, sums_text}
+
+-- the texts of blocks
+abbrev pub texts_of : List Block → List (List ℕ)
+texts_of blocks = map (λ (b : Block). b.0) blocks
+
+-- sums with further blocks
+abbrev pub sums_more : Sums → List (List ℕ) → Sums
+sums_more s [] = s
+sums_more s (text ∷ texts) = sums_more (sums_with s text) texts
+
+-- the blocks of a line, of which there is one at most, were added
+pub record AddsLine (line : BatchLine) (old new : Sums) : Type 0 where
+  pub blocks : List Block
+  pub are : AreBlocks batch_entries (line ∷ []) blocks
+  pub added : new ≡ sums_more old (texts_of blocks)
+  pub small : AreSmall new
+  pub one : new.lines ≤ old.lines + 1
+
+-- the sums over the blocks of the lines from the seed on
+pub record AreSumsOf (lines seed : ℕ) (sums : Sums) : Type 0 where
+  pub blocks : List Block
+  pub are : AreBlocks batch_entries (map batch_line (work_lines lines seed)) blocks
+  pub sum_up : sums ≡ sums_over (texts_of blocks)
+
+-- The text of the sums was put and the sink finished; or the sink failed.
+pub record PutsSums {K : Type 0} (written : K → Option (List ℕ)) (count : K → Option ℕ) (faults : K → ℕ) (settled : K → Bool)
+    (old new : K) (sums : Sums) (result : Status) : Type 0 where
+  pub well : Bool
+  pub puts : Puts written count faults true old well new (sums_text sums)
+  pub settles : well ≡ true → settled new ≡ true
+  pub is : result ≡ cond well status.Done status.SinkFault
+
+-- the sums over the blocks of the lines, put
+pub record PutsWork {K : Type 0} (written : K → Option (List ℕ)) (count : K → Option ℕ) (faults : K → ℕ) (settled : K → Bool)
+    (old new : K) (lines seed : ℕ) (result : Status) : Type 0 where
+  pub sums : Sums
+  pub are : AreSumsOf lines seed sums
+  pub put : PutsSums written count faults settled old new sums result
+
+-- how `work` ends: the sums were put, or memory was refused and nothing was
+abbrev pub EndsWork : {K : Type 0} → (K → Option (List ℕ)) → (K → Option ℕ) → (K → ℕ) → (K → Bool) → (old new : K) → (lines seed : ℕ) → Status → Type 0
+EndsWork written count faults settled old new lines seed result =
+    ((result ≡ status.NoMemory) × (new ≡ old)) ⊎ PutsWork written count faults settled old new lines seed result

@@ -1,0 +1,195 @@
+//! The lines of a batch, run one after another.
+
+ghost use Rattle.std.specs.Prelude.{◌≡◌, ◌≤◌, ◌++◌, [], Some, true, IfOk};
+ghost use Rattle.batch_lines.specs.Reading.{ReadsNext};
+ghost use Rattle.calc_base.specs.Puts.{Puts};
+ghost use Rattle.sym_model.specs.BatchLine.{batch_line, too_long};
+ghost use Rattle.calc_app.specs.Batch.{ComesOfLine, TakesTurn, CutsTurn, CountsTurn, separator, is_done_status, progress_after, end_status, Finishes, EndsBatch};
+ghost use Rattle.calc_app.specs.Computed.{text_of, HasText, HasBlock, status_for};
+
+use crate::block::{put_text, status_if_put};
+use crate::outcome::{Outcome, reply_to};
+use batch_lines::{LineFault, LineReader, Next};
+use calc_base::{CountSink, NoMemory, Place, Sink, Source, Status, WordsFault, finish_if};
+use calc_language::read_line;
+use std::alloc::Global;
+
+/// The most bytes of a line before its line feed.
+const MOST_BYTES: u64 = 4096;
+
+/// What comes of what is read next.
+#[derive(Drop)]
+enum Turn {
+    /// Nothing: the line is passed over.
+    Passed,
+    /// What comes of the line's words.
+    Block { outcome: Outcome },
+    /// There is no line left.
+    Last,
+}
+
+/// How far a batch is: whether the next block is the first one, and whether no line was refused.
+#[derive(Clone, Copy, Debug)]
+struct Progress {
+    is_first: bool,
+    is_done: bool,
+}
+
+impl Progress {
+    /// Counts a block more.
+    fn count(&mut self, status: Status)
+        ensures { self.new ≡ progress_after self.old status }
+    {
+        self.is_first = false;
+        self.is_done = self.is_done && is_done(status);
+    }
+}
+
+/// Runs the lines of the source and puts their blocks, with the line `--` between two of them.
+///
+/// A block is put when its line is read, and nothing of it is kept. A fault of the source ends the run after the lines that
+/// were wholly read, and the sink is finished. Want of memory ends the run.
+pub(crate) fn batch<S: Source, K: Sink>(alloc: Global, source: &mut S, sink: &mut K) -> Status
+    ensures { EndsBatch K.written K.length K.faults K.settled sink.old sink.new (S.left source.old) (S.left source.new)
+        (S.faults source.old) (S.faults source.new) result }
+{
+    let Ok(mut reader) = LineReader::new(alloc) else {
+        return Status::NoMemory;
+    };
+    let mut progress = Progress {
+        is_first: true,
+        is_done: true,
+    };
+    loop {
+        match next_turn(alloc, &mut reader, source) {
+            Ok(Turn::Passed) => {}
+            Ok(Turn::Block { outcome }) => {
+                if !put_block(&mut progress, outcome, sink) {
+                    return Status::SinkFault;
+                }
+            }
+            Ok(Turn::Last) => return finished(at_end(progress), sink),
+            Err(LineFault::SourceFault) => return finished(Status::SourceFault, sink),
+            Err(LineFault::NoMemory) => return Status::NoMemory,
+        }
+    }
+}
+
+/// Reads the next line, and computes what comes of it.
+fn next_turn<S: Source>(
+    alloc: Global,
+    reader: &mut LineReader,
+    source: &mut S,
+) -> Result<Turn, LineFault>
+    ensures takes { IfOk result (TakesTurn (S.left source.old) (S.left source.new) (S.allowance source.old) (S.allowance source.new)
+        reader.old.pending reader.new.pending) }
+    ensures cuts { CutsTurn (S.left source.old) (S.left source.new) reader.old.pending result }
+    ensures counts { CountsTurn (S.faults source.old) (S.faults source.new) result }
+    ensures later { S.faults source.old ≤ S.faults source.new }
+{
+    match reader.next(source) {
+        Ok(Next::Line) => match line_outcome(alloc, reader.line()) {
+            Ok(None) => Ok(Turn::Passed),
+            Ok(Some(outcome)) => Ok(Turn::Block { outcome }),
+            Err(NoMemory) => Err(LineFault::NoMemory),
+        },
+        Ok(Next::TooLong) => Ok(Turn::Block {
+            outcome: refused_long(),
+        }),
+        Ok(Next::End) => Ok(Turn::Last),
+        Err(LineFault::SourceFault) => Err(LineFault::SourceFault),
+        Err(LineFault::NoMemory) => Err(LineFault::NoMemory),
+    }
+}
+
+/// Computes what comes of a line.
+pub(crate) fn line_outcome(alloc: Global, line: &[u8]) -> Result<Option<Outcome>, NoMemory>
+    ensures { IfOk result (ComesOfLine (batch_line line.now)) }
+{
+    match read_line(alloc, line) {
+        Ok(Some(command)) => match reply_to(alloc, &command) {
+            Ok(outcome) => Ok(Some(outcome)),
+            Err(NoMemory) => Err(NoMemory),
+        },
+        Ok(None) => Ok(None),
+        Err(WordsFault::NoMemory) => Err(NoMemory),
+        Err(fault) => Ok(Some(Outcome::Refused { fault })),
+    }
+}
+
+/// What comes of a line that is too long.
+fn refused_long() -> Outcome
+    ensures { ComesOfLine too_long (Some result) }
+{
+    Outcome::Refused {
+        fault: WordsFault::Range {
+            at: Place {
+                word: 0,
+                byte: MOST_BYTES,
+            },
+        },
+    }
+}
+
+/// Puts the block of a line, behind the line `--` where it is not the first one, and answers whether all went well.
+fn put_block<K: Sink>(progress: &mut Progress, outcome: Outcome, sink: &mut K) -> bool
+    requires { HasText outcome }
+    ensures goes { Puts K.written K.length K.faults true sink.old result sink.new (separator progress.old.is_first ++ text_of outcome) }
+    ensures printable { HasBlock outcome }
+    ensures counts { progress.new ≡ progress_after progress.old (status_for outcome) }
+{
+    let mut outcome = outcome;
+    let is_first = progress.is_first;
+    progress.count(status_if_put(&outcome));
+    put_behind(is_first, &mut outcome, sink)
+}
+
+/// Puts the line `--`, but not in front of the first block, and then the block, and answers whether all went well.
+fn put_behind<K: Sink>(is_first: bool, outcome: &mut Outcome, sink: &mut K) -> bool
+    requires { HasText outcome.old }
+    ensures goes { Puts K.written K.length K.faults true sink.old result sink.new (separator is_first ++ text_of outcome.old) }
+    ensures printable { HasBlock outcome.old }
+{
+    if !put_separator(is_first, sink) {
+        // This tells the proof that the block is one that can be read back: what was put is a prefix of it.
+        put_text(outcome, &mut CountSink::new());
+        return false;
+    }
+    put_text(outcome, sink)
+}
+
+/// Puts the line `--`, but not in front of the first block.
+fn put_separator<K: Sink>(is_first: bool, sink: &mut K) -> bool
+    ensures { Puts K.written K.length K.faults true sink.old result sink.new (separator is_first) }
+{
+    is_first || sink.put(b"--\n").is_ok()
+}
+
+/// Whether the status says that a line was not refused.
+fn is_done(status: Status) -> bool
+    ensures { result ≡ is_done_status status }
+{
+    matches!(status, Status::Done)
+}
+
+/// The status where all lines were read and put.
+fn at_end(progress: Progress) -> Status
+    ensures { result ≡ end_status progress }
+{
+    if progress.is_done {
+        Status::Done
+    } else {
+        Status::SomeRefused
+    }
+}
+
+/// Finishes the sink, and answers the status, or that the sink failed.
+pub(crate) fn finished<K: Sink>(status: Status, sink: &mut K) -> Status
+    ensures { Finishes K.written K.length K.faults K.settled sink.old sink.new status result }
+{
+    if finish_if(true, sink) {
+        status
+    } else {
+        Status::SinkFault
+    }
+}

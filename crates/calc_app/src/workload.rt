@@ -1,0 +1,95 @@
+//! The generated lines, run one after another.
+
+ghost use Rattle.std.specs.Prelude.{◌≡◌, ◌<◌, ◌≤◌, IfOk};
+ghost use Rattle.sym_model.specs.BatchLine.{batch_line};
+ghost use Rattle.work_lines.specs.Totals.{sums_with, AreSmall};
+ghost use Rattle.calc_app.specs.Computed.{text_of, HasText, HasBlock};
+ghost use Rattle.calc_app.specs.Work.{AddsLine, AreSumsOf, PutsSums, EndsWork};
+
+use crate::batch::line_outcome;
+use crate::block::put_text;
+use crate::outcome::Outcome;
+use calc_base::{NoMemory, Sink, Status, finish_if};
+use std::alloc::Global;
+use work_lines::{BlockText, LineBuf, Sums, put_summary, work_line};
+
+/// Runs so many lines of the generator from the seed on, and puts the sums over their blocks.
+///
+/// One block is kept at a time. Where memory is refused the answer is `NoMemory`, and nothing was put.
+pub fn work<K: Sink>(alloc: Global, lines: u16, seed: u32, sink: &mut K) -> Status
+    requires { seed ≤ 65536 }
+    ensures { EndsWork K.written K.length K.faults K.settled sink.old sink.new lines seed result }
+{
+    match sums_of(alloc, lines, seed) {
+        Ok(sums) => put_sums(&sums, sink),
+        Err(NoMemory) => Status::NoMemory,
+    }
+}
+
+/// Puts the summary and finishes the sink.
+fn put_sums<K: Sink>(sums: &Sums, sink: &mut K) -> Status
+    ensures { PutsSums K.written K.length K.faults K.settled sink.old sink.new sums.now result }
+{
+    let well = put_summary(sums, sink);
+    if finish_if(well, sink) {
+        Status::Done
+    } else {
+        Status::SinkFault
+    }
+}
+
+/// The sums over the blocks of the lines.
+fn sums_of(alloc: Global, lines: u16, seed: u32) -> Result<Sums, NoMemory>
+    requires { seed ≤ 65536 }
+    ensures { IfOk result (AreSumsOf lines seed) }
+{
+    let mut state = seed;
+    let mut line = LineBuf::new();
+    let mut text = BlockText::new(alloc);
+    let mut sums = Sums::new();
+    for _index in 0..lines {
+        work_line(&mut state, &mut line);
+        match add_line(alloc, line.as_bytes(), &mut text, &mut sums) {
+            Ok(()) => {}
+            Err(NoMemory) => return Err(NoMemory),
+        }
+    }
+    Ok(sums)
+}
+
+/// Adds the block of a line.
+fn add_line(
+    alloc: Global,
+    line: &[u8],
+    text: &mut BlockText,
+    sums: &mut Sums,
+) -> Result<(), NoMemory>
+    requires small { AreSmall sums.old }
+    requires room { sums.old.lines < 65536 }
+    ensures { IfOk result (λ _. AddsLine (batch_line line.now) sums.old sums.new) }
+{
+    match line_outcome(alloc, line) {
+        Ok(Some(outcome)) => add_block(outcome, text, sums),
+        Ok(None) => Ok(()),
+        Err(NoMemory) => Err(NoMemory),
+    }
+}
+
+/// Adds the block of an outcome.
+fn add_block(outcome: Outcome, text: &mut BlockText, sums: &mut Sums) -> Result<(), NoMemory>
+    requires has_text { HasText outcome }
+    requires small { AreSmall sums.old }
+    requires room { sums.old.lines < 65536 }
+    ensures sums { IfOk result (λ _. sums.new ≡ sums_with sums.old (text_of outcome)) }
+    ensures small { IfOk result (λ _. AreSmall sums.new) }
+    ensures printable { IfOk result (λ _. HasBlock outcome) }
+{
+    let mut outcome = outcome;
+    text.clear();
+    // A put into memory fails only where memory is refused.
+    if !put_text(&mut outcome, text) {
+        return Err(NoMemory);
+    }
+    sums.add(text.bytes());
+    Ok(())
+}
