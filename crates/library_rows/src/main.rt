@@ -1,12 +1,9 @@
-//! Calls of the library with their answers, a line a row. Each module shows one crate; what it prints is compared with
-//! `stdout`, whose lines were written from the definitions and from outside values.
+//! Calls of the library with their answers, a line a row: numbers, partitions, permutations and tables. What it prints is
+//! compared with `stdout`, whose lines were written from the definitions and from outside values.
 #![tactic(auto)]
 
-mod expansion_rows;
-mod expression_rows;
 mod partition_rows;
 mod permutation_rows;
-mod plain_rows;
 mod scalar_rows;
 mod table_rows;
 
@@ -14,8 +11,5 @@ fn main(rt: HostRuntime) -> anyhow::Result<()> {
     scalar_rows::print(&rt)?;
     partition_rows::print(&rt)?;
     permutation_rows::print(&rt)?;
-    table_rows::print(&rt)?;
-    expression_rows::print(&rt)?;
-    plain_rows::print(&rt)?;
-    expansion_rows::print(&rt)
+    table_rows::print(&rt)
 }

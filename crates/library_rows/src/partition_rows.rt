@@ -2,6 +2,7 @@
 use anyhow::Result;
 use calc_base::Lister;
 use partitions::{Partition, PartitionsOf};
+use row_texts::{line, truth};
 use std::alloc::Global;
 use std::cmp::Ordering;
 
@@ -100,11 +101,6 @@ fn number(rt: &impl Print, what: &str, answer: u16) -> Result<()> {
     Ok(println!(rt; "{what}: {answer}")?)
 }
 
-/// Prints a line with yes or no.
-pub fn truth(rt: &impl Print, what: &str, answer: bool) -> Result<()> {
-    Ok(println!(rt; "{what}: {}", if answer { "yes" } else { "no" })?)
-}
-
 fn order(rt: &impl Print, what: &str, answer: Ordering) -> Result<()> {
     let text = match answer {
         Ordering::Less => "first before second",
@@ -112,21 +108,4 @@ fn order(rt: &impl Print, what: &str, answer: Ordering) -> Result<()> {
         Ordering::Greater => "second before first",
     };
     Ok(println!(rt; "{what}: {text}")?)
-}
-
-/// Prints a line with numbers in brackets.
-pub fn line(rt: &impl Print, what: &str, parts: &[u16]) -> Result<()> {
-    print!(rt; "{what}: ")?;
-    label(rt, parts)?;
-    Ok(println!(rt)?)
-}
-
-/// Prints numbers in brackets.
-pub fn label(rt: &impl Print, parts: &[u16]) -> Result<()> {
-    print!(rt; "(")?;
-    for (at, part) in parts.iter().enumerate() {
-        let comma = if at == 0 { "" } else { "," };
-        print!(rt; "{comma}{part}")?;
-    }
-    Ok(print!(rt; ")")?)
 }

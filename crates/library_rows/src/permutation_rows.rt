@@ -1,7 +1,7 @@
 //! Rows of permutations: the letters of each in brackets, as labels are printed.
-use crate::partition_rows::{line, truth};
 use anyhow::Result;
 use perm_codes::Perm;
+use row_texts::{line, truth};
 use std::alloc::Global;
 
 /// Prints the rows of the crate `perm_codes`.

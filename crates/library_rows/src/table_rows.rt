@@ -1,9 +1,9 @@
 //! Rows of tables of terms.
-use crate::partition_rows::{label, truth};
 use anyhow::Result;
 use calc_base::{Lister, SumFault};
 use coeff_rings::{Int, Ring, Scalar};
 use partitions::{Partition, PartitionsOf};
+use row_texts::{label, truth};
 use sparse_polys::{Lin, Terms};
 use std::alloc::Global;
 

@@ -1,5 +1,4 @@
 //! Rows of the plain programs, which go by their definitions.
-use crate::partition_rows::truth;
 use anyhow::Result;
 use plain_programs::{
     Core, Signed, plain_alcove, plain_arrangements, plain_beta, plain_column_reading,
@@ -8,6 +7,7 @@ use plain_programs::{
     plain_reading_word, plain_readings_with_content, plain_removal, plain_sorted_parts,
     plain_tableau_readings, plain_tableaux, plain_words,
 };
+use row_texts::truth;
 use std::alloc::Global;
 
 /// Prints the rows of the crate `plain_programs`.

@@ -1,0 +1,11 @@
+//! Calls on skew shapes and their tableaux with their answers, a line a row. What it prints is compared with `stdout`, whose
+//! lines were written from the definitions and from outside values.
+#![tactic(auto)]
+
+mod listed;
+mod moved;
+
+fn main(rt: HostRuntime) -> anyhow::Result<()> {
+    listed::print(&rt)?;
+    moved::print(&rt)
+}
