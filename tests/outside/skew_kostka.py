@@ -1,0 +1,34 @@
+#!/usr/bin/env python3
+"""Prints how many semistandard tableaux of some skew shapes have some contents, by Debian's `lrcalc`: `skew_kostka.py`.
+
+A skew Schur polynomial is expanded in Schur polynomials by `lrcalc skew`, and the coefficient of each in the product of
+the rows of the content is counted by `lrcalc mult`. The order of the content does not count. Each line is one of those that
+`tableau_rows` prints for `Fillings::with_content`."""
+from kostka import rows_of, terms
+
+CASES = [
+    ((3, 2, 1), (1,), (2, 2, 1)),
+    ((4, 3, 2), (2, 1), (1, 2, 3)),
+    ((4, 3, 2), (2, 1), (0, 3, 0, 2, 1)),
+    ((4, 4, 3), (2,), (3, 3, 3)),
+    ((5, 4, 3, 2, 1), (3, 2, 1), (2, 1, 2, 1, 2, 1)),
+    ((2, 2), (2, 2), ()),
+]
+
+
+def number(outer, inner, content):
+    schur = terms(["lrcalc", "skew", *map(str, outer), "/", *map(str, inner or (0,))])
+    if not sum(outer) - sum(inner):
+        schur = {(): 1}
+    rows = rows_of(tuple(sorted((a for a in content if a), reverse=True)))
+    return sum(ways * rows[label] for label, ways in schur.items())
+
+
+def main():
+    for outer, inner, content in CASES:
+        text = " / ".join("(" + ",".join(map(str, shape)) + ")" for shape in (outer, inner))
+        print(f"tableaux of {text} with content ({','.join(map(str, content))}): {number(outer, inner, content)}")
+
+
+if __name__ == "__main__":
+    main()
