@@ -1,5 +1,5 @@
 /* Changes of basis by Symmetrica: `change FROM TO SIZE` changes each partition of the size, one by one, from one basis into
-   another (s to p, or h to e), and prints how many terms there are in all. */
+   another (s to p, m to s, or h to e), and prints how many terms there are in all. */
 #include <stdio.h>
 #include <stdlib.h>
 #include <string.h>
@@ -20,6 +20,9 @@ int main(int count, char **words)
         if (strcmp(words[1], "s") == 0) {
             m_pa_s(S_V_I(parts, i), one);
             t_SCHUR_POWSYM(one, f);
+        } else if (strcmp(words[1], "m") == 0) {
+            m_pa_mon(S_V_I(parts, i), one);
+            t_MONOMIAL_SCHUR(one, f);
         } else {
             m_pa_h(S_V_I(parts, i), one);
             t_HOMSYM_ELMSYM(one, f);
