@@ -23,9 +23,9 @@ use std::alloc::Global;
 
 /// Runs the command that the words name, without the program's name, and puts its text to the sink.
 ///
-/// The commands are `mult`, `skew`, `coef`, `coprod`, `tab`, `quantum`, `fusion`, `schubert`, `schubmult`, `expand` into m,
-/// e, h and p, and `batch`. The text is a line for each term of the answer, or of `tab` for each tableau, and `0` where there
-/// is none.
+/// The commands are `mult`, `skew`, `coef`, `coprod`, `tab`, `quantum`, `fusion`, `schubert`, `schubmult`, `expand` into m, e,
+/// h, p and s, `rsk`, `unrsk`, `rect`, `batch` and `work`. The text is a line for each term of the answer, or of `tab` for each
+/// tableau, and `0` where there is none; two tableaux, a word or a tableau for the three commands after `expand`.
 ///
 /// In this order: the words are read, and refused by one line where they are no command (`Syntax`) or offend (`Range`, or
 /// `Past` for a number that is too large). The whole answer is computed, and refused by the line `! Large` (`Past`) only
@@ -36,7 +36,8 @@ use std::alloc::Global;
 ///
 /// `batch` runs each line of the source as a command, and puts its block, a refusal too, as soon as the line is read, with the
 /// line `--` between two blocks. It ends with `SomeRefused` where a line was refused, and with `SourceFault` after the lines
-/// that were wholly read where a call of the source failed. Other commands do not touch the source.
+/// that were wholly read where a call of the source failed. Other commands do not touch the source. `work` runs generated
+/// lines in this way, and puts sums over their blocks.
 pub fn run<S: Source, K: Sink>(
     alloc: Global,
     words: &[String],
@@ -44,7 +45,7 @@ pub fn run<S: Source, K: Sink>(
     sink: &mut K,
 ) -> Status
     // Where the answer is `Done`, the text read back is a canonical list of terms, and that list is what the command that the
-    // words spell names, by the defining polynomials; of `tab` the text is the lines of the lattice tableaux in their order.
+    // words spell names, by the defining polynomials; of commands on tableaux the text is what is defined for them.
     ensures headline { result ≡ Status.Done → (before : List ℕ) → K.written sink.old ≡ Some before
         → PrintsAnswerTo (map string_bytes words.now) before (K.written sink.new) }
 

@@ -99,10 +99,12 @@ pub enum Command {
 
 /// Reads the words of a command.
 ///
-/// The commands are `mult`, `skew`, `coef`, `coprod`, `tab`, `quantum` and `fusion` with their partitions, `schubert` and `schubmult`
-/// with their permutations, `expand` with the letter `m`, `e`, `h` or `p` of a target and an expression, `rsk` with its letters,
-/// `unrsk` with two tableaux, `rect` with two partitions and a tableau, `batch`, and `work` with its two numbers. Words that are no command are refused as `Syntax`, at the word where they go wrong, and in the word of an expression at the byte after
-/// its longest prefix that begins one. Otherwise the first offence is refused, as `calc_words::read_mult` and its like and
+/// The commands are `mult`, `skew`, `coef`, `coprod`, `tab`, `quantum` and `fusion` with their partitions, `schubert` and
+/// `schubmult` with their permutations, `expand` with the letter `m`, `e`, `h`, `p` or `s` of a target and an expression, `rsk`
+/// with its letters, `unrsk` with two tableaux, `rect` with two partitions and a tableau, `batch`, and `work` with its two
+/// numbers. Words that are no command are refused as `Syntax`, at the word where they go wrong, and in the word of an
+/// expression at the byte after its longest prefix that begins one. Otherwise the first offence is refused, as
+/// `calc_words::read_mult` and its like and
 /// `calc_expressions::read_expression` say.
 pub fn read_words(alloc: Global, words: &[String]) -> Result<Command, WordsFault>
     ensures read { IsRead (map string_bytes words.now) result }
