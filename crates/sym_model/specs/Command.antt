@@ -1,27 +1,29 @@
 -- The commands, over plain lists and numbers (this project's own).
-use Rattle.std.specs.Prelude.{ℕ, List, Option}
+use Rattle.std.specs.Prelude.{ℕ, Bool, List, Option}
 use Rattle.sym_model.specs.Expansion.{Basis}
 use Rattle.sym_model.specs.Expression.{Tree}
 
--- a command: partitions, permutations, letters and column readings are lists of numbers, tableaux the lists of their rows
--- (this project's own)
+-- a command: partitions, permutations, letters and column readings are lists of numbers, factors are lists of partitions,
+-- tableaux the lists of their rows (this project's own)
 pub data Command : Type 0 where
-  -- mult rows left right: the product in s, in so many variables where a number is there
-  mult : Option ℕ → List ℕ → List ℕ → Command
-  -- skew rows outer inner
-  skew : Option ℕ → List ℕ → List ℕ → Command
+  -- mult rows one_line factors: the product in s, in so many variables where a number is there, on one line where it is so
+  -- asked
+  mult : Option ℕ → Bool → List (List ℕ) → Command
+  -- skew rows one_line outer inner
+  skew : Option ℕ → Bool → List ℕ → List ℕ → Command
   -- coef outer left right
   coef : List ℕ → List ℕ → List ℕ → Command
   coprod : List ℕ → Command
   -- tab outer inner after: the lattice tableaux, from behind the one that has this column reading
   tab : List ℕ → List ℕ → Option (List ℕ) → Command
-  -- quantum rows columns left right
-  quantum : ℕ → ℕ → List ℕ → List ℕ → Command
-  -- fusion rows level left right
-  fusion : ℕ → ℕ → List ℕ → List ℕ → Command
+  -- quantum rows columns factors
+  quantum : ℕ → ℕ → List (List ℕ) → Command
+  -- fusion rows level factors
+  fusion : ℕ → ℕ → List (List ℕ) → Command
   schubert : List ℕ → Command
   schubmult : List ℕ → List ℕ → Command
-  expand : Basis → Tree → Command
+  -- expand target one_line expression
+  expand : Basis → Bool → Tree → Command
   rsk : List ℕ → Command
   -- unrsk insertion_tableau recording_tableau
   unrsk : List (List ℕ) → List (List ℕ) → Command

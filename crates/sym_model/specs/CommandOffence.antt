@@ -76,6 +76,10 @@ most_parts = 64
 abbrev pub most_cells : ℕ
 most_cells = 512
 
+-- the most factors of a product
+abbrev pub most_factors : ℕ
+most_factors = 8
+
 -- the most letters of a permutation that is written, and the greatest of them
 abbrev pub most_permuted : ℕ
 most_permuted = 16
@@ -149,6 +153,15 @@ inside_rule outer before a = when (nat_lt (part outer (length before + 1)) a) sh
 -- a partition at the word
 abbrev pub part_offences : ℕ → List ℕ → List Offence
 part_offences k numbers = offences_by part_rule k numbers
+
+-- partitions after so many others, with a word between them, the first of which begins at the word: those of each, and the
+-- word in front of the ninth
+abbrev pub factor_offences : ℕ → ℕ → List (List ℕ) → List Offence
+factor_offences count k [] = []
+factor_offences count k (numbers ∷ factors) =
+    cond (count == most_factors) ((k - 1, 0, range) ∷ []) []
+    ++ part_offences k numbers
+    ++ factor_offences (count + 1) (k + length numbers + 1) factors
 
 -- a permutation at the word
 abbrev pub permutation_offences : ℕ → List ℕ → List Offence

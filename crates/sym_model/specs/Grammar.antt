@@ -12,8 +12,8 @@ use Rattle.sym_model.specs.Permutation.{kept}
 use Rattle.sym_model.specs.ExpressionOffence.{shape}
 use Rattle.sym_model.specs.Form.{Form, word, many, number, target, formula, Written, words_of}
 use Rattle.sym_model.specs.Command.{Command, mult, skew, coef, coprod, tab, quantum, fusion, schubert, schubmult, expand, rsk, unrsk, rect, batch, work}
-use Rattle.sym_model.specs.CommandOffence.{Offence, judged_against, offences_by, rows_rule, lines_rule, seed_rule, letter_rule, entry_rule, inside_rule, part_offences, permutation_offences, PlacedRow, row_offences, count_offences, order_offences, length_offences, empty_row_offences, standard_offences, rows_in, is_lattice_tableau, expression_offences}
-use Rattle.sym_model.specs.WordForms.{the, in_turn, optional, partition_words, permutation_words, rows_words, tableau_words, from_words, numbers, partition, letters, row_limit, row_limit_offences, placed_rows, tableau_rows, shape_offences}
+use Rattle.sym_model.specs.CommandOffence.{Offence, judged_against, offences_by, rows_rule, lines_rule, seed_rule, letter_rule, entry_rule, inside_rule, part_offences, factor_offences, permutation_offences, PlacedRow, row_offences, count_offences, order_offences, length_offences, empty_row_offences, standard_offences, rows_in, is_lattice_tableau, expression_offences}
+use Rattle.sym_model.specs.WordForms.{the, in_turn, optional, partition_words, permutation_words, rows_words, form_words, factors_words, tableau_words, from_words, numbers, partition, factors, factor_numbers, is_one_line, letters, row_limit, row_limit_offences, placed_rows, tableau_rows, shape_offences}
 use Rattle.sym_model.specs.Entry.{Entry}
 
 -- the offences of two partitions with a word between them, the first of which begins at the word
@@ -21,37 +21,43 @@ abbrev pub two_partitions : ℕ → List (List ℕ) → List (List ℕ) → List
 two_partitions k left right =
     part_offences k (numbers left) ++ part_offences (k + length left + 1) (numbers right)
 
--- 'mult' ROWS? PART '-' PART
+-- how many words the row limit and the word for the one-line form are
+abbrev pub option_words : Written (optional rows_words) → Written (optional form_words) → ℕ
+option_words limit form = length (words_of (optional rows_words) limit) + length (words_of (optional form_words) form)
+
+-- 'mult' ROWS? FORM? PART ('-' PART)+
 abbrev pub mult_words : Form
-mult_words =
-    in_turn (the (codes "mult") ∷ optional rows_words ∷ partition_words ∷ the (codes "-") ∷ partition_words ∷ [])
+mult_words = in_turn (the (codes "mult") ∷ optional rows_words ∷ optional form_words ∷ factors_words ∷ [])
 
 -- what the words of `mult` say
 abbrev pub mult_says : Written mult_words → Command
-mult_says (name, (limit, (left, (minus, right)))) = mult (row_limit limit) (partition left) (partition right)
+mult_says (name, (limit, (form, x))) = mult (row_limit limit) (is_one_line form) (factors x)
 
 -- what the words of `mult` offend by
 abbrev pub mult_offends : Written mult_words → List Offence
-mult_offends (name, (limit, (left, (minus, right)))) =
-    row_limit_offences 1 limit ++ two_partitions (1 + length (words_of (optional rows_words) limit)) left right
+mult_offends (name, (limit, (form, x))) =
+    row_limit_offences 1 limit ++ factor_offences 0 (1 + option_words limit form) (factor_numbers x)
 
 -- the command `mult`
 abbrev pub mult_entry : Entry
 mult_entry = record { name = codes "mult"; form = mult_words; says = mult_says; offends = mult_offends }
 
--- 'skew' ROWS? PART '/' PART
+-- 'skew' ROWS? FORM? PART '/' PART
 abbrev pub skew_words : Form
 skew_words =
-    in_turn (the (codes "skew") ∷ optional rows_words ∷ partition_words ∷ the (codes "/") ∷ partition_words ∷ [])
+    in_turn
+    (the (codes "skew") ∷ optional rows_words ∷ optional form_words ∷ partition_words ∷ the (codes "/") ∷ partition_words
+    ∷ [])
 
 -- what the words of `skew` say
 abbrev pub skew_says : Written skew_words → Command
-skew_says (name, (limit, (outer, (slash, inner)))) = skew (row_limit limit) (partition outer) (partition inner)
+skew_says (name, (limit, (form, (outer, (slash, inner))))) =
+    skew (row_limit limit) (is_one_line form) (partition outer) (partition inner)
 
 -- what the words of `skew` offend by
 abbrev pub skew_offends : Written skew_words → List Offence
-skew_offends (name, (limit, (outer, (slash, inner)))) =
-    row_limit_offences 1 limit ++ two_partitions (1 + length (words_of (optional rows_words) limit)) outer inner
+skew_offends (name, (limit, (form, (outer, (slash, inner))))) =
+    row_limit_offences 1 limit ++ two_partitions (1 + option_words limit form) outer inner
 
 -- the command `skew`
 abbrev pub skew_entry : Entry
@@ -130,22 +136,20 @@ tab_offends (name, (outer, (slash, (inner, after)))) =
 abbrev pub tab_entry : Entry
 tab_entry = record { name = codes "tab"; form = tab_words; says = tab_says; offends = tab_offends }
 
--- the name, NUM NUM PART '-' PART
+-- the name, NUM NUM PART ('-' PART)+
 abbrev pub reduction_words : List ℕ → Form
-reduction_words name =
-    in_turn (the name ∷ word number ∷ word number ∷ partition_words ∷ the (codes "-") ∷ partition_words ∷ [])
+reduction_words name = in_turn (the name ∷ word number ∷ word number ∷ factors_words ∷ [])
 
 -- what the words of `quantum` and `fusion` offend by
 abbrev pub reduction_offends : (name : List ℕ) → Written (reduction_words name) → List Offence
-reduction_offends name (first, (rows, (bound, (left, (minus, right))))) =
+reduction_offends name (first, (rows, (bound, x))) =
     offences_by rows_rule 1 (decimal_value rows ∷ [])
     ++ offences_by rows_rule 2 (decimal_value bound ∷ [])
-    ++ two_partitions 3 left right
+    ++ factor_offences 0 3 (factor_numbers x)
 
--- what the words of `quantum` say: 'quantum' NUM NUM PART '-' PART
+-- what the words of `quantum` say: 'quantum' NUM NUM PART ('-' PART)+
 abbrev pub quantum_says : Written (reduction_words (codes "quantum")) → Command
-quantum_says (name, (rows, (columns, (left, (minus, right))))) =
-    quantum (decimal_value rows) (decimal_value columns) (partition left) (partition right)
+quantum_says (name, (rows, (columns, x))) = quantum (decimal_value rows) (decimal_value columns) (factors x)
 
 -- the command `quantum`
 abbrev pub quantum_entry : Entry
@@ -156,10 +160,9 @@ quantum_entry = record {
   offends = reduction_offends (codes "quantum");
 }
 
--- what the words of `fusion` say: 'fusion' NUM NUM PART '-' PART
+-- what the words of `fusion` say: 'fusion' NUM NUM PART ('-' PART)+
 abbrev pub fusion_says : Written (reduction_words (codes "fusion")) → Command
-fusion_says (name, (rows, (level, (left, (minus, right))))) =
-    fusion (decimal_value rows) (decimal_value level) (partition left) (partition right)
+fusion_says (name, (rows, (level, x))) = fusion (decimal_value rows) (decimal_value level) (factors x)
 
 -- the command `fusion`
 abbrev pub fusion_entry : Entry
@@ -214,17 +217,19 @@ schubmult_entry = record {
   offends = schubmult_offends;
 }
 
--- 'expand' BASIS EXPR, with these bases
+-- 'expand' FORM? BASIS EXPR, with these bases
 abbrev pub expand_words : List Basis → Form
-expand_words bases = in_turn (the (codes "expand") ∷ word (target bases) ∷ word formula ∷ [])
+expand_words bases =
+    in_turn (the (codes "expand") ∷ optional form_words ∷ word (target bases) ∷ word formula ∷ [])
 
 -- what the words of `expand` say
 abbrev pub expand_says : (bases : List Basis) → Written (expand_words bases) → Command
-expand_says bases (name, (basis, phrase)) = expand basis (tree phrase)
+expand_says bases (name, (form, (basis, phrase))) = expand basis (is_one_line form) (tree phrase)
 
 -- what the words of `expand` offend by
 abbrev pub expand_offends : (bases : List Basis) → Written (expand_words bases) → List Offence
-expand_offends bases (name, (basis, phrase)) = expression_offences 2 basis phrase
+expand_offends bases (name, (form, (basis, phrase))) =
+    expression_offences (2 + length (words_of (optional form_words) form)) basis phrase
 
 -- the command `expand`
 abbrev pub expand_entry : List Basis → Entry

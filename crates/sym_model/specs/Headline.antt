@@ -3,15 +3,16 @@ use Rattle.std.specs.Prelude.{◌≡◌, ℕ, List, Some}
 use Rattle.sym_model.specs.Expansion.{Terms}
 use Rattle.sym_model.specs.Kind.{Kind, Label, label_rules}
 use Rattle.sym_model.specs.Canonical.{IsCanonicalBy}
-use Rattle.sym_model.specs.PrintedBlock.{read_by}
+use Rattle.sym_model.specs.PrintedForm.{printed_form, read_in}
 use Rattle.sym_model.specs.Answer.{answer}
 use Rattle.sym_model.specs.Command.{Command}
 use Rattle.sym_model.specs.Target.{Meets}
 
--- the text, read back, is a canonical list of terms, and that list is what the command names
+-- the text, read back in the form that the command asks for, is a canonical list of terms, and that list is what the command
+-- names
 pub record ReadsBack (command : Command) (text : List ℕ) : Type 0 where
   pub kind : Kind
   pub terms : Terms (Label kind)
-  pub reads : read_by (label_rules kind) text ≡ Some terms
+  pub reads : read_in (printed_form command) kind text ≡ Some terms
   pub canonical : IsCanonicalBy (label_rules kind) terms
   pub meets : Meets command (answer kind terms)

@@ -1,16 +1,17 @@
 -- When the answer to a command is too large for numbers of 128 bits (this project's own): by the coefficients that its
 -- definition gives, or by a weight that bounds all that is computed.
-use Rattle.std.specs.Prelude.{◌≡◌, ℕ, ◌+◌, ◌*◌, ◌^◌, ◌≤◌, nat_le, nat_abs, max, Bool, false, cond, ℤ, pos, negsuc, List, [], ◌∷◌, length, Option, Some, None, IsTrue}
+use Rattle.std.specs.Prelude.{◌≡◌, ℕ, ◌+◌, ◌*◌, ◌^◌, ◌≤◌, nat_le, nat_abs, max, Bool, false, cond, ℤ, pos, negsuc, List, [], ◌∷◌, map, length, Option, Some, None, IsTrue}
 use Rattle.sym_model.specs.Sum.{total}
 use Rattle.sym_model.specs.Polynomial.{Term, Poly, coefficient}
-use Rattle.sym_model.specs.Partition.{IsPartition, Holds, rows}
+use Rattle.sym_model.specs.Partition.{IsPartition, Holds, size, rows}
 use Rattle.sym_model.specs.PlaceOrders.{inversions}
 use Rattle.sym_model.specs.Schur.{skew_schur}
 use Rattle.sym_model.specs.Alternant.{schur_coefficient}
 use Rattle.sym_model.specs.Schubert as polynomials
-use Rattle.sym_model.specs.WholeTerms as terms
 use Rattle.sym_model.specs.Weight as expressions
-use Rattle.sym_model.specs.Target.{schur_product, classical_product}
+use Rattle.sym_model.specs.Target.{schur_product}
+use Rattle.sym_model.specs.ReductionSteps.{IsQuantumWeight, IsFusionWeight}
+pub use Rattle.sym_model.specs.ReductionSteps.{classical_weight}
 use Rattle.sym_model.specs.Command.{Command, mult, skew, coef, coprod, quantum, fusion, schubert, schubmult, expand}
 
 -- c is the Schur coefficient of the polynomial f in n variables at some partition with at most n rows
@@ -34,10 +35,10 @@ variables_or (Some k) enough = k
 
 -- the defined coefficients of a command, where its definition gives them
 abbrev pub IsDefinedCoefficient : Command → ℤ → Type 0
-IsDefinedCoefficient (mult variables left right) c =
-    let n = variables_or variables (rows left + rows right) in
-    IsSchurCoefficientOf (schur_product (left ∷ right ∷ []) n) n c
-IsDefinedCoefficient (skew variables outer inner) c =
+IsDefinedCoefficient (mult variables one_line factors) c =
+    let n = variables_or variables (size (map rows factors)) in
+    IsSchurCoefficientOf (schur_product factors n) n c
+IsDefinedCoefficient (skew variables one_line outer inner) c =
     let n = variables_or variables (rows outer) in
     IsSchurCoefficientOf (skew_schur outer inner n) n c
 IsDefinedCoefficient (coef outer left right) c =
@@ -57,10 +58,6 @@ HasPastCoefficient command = (c : ℤ) × IsDefinedCoefficient command c × IsTr
 
 -- ---- weights
 
--- the weight of the classical product in k variables: the sum of its coefficients
-abbrev pub classical_weight : ℕ → List (List ℕ) → ℕ
-classical_weight k factors = terms.absolute_total (classical_product k factors)
-
 -- the value of a polynomial where each variable is 1
 abbrev pub value_at_ones : Poly → ℤ
 value_at_ones f = total (λ (t : Term). t.1) f
@@ -76,14 +73,15 @@ pair_weight u v =
     let w = shorter u v in
     nat_abs (value_at_ones (polynomials.schubert w)) * (max (length u) (length v) + inversions w) ^ inversions w
 
--- the weight of a command, where its definition gives one
+-- a weight of a command, where its definition gives one: of a quantum or fusion product each of its step weights, the
+-- greatest of which is the weight of the command
 abbrev pub HasWeight : Command → ℕ → Type 0
-HasWeight (quantum k columns left right) weight = weight ≡ classical_weight k (left ∷ right ∷ [])
-HasWeight (fusion k level left right) weight = weight ≡ classical_weight k (left ∷ right ∷ [])
+HasWeight (quantum k columns factors) weight = IsQuantumWeight k (k + columns) factors weight
+HasWeight (fusion k level factors) weight = IsFusionWeight k (k + level) factors weight
 HasWeight (schubmult u v) weight = weight ≡ pair_weight u v
-HasWeight (expand target e) weight = weight ≡ expressions.weight target e
+HasWeight (expand target one_line e) weight = weight ≡ expressions.weight target e
 HasWeight _ weight = ⊥
 
--- the weight of the command is 2^127 or more
+-- a weight of the command is 2^127 or more
 abbrev pub IsHeavy : Command → Type 0
 IsHeavy command = (weight : ℕ) × HasWeight command weight × (2 ^ 127 ≤ weight)

@@ -52,6 +52,9 @@ pub mod TableauText
 pub mod Workload
 pub mod Answer
 pub mod Target
+pub mod ReductionSteps
+pub mod OneLine
+pub mod PrintedForm
 pub mod LargeAnswer
 pub mod ListWeight
 pub mod RefusalText

@@ -12,7 +12,8 @@ use Rattle.sym_model.specs.CommandOffence.{Offence}
 use Rattle.sym_model.specs.Command.{Command, tab, rsk, unrsk, rect, batch, work}
 use Rattle.sym_model.specs.Entry.{Entry, SpellsWithoutOffence, HasFirstOffence}
 use Rattle.sym_model.specs.SyntaxPlace.{IsSyntaxPlace}
-use Rattle.sym_model.specs.Answer.{Answer, answer_text, IsPrintable}
+use Rattle.sym_model.specs.Answer.{Answer, IsPrintable}
+use Rattle.sym_model.specs.PrintedForm.{printed_form, answer_text_in}
 use Rattle.sym_model.specs.Target.{Meets}
 use Rattle.sym_model.specs.LargeAnswer.{HasPastCoefficient, IsHeavy}
 use Rattle.sym_model.specs.Ending.{Ending, done, syntax, range, past}
@@ -42,12 +43,12 @@ pub record IsOffending (entries : List Entry) (words : List (List ℕ)) (text : 
 
 -- ---- commands that name an expansion
 
--- the text is the block of an answer that is what the command names
+-- the text is an answer that is what the command names, in the form that the command asks for
 pub record PrintsAnswer (command : Command) (text : List ℕ) : Type 0 where
   pub answer : Answer
   pub printable : IsPrintable answer
   pub meets : Meets command answer
-  pub printed : text ≡ answer_text answer
+  pub printed : text ≡ answer_text_in (printed_form command) answer
 
 -- the answer is to be refused as too large: a defined coefficient is past the limit
 abbrev pub MustBeLarge : Command → Type 0

@@ -79,21 +79,20 @@ reflected_terms k n terms = each (λ (t : List ℕ × ℤ). reflected_term t.1 (
 
 -- the answer is what the command names; no answer is that of a command which names no expansion
 abbrev pub Meets : Command → Answer → Type 0
-Meets (mult variables left right) (answer product terms) =
-    ExpandsInSchurs variables (schur_product (left ∷ right ∷ [])) terms
-Meets (skew variables outer inner) (answer product terms) = ExpandsInSchurs variables (skew_schur outer inner) terms
+Meets (mult variables one_line factors) (answer product terms) = ExpandsInSchurs variables (schur_product factors) terms
+Meets (skew variables one_line outer inner) (answer product terms) = ExpandsInSchurs variables (skew_schur outer inner) terms
 Meets (coef outer left right) (answer number terms) =
     number_in terms ≡ schur_coefficient (rows outer) outer (schur_product (left ∷ right ∷ []) (rows outer))
 Meets (coprod shape) (answer pairs terms) =
     (n k : ℕ) → Represents (pair_polynomial n k) terms (schur shape (n + k)) 1
-Meets (quantum k columns left right) (answer powers terms) =
-    IsRimHookReduction k (k + columns) (classical_product k (left ∷ right ∷ [])) terms
-Meets (fusion k level left right) (answer product terms) =
-    Same (numerators terms) (reflected_terms k (k + level) (classical_product k (left ∷ right ∷ [])))
+Meets (quantum k columns factors) (answer powers terms) =
+    IsRimHookReduction k (k + columns) (classical_product k factors) terms
+Meets (fusion k level factors) (answer product terms) =
+    Same (numerators terms) (reflected_terms k (k + level) (classical_product k factors))
 Meets (schubert w) (answer polynomial terms) =
     (n : ℕ) → Represents (λ exponents. x_to_in exponents n) terms (schubert_in w n) 1
 Meets (schubmult u v) (answer permutations terms) =
     (n : ℕ) → Represents (λ w. schubert_in w n) terms (times (schubert_in u n) (schubert_in v n)) 1
-Meets (expand target e) (answer expansion terms) =
+Meets (expand target one_line e) (answer expansion terms) =
     (n : ℕ) → IsExpansionOf target terms n (cleared_value e n) (denominator e)
 Meets _ _ = ⊥

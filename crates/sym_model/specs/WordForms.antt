@@ -1,5 +1,5 @@
 -- The forms of the parts that commands are made of, and what their words say (this project's own).
-use Rattle.std.specs.Prelude.{ℕ, ◌+◌, false, cond, List, [], ◌∷◌, map, length, codes, Option, Some, None}
+use Rattle.std.specs.Prelude.{ℕ, ◌+◌, Bool, true, false, cond, List, [], ◌∷◌, map, length, codes, Option, Some, None}
 use Rattle.std.proofs.Common.{zero, suc, inl, inr}
 use Rattle.sym_model.specs.Partition.{without_last_zeros}
 use Rattle.sym_model.specs.PrintedBlock.{decimal_value}
@@ -33,6 +33,18 @@ permutation_words = sequence (word number) partition_words
 abbrev pub rows_words : Form
 rows_words = sequence (the (codes "-r")) (word number)
 
+-- FORM := '-m'
+abbrev pub form_words : Form
+form_words = the (codes "-m")
+
+-- what stands between two factors, and the factor after it: '-' PART
+abbrev pub next_words : Form
+next_words = sequence (the (codes "-")) partition_words
+
+-- PART ('-' PART)+
+abbrev pub factors_words : Form
+factors_words = in_turn (partition_words ∷ next_words ∷ many next_words ∷ [])
+
 -- ROW := '.' | NUM+
 abbrev pub row_words : Form
 row_words = either (the (codes ".")) permutation_words
@@ -52,6 +64,20 @@ numbers digits = map decimal_value digits
 -- the partition of number words
 abbrev pub partition : List (List ℕ) → List ℕ
 partition digits = without_last_zeros (numbers digits)
+
+-- the numbers of each factor as they are written
+abbrev pub factor_numbers : Written factors_words → List (List ℕ)
+factor_numbers (first, (second, others)) =
+    numbers first ∷ numbers second.1 ∷ map (λ (next : Written next_words). numbers next.1) others
+
+-- the factors
+abbrev pub factors : Written factors_words → List (List ℕ)
+factors x = map without_last_zeros (factor_numbers x)
+
+-- whether the word for the one-line form is there
+abbrev pub is_one_line : Written (optional form_words) → Bool
+is_one_line (inl x) = false
+is_one_line (inr x) = true
 
 -- the letters of a permutation as they are written
 abbrev pub letters : Written permutation_words → List ℕ
