@@ -1,6 +1,6 @@
 -- The Schur coefficients of products and of skew Schur polynomials are counts of good tableaux, in every number of variables;
 -- so a list with these counts as its coefficients stands for the polynomial in every number of variables.
-use Rattle.std.proofs.Common.{◌≡◌, ℕ, ◌+◌, ◌<◌, ◌≤◌, ◌⊎◌, Bool, true, false, cond, List, [], map, length, nat_le, sym, ◌∙◌, ap, subst, inl, inr, arith, pos, ◌*ℤ◌, Option, Some, None}
+use Rattle.std.proofs.Common.{◌≡◌, ℕ, ◌+◌, ◌<◌, ◌≤◌, ◌⊎◌, Bool, true, false, cond, List, [], ◌∷◌, map, length, nat_le, sym, ◌∙◌, ap, subst, inl, inr, arith, pos, ◌*ℤ◌, Option, Some, None}
 use Rattle.std.proofs.lemmas.Int.{ints}
 use Rattle.std.proofs.lemmas.Bool.{cases_lt, cases_Bool, both_ways, lt-leb}
 use Rattle.sym_model.specs.Sum.{total, each, select, Among}
@@ -255,7 +255,7 @@ combined_once n count terms start outer inner p o i c e =
 
 pub mult_meets : (variables : Option ℕ) (left right : List ℕ) (terms : Terms (List ℕ)) → IsPartition left → IsPartition right
     → ListsCounts (variables_or variables (rows left + rows right)) (product_count (variables_or variables (rows left + rows right)) left right) terms
-    → Meets (mult variables left right) (answer product terms)
+    → Meets (mult variables false (left ∷ right ∷ [])) (answer product terms)
 mult_meets None left right terms p q c =
     λ n. represents-whole (λ label. schur label n) terms (times (schur left n) (schur right n)) c.whole
     (combined_always n (product_count (rows left + rows right) left right) terms left right [] p q IsPartition-none (contains_nothing right) c
@@ -267,7 +267,7 @@ mult_meets (Some k) left right terms p q c = (
 )
 
 pub skew_meets : (variables : Option ℕ) (outer inner : List ℕ) (terms : Terms (List ℕ)) → IsPartition outer → IsPartition inner → contains outer inner ≡ true
-    → ListsCounts (variables_or variables (rows outer)) (skew_count outer inner) terms → Meets (skew variables outer inner) (answer product terms)
+    → ListsCounts (variables_or variables (rows outer)) (skew_count outer inner) terms → Meets (skew variables false outer inner) (answer product terms)
 skew_meets None outer inner terms o i holds c =
     λ n. represents-whole (λ label. schur label n) terms (skew_schur outer inner n) c.whole
     (Same_trans (combined (λ label. schur label n) (numerators terms)) (times (schur [] n) (skew_schur outer inner n)) (skew_schur outer inner n)

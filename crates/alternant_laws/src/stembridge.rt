@@ -1,6 +1,6 @@
 //! Stembridge's identity and the Littlewood–Richardson rule.
 
-ghost use Rattle.std.specs.Prelude.{◌≡◌, ℕ, ◌≤◌, ◌+◌, pos, Bool, true, cond, List, [], length, Option};
+ghost use Rattle.std.specs.Prelude.{◌≡◌, ℕ, ◌≤◌, ◌+◌, pos, Bool, true, false, cond, List, [], ◌∷◌, length, Option};
 ghost use Rattle.sym_model.specs.Partition.{IsPartition, rows, without_last_zeros};
 ghost use Rattle.sym_model.specs.Polynomial.{Same, same, coefficient, nothing, join, times};
 ghost use Rattle.sym_model.specs.Schur.{contains, schur, skew_schur};
@@ -64,11 +64,11 @@ pub fn counted_answers_law()
         → IsPartition left → IsPartition right
         → ListsCounts (variables_or variables (rows left + rows right))
         (product_count (variables_or variables (rows left + rows right)) left right) terms
-        → Meets (commands.mult variables left right) (answer kinds.product terms) }
+        → Meets (commands.mult variables false (left ∷ right ∷ [])) (answer kinds.product terms) }
     ensures skew { (variables : Option ℕ) (outer inner : List ℕ) (terms : Terms (List ℕ))
         → IsPartition outer → IsPartition inner → contains outer inner ≡ true
         → ListsCounts (variables_or variables (rows outer)) (skew_count outer inner) terms
-        → Meets (commands.skew variables outer inner) (answer kinds.product terms) }
+        → Meets (commands.skew variables false outer inner) (answer kinds.product terms) }
     ensures coef { (outer left right : List ℕ) (terms : Terms (kinds.Label kinds.number))
         → IsPartition outer → IsPartition left → IsPartition right
         → number_in terms ≡ pos (product_count (rows outer) left right outer)

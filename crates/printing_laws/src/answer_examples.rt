@@ -37,7 +37,7 @@ pub fn target_examples_law()
         ≡ ((1, []), negsuc 4) ∷ [] }
     // (2) lies on the wall
     ensures fusion { reflected_terms 2 3 (classical_product 2 ((1 ∷ []) ∷ (1 ∷ []) ∷ [])) ≡ (1 ∷ 1 ∷ [], pos 1) ∷ [] }
-    ensures fusion_whole { Meets (fusion 2 1 (1 ∷ []) (1 ∷ [])) (answer product ((1 ∷ 1 ∷ [], (pos 1, 1)) ∷ [])) }
+    ensures fusion_whole { Meets (fusion 2 1 ((1 ∷ []) ∷ (1 ∷ []) ∷ [])) (answer product ((1 ∷ 1 ∷ [], (pos 1, 1)) ∷ [])) }
     // (3,2,1) stands twice in the classical product, and (4,2) goes to minus (3,2,1)
     ensures fusion_sign { coefficient (reflected_terms 3 5 (classical_product 3 ((2 ∷ 1 ∷ []) ∷ (2 ∷ 1 ∷ []) ∷ []))) (3 ∷ 2 ∷ 1 ∷ [])
         ≡ pos 1 }

@@ -5,13 +5,11 @@
 #![tactic(auto)]
 
 mod answer_examples;
-mod headline;
 mod kind_examples;
 mod label_orders;
 mod printing;
 
 pub use answer_examples::{outcome_texts_law, target_examples_law};
-pub use headline::headline_law;
 pub use kind_examples::{kind_examples_law, label_examples_law};
 pub use label_orders::label_order_law;
 pub use printing::printed_block_law;

@@ -60,8 +60,8 @@ pub fn removal_examples_law()
     ensures too_wide { ReducesTo 3 6 (4 ∷ 2 ∷ []) None }
     ensures empty { HasNoRemoval 3 [] }
     // what `quantum 2 2 1 - 2 1` and `quantum 2 2 2 2 - 2 2` must be: s_(2,2) + q, and q^2
-    ensures product { Meets (quantum 2 2 (1 ∷ []) (2 ∷ 1 ∷ []))
+    ensures product { Meets (quantum 2 2 ((1 ∷ []) ∷ (2 ∷ 1 ∷ []) ∷ []))
         (answer powers (((0, 2 ∷ 2 ∷ []), (pos 1, 1)) ∷ ((1, []), (pos 1, 1)) ∷ [])) }
-    ensures product_of_squares { Meets (quantum 2 2 (2 ∷ 2 ∷ []) (2 ∷ 2 ∷ []))
+    ensures product_of_squares { Meets (quantum 2 2 ((2 ∷ 2 ∷ []) ∷ (2 ∷ 2 ∷ []) ∷ []))
         (answer powers (((2, []), (pos 1, 1)) ∷ [])) }
 {}

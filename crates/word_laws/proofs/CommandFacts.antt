@@ -1,12 +1,13 @@
 -- Each command has words, and the expression of an `expand` without offence is within its target's degree.
-use Rattle.std.proofs.Common.{◌≡◌, ℕ, ◌≤◌, nat_lt, Bool, true, false, cond, List, [], ◌∷◌, ◌++◌, map, length, refl, sym, ap, ◌∙◌, subst, inl, inr}
+use Rattle.std.proofs.Common.{◌≡◌, ℕ, ◌+◌, ◌≤◌, nat_lt, Bool, true, false, cond, List, [], ◌∷◌, ◌++◌, map, length, refl, sym, ap, ◌∙◌, subst, inl, inr}
 use Rattle.std.proofs.lemmas.Bool.{ltb-false}
 use Rattle.sym_model.specs.Expansion.{Basis, monomials}
 use Rattle.sym_model.specs.Expression.{Tree, number, degree}
 use Rattle.sym_model.specs.Phrase.{Phrase, tree, spelling}
 use Rattle.sym_model.specs.ExpressionOffence.{WordOffence, range, degree_limit, offences_at, marks, offences_of_whole, offences}
 use Rattle.sym_model.specs.Sum.{each}
-use Rattle.sym_model.specs.Form.{Written, EachOf, Has}
+use Rattle.sym_model.specs.Form.{Written, words_of, EachOf, Has}
+use Rattle.sym_model.specs.WordForms.{optional, form_words}
 use Rattle.sym_model.specs.Command.{Command, expand}
 use Rattle.sym_model.specs.CommandOffence.{Offence, expression_offences}
 use Rattle.sym_model.specs.Entry.{Entry, SpellsFreely, SpellsWithoutOffence}
@@ -28,21 +29,21 @@ has_words basis bases =
 
 -- the target and the expression of an expand
 abbrev is_expand : Command → Bool
-is_expand (expand target e) = true
+is_expand (expand target form e) = true
 is_expand _ = false
 
 abbrev target_of : Command → Basis
-target_of (expand target e) = target
+target_of (expand target form e) = target
 target_of _ = monomials
 
 abbrev expression_of : Command → Tree
-expression_of (expand target e) = e
+expression_of (expand target form e) = e
 expression_of _ = number 0
 
 -- an entry that says no expand
-other : (e : Entry) → ((x : Written e.form) → is_expand (e.says x) ≡ false) → (words : Words) (target : Basis) (t : Tree)
-    → SpellsFreely e words (expand target t) → degree t ≤ degree_limit target
-other e n words target t h = absurd (no (ap is_expand h.says_it ∙ n h.has.written))
+other : (e : Entry) → ((x : Written e.form) → is_expand (e.says x) ≡ false) → (words : Words) (target : Basis) (one_line : Bool) (t : Tree)
+    → SpellsFreely e words (expand target one_line t) → degree t ≤ degree_limit target
+other e n words target one_line t h = absurd (no (ap is_expand h.says_it ∙ n h.has.written))
   where
     no : true ≡ false → ⊥
     no h = cc
@@ -55,8 +56,8 @@ no_map : {A B : Type 0} (f : A → B) (os : List A) → map f os ≡ [] → os �
 no_map f [] h = refl
 no_map f (o ∷ os) h = cc
 
-abbrev placed : WordOffence → Offence
-placed o = (2, o.0, o.1)
+abbrev placed : ℕ → WordOffence → Offence
+placed k o = (k, o.0, o.1)
 
 not_past : (limit d : ℕ) (o : WordOffence) → cond (nat_lt limit d) (o ∷ []) [] ≡ [] → d ≤ limit
 not_past limit d o h = ltb-false limit d (by (nat_lt limit d) h)
@@ -72,32 +73,35 @@ within_degree target phrase h =
     let past = (no_append (cond (nat_lt 4096 (length (spelling phrase))) ((4096, range) ∷ []) []) (cond (nat_lt (degree_limit target) (degree (tree phrase))) ((length (spelling phrase), range) ∷ []) []) whole).1 in
     not_past (degree_limit target) (degree (tree phrase)) (length (spelling phrase), range) past
 
-expanded : (bases : List Basis) (words : Words) (target : Basis) (t : Tree) → SpellsFreely (expand_entry bases) words (expand target t)
-    → degree t ≤ degree_limit target
-expanded bases words target t h =
+expanded : (bases : List Basis) (words : Words) (target : Basis) (one_line : Bool) (t : Tree)
+    → SpellsFreely (expand_entry bases) words (expand target one_line t) → degree t ≤ degree_limit target
+expanded bases words target one_line t h =
     let x = h.has.written in
-    let none = no_map placed (offences x.1.0 x.1.1) (empty-none (expression_offences 2 x.1.0 x.1.1) h.no_offence) in
+    let k = 2 + length (words_of (optional form_words) x.1.0) in
+    let basis = x.1.1.0 in
+    let phrase = x.1.1.1 in
+    let none = no_map (placed k) (offences basis phrase) (empty-none (expression_offences k basis phrase) h.no_offence) in
     subst (λ b. degree t ≤ degree_limit b) (sym (ap target_of h.says_it))
-    (subst (λ e. degree e ≤ degree_limit x.1.0) (sym (ap expression_of h.says_it)) (within_degree x.1.0 x.1.1 none))
+    (subst (λ e. degree e ≤ degree_limit basis) (sym (ap expression_of h.says_it)) (within_degree basis phrase none))
 
-pub expression_degree : (bases : List Basis) (words : Words) (target : Basis) (t : Tree)
-    → SpellsWithoutOffence (entries_of bases) words (expand target t) → degree t ≤ degree_limit target
-expression_degree bases words target t h = by h
+pub expression_degree : (bases : List Basis) (words : Words) (target : Basis) (one_line : Bool) (t : Tree)
+    → SpellsWithoutOffence (entries_of bases) words (expand target one_line t) → degree t ≤ degree_limit target
+expression_degree bases words target one_line t h = by h
   where
-    by : SpellsWithoutOffence (entries_of bases) words (expand target t) → degree t ≤ degree_limit target
-    by (inl h) = other mult_entry (λ x. refl) words target t h
-    by (inr (inl h)) = other skew_entry (λ x. refl) words target t h
-    by (inr (inr (inl h))) = other coef_entry (λ x. refl) words target t h
-    by (inr (inr (inr (inl h)))) = other coprod_entry (λ x. refl) words target t h
-    by (inr (inr (inr (inr (inl h))))) = other tab_entry (λ x. refl) words target t h
-    by (inr (inr (inr (inr (inr (inl h)))))) = other quantum_entry (λ x. refl) words target t h
-    by (inr (inr (inr (inr (inr (inr (inl h))))))) = other fusion_entry (λ x. refl) words target t h
-    by (inr (inr (inr (inr (inr (inr (inr (inl h)))))))) = other schubert_entry (λ x. refl) words target t h
-    by (inr (inr (inr (inr (inr (inr (inr (inr (inl h))))))))) = other schubmult_entry (λ x. refl) words target t h
-    by (inr (inr (inr (inr (inr (inr (inr (inr (inr (inl h)))))))))) = expanded bases words target t h
-    by (inr (inr (inr (inr (inr (inr (inr (inr (inr (inr (inl h))))))))))) = other rsk_entry (λ x. refl) words target t h
-    by (inr (inr (inr (inr (inr (inr (inr (inr (inr (inr (inr (inl h)))))))))))) = other unrsk_entry (λ x. refl) words target t h
-    by (inr (inr (inr (inr (inr (inr (inr (inr (inr (inr (inr (inr (inl h))))))))))))) = other rect_entry (λ x. refl) words target t h
-    by (inr (inr (inr (inr (inr (inr (inr (inr (inr (inr (inr (inr (inr (inl h)))))))))))))) = other batch_entry (λ x. refl) words target t h
-    by (inr (inr (inr (inr (inr (inr (inr (inr (inr (inr (inr (inr (inr (inr (inl h))))))))))))))) = other work_entry (λ x. refl) words target t h
+    by : SpellsWithoutOffence (entries_of bases) words (expand target one_line t) → degree t ≤ degree_limit target
+    by (inl h) = other mult_entry (λ x. refl) words target one_line t h
+    by (inr (inl h)) = other skew_entry (λ x. refl) words target one_line t h
+    by (inr (inr (inl h))) = other coef_entry (λ x. refl) words target one_line t h
+    by (inr (inr (inr (inl h)))) = other coprod_entry (λ x. refl) words target one_line t h
+    by (inr (inr (inr (inr (inl h))))) = other tab_entry (λ x. refl) words target one_line t h
+    by (inr (inr (inr (inr (inr (inl h)))))) = other quantum_entry (λ x. refl) words target one_line t h
+    by (inr (inr (inr (inr (inr (inr (inl h))))))) = other fusion_entry (λ x. refl) words target one_line t h
+    by (inr (inr (inr (inr (inr (inr (inr (inl h)))))))) = other schubert_entry (λ x. refl) words target one_line t h
+    by (inr (inr (inr (inr (inr (inr (inr (inr (inl h))))))))) = other schubmult_entry (λ x. refl) words target one_line t h
+    by (inr (inr (inr (inr (inr (inr (inr (inr (inr (inl h)))))))))) = expanded bases words target one_line t h
+    by (inr (inr (inr (inr (inr (inr (inr (inr (inr (inr (inl h))))))))))) = other rsk_entry (λ x. refl) words target one_line t h
+    by (inr (inr (inr (inr (inr (inr (inr (inr (inr (inr (inr (inl h)))))))))))) = other unrsk_entry (λ x. refl) words target one_line t h
+    by (inr (inr (inr (inr (inr (inr (inr (inr (inr (inr (inr (inr (inl h))))))))))))) = other rect_entry (λ x. refl) words target one_line t h
+    by (inr (inr (inr (inr (inr (inr (inr (inr (inr (inr (inr (inr (inr (inl h)))))))))))))) = other batch_entry (λ x. refl) words target one_line t h
+    by (inr (inr (inr (inr (inr (inr (inr (inr (inr (inr (inr (inr (inr (inr (inl h))))))))))))))) = other work_entry (λ x. refl) words target one_line t h
     by (inr (inr (inr (inr (inr (inr (inr (inr (inr (inr (inr (inr (inr (inr (inr (h)))))))))))))))) = absurd h

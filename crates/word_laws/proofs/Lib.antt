@@ -12,3 +12,4 @@ pub mod CommandFacts
 pub mod Stands
 pub mod ShapedTableaux
 pub mod NumberLists
+pub mod TargetLetters

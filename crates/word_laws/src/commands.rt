@@ -62,6 +62,6 @@ pub fn command_offence_law()
 pub fn words_of_commands_law()
     ensures words { (basis : Basis) (bases : List Basis)
         → EachOf (λ (e : Entry). (words : List (List ℕ)) × Has e.form words) (entries_of (basis ∷ bases)) }
-    ensures degree { (bases : List Basis) (words : List (List ℕ)) (target : Basis) (e : Tree)
-        → SpellsWithoutOffence (entries_of bases) words (expand target e) → degree e ≤ degree_limit target }
+    ensures degree { (bases : List Basis) (words : List (List ℕ)) (target : Basis) (one_line : Bool) (e : Tree)
+        → SpellsWithoutOffence (entries_of bases) words (expand target one_line e) → degree e ≤ degree_limit target }
 {}

@@ -1,11 +1,11 @@
 //! Worked examples: words that are refused, each at its place, and words at the limits that are not.
 
-ghost use Rattle.std.specs.Prelude.{ℕ, List, [], ◌∷◌, ◌++◌, codes, replicate};
+ghost use Rattle.std.specs.Prelude.{ℕ, true, false, List, [], ◌∷◌, ◌++◌, codes, replicate};
 ghost use Rattle.sym_model.specs.Sum.{each};
 ghost use Rattle.sym_model.specs.Expansion.{monomials, power_sums, schurs};
 ghost use Rattle.sym_model.specs.Expression.{number, atom, negation};
 ghost use Rattle.sym_model.specs.ExpressionOffence.{literal, range, shape};
-ghost use Rattle.sym_model.specs.Command.{mult, coprod, tab, schubert, schubmult, expand, rsk, unrsk, rect, work};
+ghost use Rattle.sym_model.specs.Command.{mult, skew, coprod, quantum, tab, schubert, schubmult, expand, rsk, unrsk, rect, work};
 ghost use Rattle.sym_model.specs.Grammar.{line_entries, all_bases};
 ghost use Rattle.sym_model.specs.SyntaxPlace.{IsSyntaxPlace};
 ghost use Rattle.sym_model.specs.BatchLine.{words_of_line};
@@ -26,6 +26,10 @@ pub fn words_that_go_wrong_law()
     ensures empty_word { IsSyntaxPlace all_commands (codes "expand" ∷ codes "m" ∷ [] ∷ []) 2 0 }
     ensures no_expression { GoesWrong (codes "expand m") 2 0 }
     ensures a_word_more { GoesWrong (codes "expand m 1 1") 3 0 }
+    ensures form_before_rows { GoesWrong (codes "mult -m -r 2 1 - 1") 2 0 }
+    ensures form_twice { GoesWrong (codes "skew -m -m 1 /") 2 0 }
+    ensures form_behind_target { GoesWrong (codes "expand s -m 1") 2 2 }
+    ensures no_form { GoesWrong (codes "quantum -m 2 2 1 - 1") 1 0 }
     ensures slash_twice { GoesWrong (codes "skew / / 1") 2 0 }
     ensures more_than_batch { GoesWrong (codes "batch x") 1 0 }
     ensures no_batch_in_a_batch { IsSyntaxPlace (line_entries all_bases) (words_of_line (codes "batch")) 0 0 }
@@ -36,18 +40,26 @@ pub fn words_that_go_wrong_law()
 /// Offences of numbers, partitions, permutations and letters, and lists that just have none.
 pub fn refused_lists_law()
     ensures rows_65 { Offends (codes "mult -r 65 1 - 1") (2, 0, range) }
-    ensures rows_64 { Says (codes "mult -r 64 1 - 1") (mult (Some 64) (1 ∷ []) (1 ∷ [])) }
+    ensures rows_64 { Says (codes "mult -r 64 1 - 1") (mult (Some 64) false ((1 ∷ []) ∷ (1 ∷ []) ∷ [])) }
     ensures rows_0 { Offends (codes "quantum 0 2 1 - 1") (1, 0, range) }
     ensures level_65 { Offends (codes "fusion 2 65 1 - 1") (2, 0, range) }
     ensures cells_513 { Offends (codes "mult 513 - 1") (1, 0, range) }
-    ensures cells_512 { Says (codes "mult 512 - 1") (mult None (512 ∷ []) (1 ∷ [])) }
+    ensures cells_512 { Says (codes "mult 512 - 1") (mult None false ((512 ∷ []) ∷ (1 ∷ []) ∷ [])) }
     ensures sum_513 { Offends (codes "coprod 300 212 1 1") (3, 0, range) }
     ensures numbers_65 { Offends (codes "coprod " ++ repeated 65 (codes "1")) (65, 0, range) }
     ensures numbers_64 { Says (codes "coprod " ++ repeated 64 (codes "1")) (coprod (replicate 64 1)) }
+    ensures nine_factors { Offends (codes "mult 1 - 1 - 1 - 1 - 1 - 1 - 1 - 1 - 1") (16, 0, range) }
+    ensures nine_factors_on_one_line { Offends (codes "mult -r 2 -m 1 - 1 - 1 - 1 - 1 - 1 - 1 - 1 - 1") (19, 0, range) }
+    ensures nine_reduced { Offends (codes "fusion 1 1 1 - 1 - 1 - 1 - 1 - 1 - 1 - 1 - 1") (18, 0, range) }
+    ensures earlier_than_nine { Offends (codes "mult 1 2 - 1 - 1 - 1 - 1 - 1 - 1 - 1 - 1") (2, 0, shape) }
+    ensures eight_factors { Says (codes "mult 1 - 1 - 1 - 1 - 1 - 1 - 1 - 1") (mult None false ((1 ∷ []) ∷ (1 ∷ []) ∷ (1 ∷ []) ∷ (1 ∷ []) ∷ (1 ∷ []) ∷ (1 ∷ []) ∷ (1 ∷ []) ∷ (1 ∷ []) ∷ [])) }
+    ensures empty_factors { Says (codes "mult -r 2 -m - - 1") (mult (Some 2) true ([] ∷ [] ∷ (1 ∷ []) ∷ [])) }
+    ensures three_reduced { Says (codes "quantum 2 3 1 - 2 - 1 1") (quantum 2 3 ((1 ∷ []) ∷ (2 ∷ []) ∷ (1 ∷ 1 ∷ []) ∷ [])) }
+    ensures skew_on_one_line { Says (codes "skew -m 2 1 / 1") (skew None true (2 ∷ 1 ∷ []) (1 ∷ [])) }
     ensures rises { Offends (codes "mult 1 2 - 1") (2, 0, shape) }
     ensures rises_after_zero { Offends (codes "mult 0 1 - 1") (2, 0, shape) }
-    ensures zeros { Says (codes "mult 0 0 - 1") (mult None [] (1 ∷ [])) }
-    ensures two_hundred_zeros { Says (codes "mult " ++ (replicate 200 48 ++ codes "1 - 1")) (mult None (1 ∷ []) (1 ∷ [])) }
+    ensures zeros { Says (codes "mult 0 0 - 1") (mult None false ([] ∷ (1 ∷ []) ∷ [])) }
+    ensures two_hundred_zeros { Says (codes "mult " ++ (replicate 200 48 ++ codes "1 - 1")) (mult None false ((1 ∷ []) ∷ (1 ∷ []) ∷ [])) }
     ensures wide_number { Offends (codes "quantum 170141183460469231731687303715884105728 2 1 - 1") (1, 0, literal) }
     ensures widest_number { Offends (codes "quantum 170141183460469231731687303715884105727 2 1 - 1") (1, 0, range) }
     ensures letter_17 { Offends (codes "schubert 1 17") (2, 0, range) }
@@ -94,19 +106,21 @@ pub fn refused_tableaux_law()
 /// Offences of the expression of a command, and expressions that just have none.
 pub fn refused_expressions_law()
     ensures rising_list { Offends (codes "expand s p[1,2]") (2, 4, shape) }
+    ensures rising_on_one_line { Offends (codes "expand -m s s[1,2]") (3, 4, shape) }
+    ensures on_one_line { Says (codes "expand -m s 1") (expand schurs true (number 1)) }
     ensures denominator_0 { Offends (codes "expand s 1/0") (2, 2, shape) }
     ensures degree_16 { Offends (codes "expand p p[16]") (2, 5, range) }
-    ensures degree_15 { Says (codes "expand p p[15]") (expand power_sums (atom power_sums (15 ∷ []))) }
+    ensures degree_15 { Says (codes "expand p p[15]") (expand power_sums false (atom power_sums (15 ∷ []))) }
     ensures degree_21 { Offends (codes "expand s m[21]") (2, 5, range) }
-    ensures degree_20 { Says (codes "expand s m[20]") (expand schurs (atom monomials (20 ∷ []))) }
+    ensures degree_20 { Says (codes "expand s m[20]") (expand schurs false (atom monomials (20 ∷ []))) }
     ensures degree_of_a_product { Offends (codes "expand p m[15]*m[1]") (2, 10, range) }
     ensures wide_number { Offends (codes "expand s 170141183460469231731687303715884105728*p[]") (2, 0, literal) }
     ensures wide_after_minus { Offends (codes "expand m -170141183460469231731687303715884105728") (2, 1, literal) }
     ensures depth_65 { Offends (codes "expand m " ++ (replicate 65 40 ++ (codes "1" ++ replicate 65 41))) (2, 64, range) }
-    ensures depth_64 { Says (codes "expand m " ++ (replicate 64 40 ++ (codes "1" ++ replicate 64 41))) (expand monomials (number 1)) }
+    ensures depth_64 { Says (codes "expand m " ++ (replicate 64 40 ++ (codes "1" ++ replicate 64 41))) (expand monomials false (number 1)) }
     ensures entries_65 { Offends (codes "expand m p[0" ++ (each (λ b. 44 ∷ b ∷ []) (replicate 64 48) ++ codes "]")) (2, 130, range) }
-    ensures entries_64 { Says (codes "expand m p[0" ++ (each (λ b. 44 ∷ b ∷ []) (replicate 63 48) ++ codes "]")) (expand monomials (atom power_sums [])) }
-    ensures bytes_4096 { Says (codes "expand m p[" ++ (zeros_of 63 ++ (each (λ n. 44 ∷ zeros_of n) (replicate 61 63 ++ (62 ∷ 62 ∷ [])) ++ codes "]"))) (expand monomials (atom power_sums [])) }
+    ensures entries_64 { Says (codes "expand m p[0" ++ (each (λ b. 44 ∷ b ∷ []) (replicate 63 48) ++ codes "]")) (expand monomials false (atom power_sums [])) }
+    ensures bytes_4096 { Says (codes "expand m p[" ++ (zeros_of 63 ++ (each (λ n. 44 ∷ zeros_of n) (replicate 61 63 ++ (62 ∷ 62 ∷ [])) ++ codes "]"))) (expand monomials false (atom power_sums [])) }
     ensures bytes_4097 { Offends (codes "expand m p[" ++ (zeros_of 63 ++ (each (λ n. 44 ∷ zeros_of n) (replicate 62 63 ++ (62 ∷ [])) ++ codes "]"))) (2, 4096, range) }
-    ensures widest_after_minus { Says (codes "expand m -170141183460469231731687303715884105727") (expand monomials (negation (number 170141183460469231731687303715884105727))) }
+    ensures widest_after_minus { Says (codes "expand m -170141183460469231731687303715884105727") (expand monomials false (negation (number 170141183460469231731687303715884105727))) }
 {}

@@ -1,14 +1,14 @@
 -- Words are read in one way.
-use Rattle.std.proofs.Common.{refl}
 use Rattle.expression_laws.proofs.PhraseRuns.{one_phrase}
 use Rattle.word_laws.proofs.EntryLists.{one_command, one_offence}
+use Rattle.word_laws.proofs.TargetLetters.{all_clear, line_clear}
 use Rattle.word_laws.proofs.commands.one_command_law.Goals as goal
 
 pub returns-clause-all_commands : goal.returns-clause-all_commands
-returns-clause-all_commands c = λ bases. refl
+returns-clause-all_commands c = all_clear
 
 pub returns-clause-line_commands : goal.returns-clause-line_commands
-returns-clause-line_commands c = λ bases. refl
+returns-clause-line_commands c = line_clear
 
 pub returns-clause-one_command : goal.returns-clause-one_command
 returns-clause-one_command c = one_command one_phrase

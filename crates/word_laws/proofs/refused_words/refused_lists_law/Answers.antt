@@ -1,8 +1,8 @@
 -- Each is computed.
-use Rattle.std.proofs.Common.{[], ◌∷◌, ◌++◌, refl, Some, None}
+use Rattle.std.proofs.Common.{true, false, [], ◌∷◌, ◌++◌, refl, Some, None}
 use Rattle.std.specs.Prelude.{codes, replicate}
 use Rattle.sym_model.specs.ExpressionOffence.{literal, range, shape}
-use Rattle.sym_model.specs.Command.{mult, coprod, schubert, schubmult, rsk, work}
+use Rattle.sym_model.specs.Command.{mult, skew, coprod, quantum, schubert, schubmult, rsk, work}
 use Rattle.word_laws.specs.Examples.{repeated}
 use Rattle.word_laws.proofs.ComputedExamples.{said, offended}
 use Rattle.word_laws.proofs.refused_words.refused_lists_law.Goals as goal
@@ -11,7 +11,7 @@ pub returns-clause-rows_65 : goal.returns-clause-rows_65
 returns-clause-rows_65 c = offended (codes "mult -r 65 1 - 1") (2, 0, range) refl
 
 pub returns-clause-rows_64 : goal.returns-clause-rows_64
-returns-clause-rows_64 c = said (codes "mult -r 64 1 - 1") (mult (Some 64) (1 ∷ []) (1 ∷ [])) refl
+returns-clause-rows_64 c = said (codes "mult -r 64 1 - 1") (mult (Some 64) false ((1 ∷ []) ∷ (1 ∷ []) ∷ [])) refl
 
 pub returns-clause-rows_0 : goal.returns-clause-rows_0
 returns-clause-rows_0 c = offended (codes "quantum 0 2 1 - 1") (1, 0, range) refl
@@ -23,7 +23,7 @@ pub returns-clause-cells_513 : goal.returns-clause-cells_513
 returns-clause-cells_513 c = offended (codes "mult 513 - 1") (1, 0, range) refl
 
 pub returns-clause-cells_512 : goal.returns-clause-cells_512
-returns-clause-cells_512 c = said (codes "mult 512 - 1") (mult None (512 ∷ []) (1 ∷ [])) refl
+returns-clause-cells_512 c = said (codes "mult 512 - 1") (mult None false ((512 ∷ []) ∷ (1 ∷ []) ∷ [])) refl
 
 pub returns-clause-sum_513 : goal.returns-clause-sum_513
 returns-clause-sum_513 c = offended (codes "coprod 300 212 1 1") (3, 0, range) refl
@@ -41,10 +41,10 @@ pub returns-clause-rises_after_zero : goal.returns-clause-rises_after_zero
 returns-clause-rises_after_zero c = offended (codes "mult 0 1 - 1") (2, 0, shape) refl
 
 pub returns-clause-zeros : goal.returns-clause-zeros
-returns-clause-zeros c = said (codes "mult 0 0 - 1") (mult None [] (1 ∷ [])) refl
+returns-clause-zeros c = said (codes "mult 0 0 - 1") (mult None false ([] ∷ (1 ∷ []) ∷ [])) refl
 
 pub returns-clause-two_hundred_zeros : goal.returns-clause-two_hundred_zeros
-returns-clause-two_hundred_zeros c = said (codes "mult " ++ (replicate 200 48 ++ codes "1 - 1")) (mult None (1 ∷ []) (1 ∷ [])) refl
+returns-clause-two_hundred_zeros c = said (codes "mult " ++ (replicate 200 48 ++ codes "1 - 1")) (mult None false ((1 ∷ []) ∷ (1 ∷ []) ∷ [])) refl
 
 pub returns-clause-wide_number : goal.returns-clause-wide_number
 returns-clause-wide_number c = offended (codes "quantum 170141183460469231731687303715884105728 2 1 - 1") (1, 0, literal) refl
@@ -90,3 +90,27 @@ returns-clause-most_work c = said (codes "work 10000 65536") (work 10000 65536) 
 
 pub returns-clause-seed : goal.returns-clause-seed
 returns-clause-seed c = offended (codes "work 10000 65537") (2, 0, range) refl
+
+pub returns-clause-nine_factors : goal.returns-clause-nine_factors
+returns-clause-nine_factors c = offended (codes "mult 1 - 1 - 1 - 1 - 1 - 1 - 1 - 1 - 1") (16, 0, range) refl
+
+pub returns-clause-nine_factors_on_one_line : goal.returns-clause-nine_factors_on_one_line
+returns-clause-nine_factors_on_one_line c = offended (codes "mult -r 2 -m 1 - 1 - 1 - 1 - 1 - 1 - 1 - 1 - 1") (19, 0, range) refl
+
+pub returns-clause-nine_reduced : goal.returns-clause-nine_reduced
+returns-clause-nine_reduced c = offended (codes "fusion 1 1 1 - 1 - 1 - 1 - 1 - 1 - 1 - 1 - 1") (18, 0, range) refl
+
+pub returns-clause-earlier_than_nine : goal.returns-clause-earlier_than_nine
+returns-clause-earlier_than_nine c = offended (codes "mult 1 2 - 1 - 1 - 1 - 1 - 1 - 1 - 1 - 1") (2, 0, shape) refl
+
+pub returns-clause-eight_factors : goal.returns-clause-eight_factors
+returns-clause-eight_factors c = said (codes "mult 1 - 1 - 1 - 1 - 1 - 1 - 1 - 1") (mult None false ((1 ∷ []) ∷ (1 ∷ []) ∷ (1 ∷ []) ∷ (1 ∷ []) ∷ (1 ∷ []) ∷ (1 ∷ []) ∷ (1 ∷ []) ∷ (1 ∷ []) ∷ [])) refl
+
+pub returns-clause-empty_factors : goal.returns-clause-empty_factors
+returns-clause-empty_factors c = said (codes "mult -r 2 -m - - 1") (mult (Some 2) true ([] ∷ [] ∷ (1 ∷ []) ∷ [])) refl
+
+pub returns-clause-three_reduced : goal.returns-clause-three_reduced
+returns-clause-three_reduced c = said (codes "quantum 2 3 1 - 2 - 1 1") (quantum 2 3 ((1 ∷ []) ∷ (2 ∷ []) ∷ (1 ∷ 1 ∷ []) ∷ [])) refl
+
+pub returns-clause-skew_on_one_line : goal.returns-clause-skew_on_one_line
+returns-clause-skew_on_one_line c = said (codes "skew -m 2 1 / 1") (skew None true (2 ∷ 1 ∷ []) (1 ∷ [])) refl

@@ -60,3 +60,15 @@ returns-clause-no_work_in_a_batch c = gone_wrong_in (line_entries all_bases) can
 
 pub returns-clause-byte_255 : goal.returns-clause-byte_255
 returns-clause-byte_255 c = gone_wrong_in (line_entries all_bases) can_be_line (omega arith) (words_of_line (codes "mult 1 - " ++ (255 ∷ []))) 3 0 refl
+
+pub returns-clause-form_before_rows : goal.returns-clause-form_before_rows
+returns-clause-form_before_rows c = gone_wrong (codes "mult -m -r 2 1 - 1") 2 0 refl
+
+pub returns-clause-form_twice : goal.returns-clause-form_twice
+returns-clause-form_twice c = gone_wrong (codes "skew -m -m 1 /") 2 0 refl
+
+pub returns-clause-form_behind_target : goal.returns-clause-form_behind_target
+returns-clause-form_behind_target c = gone_wrong (codes "expand s -m 1") 2 2 refl
+
+pub returns-clause-no_form : goal.returns-clause-no_form
+returns-clause-no_form c = gone_wrong (codes "quantum -m 2 2 1 - 1") 1 0 refl

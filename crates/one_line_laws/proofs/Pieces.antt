@@ -1,0 +1,45 @@
+-- Texts that are cut in front of signs, and at a byte.
+use Rattle.std.proofs.Common.{◌≡◌, ℕ, true, false, ◌||◌, List, [], ◌∷◌, ◌++◌, eqb, refl, ap, ◌∙◌}
+use Rattle.std.proofs.lemmas.Bool.{eq-eqb, ne_eqb, cond-true, cond-false}
+use Rattle.sym_model.specs.NumberText.{Lacks, before_first, before_cut, cut_at}
+use Rattle.sym_model.specs.OneLine.{is_sign, cut_at_signs, pieces_of}
+
+-- no byte of the text is `+` or `-`
+pub record LacksSigns (text : List ℕ) : Type 0 where
+  pub plus : Lacks 43 text
+  pub minus : Lacks 45 text
+
+-- a text without the separator, and behind it one that begins with it, are cut between them
+pub cut_at-front : (separator : ℕ) (front rest : List ℕ) → Lacks separator front → cut_at separator (front ++ (separator ∷ rest)) ≡ (front, separator ∷ rest)
+cut_at-front separator [] rest h = cond-true (eqb separator separator) _ _ (eq-eqb separator separator refl)
+cut_at-front separator (b ∷ front) rest h =
+    cond-false (eqb b separator) _ _ (ne_eqb b separator h.0) ∙ ap (before_cut b) (cut_at-front separator front rest h.1)
+
+-- a text without the separator is not cut
+pub cut_at-whole : (separator : ℕ) (text : List ℕ) → Lacks separator text → cut_at separator text ≡ (text, [])
+cut_at-whole separator [] h = refl
+cut_at-whole separator (b ∷ text) h =
+    cond-false (eqb b separator) _ _ (ne_eqb b separator h.0) ∙ ap (before_cut b) (cut_at-whole separator text h.1)
+
+no_sign : (byte : ℕ) → (byte ≡ 43 → ⊥) → (byte ≡ 45 → ⊥) → is_sign byte ≡ false
+no_sign byte plus minus =
+    ap (λ b. b || eqb byte 45) (ne_eqb byte 43 plus) ∙ ne_eqb byte 45 minus
+
+-- a text without signs stands in front of the first piece
+pub cut_at_signs-front : (front rest piece : List ℕ) (pieces : List (List ℕ)) → LacksSigns front → cut_at_signs rest ≡ piece ∷ pieces
+    → cut_at_signs (front ++ rest) ≡ (front ++ piece) ∷ pieces
+cut_at_signs-front [] rest piece pieces h e = e
+cut_at_signs-front (b ∷ front) rest piece pieces h e =
+    cond-false (is_sign b) _ _ (no_sign b h.plus.0 h.minus.0)
+    ∙ ap (before_first b) (cut_at_signs-front front rest piece pieces (record { plus = h.plus.1; minus = h.minus.1 }) e)
+
+-- a text that begins with a sign is cut in front of it
+pub cut_at_signs-sign : (byte : ℕ) (rest piece : List ℕ) (pieces : List (List ℕ)) → is_sign byte ≡ true → cut_at_signs rest ≡ piece ∷ pieces
+    → cut_at_signs (byte ∷ rest) ≡ [] ∷ (byte ∷ piece) ∷ pieces
+cut_at_signs-sign byte rest piece pieces h e =
+    cond-true (is_sign byte) _ _ h ∙ ap (λ ps. [] ∷ before_first byte ps) e
+
+-- the first byte is cut from nothing
+pub pieces_of-first : (byte : ℕ) (rest piece : List ℕ) (pieces : List (List ℕ)) → cut_at_signs rest ≡ piece ∷ pieces
+    → pieces_of (byte ∷ rest) ≡ (byte ∷ piece) ∷ pieces
+pieces_of-first byte rest piece pieces e = ap (before_first byte) e

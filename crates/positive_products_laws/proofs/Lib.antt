@@ -1,0 +1,4 @@
+pub mod CountLists
+pub mod SomeLabel
+pub mod Growing
+pub mod Expanding

@@ -1,0 +1,22 @@
+-- Products of Schur polynomials as lists of counts (this project's own).
+use Rattle.std.specs.Prelude.{◌≡◌, ℕ, ◌≤◌, ℤ, pos, ◌≤ℤ◌, List, Option, Some, None}
+use Rattle.sym_model.specs.Sum.{Among}
+use Rattle.sym_model.specs.Polynomial.{coefficient}
+use Rattle.sym_model.specs.Partition.{IsPartition, rows}
+use Rattle.sym_model.specs.WholeTerms.{WholeTerms}
+
+-- no coefficient is negative
+abbrev pub AreCounts : WholeTerms → Type 0
+AreCounts terms = (t : List ℕ × ℤ) → Among t terms → pos 0 ≤ℤ t.1
+
+-- at some partition with at most k rows the coefficient is c or more
+pub record Reaches (k c : ℕ) (terms : WholeTerms) : Type 0 where
+  pub parts : List ℕ
+  pub partition : IsPartition parts
+  pub within : rows parts ≤ k
+  pub reaches : pos c ≤ℤ coefficient terms parts
+
+-- k variables show a product whose labels have at most so many rows: they are the variables given, or not fewer than the rows
+abbrev pub IsShownIn : Option ℕ → ℕ → ℕ → Type 0
+IsShownIn None row_count k = row_count ≤ k
+IsShownIn (Some given) row_count k = given ≡ k
