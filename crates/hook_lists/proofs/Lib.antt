@@ -1,0 +1,4 @@
+pub mod LoneShapes
+pub mod AddedShapes
+pub mod RemovedShapes
+pub mod ListerSteps

@@ -1,0 +1,151 @@
+-- Lists of the shapes that fit, and shapes by their rows.
+--     none_fits, one_fits, among_fitting, from_fitting    the shapes at the numbers that pass a test
+--     fall_after, fall_fitting                            shapes in falling lexicographic order
+--     before_by_row                                       the first row that differs tells the order
+--     same_rows                                           a partition is known by its rows
+--     part_within                                         no row is longer than the partition is great
+--     rows_at, rows_fall, rows_next                       a list of rows that are a function of the row
+use Rattle.std.proofs.Common.{◌≡◌, ◌⊎◌, ℕ, zero, suc, ◌+◌, ◌-◌, ◌<◌, ◌≤◌, Bool, true, false, cond, List, [], ◌∷◌, ◌++◌, map, get_or, refl, sym, ap, ap₂, ◌∙◌, subst, inl, inr, arith}
+use Rattle.std.proofs.lemmas.Bool.{cases_lt}
+use Rattle.std.proofs.lemmas.Cmp.{nat_cmp_total, tied_itself}
+use Rattle.std.proofs.lemmas.List.{length-map}
+use Rattle.std.specs.Cmp.{nat_cmp_is}
+use Rattle.std.specs.Ordering.{nat_cmp, ordering_then}
+use Rattle.std.specs.declared.cmp.Ordering.TheVariants.{Less}
+use Rattle.sym_model.specs.Sum.{each, Among, Once}
+use Rattle.sym_model.specs.Partition.{Falls, ArePositive, after, part, size, without_last_zeros}
+use Rattle.sym_model.specs.PartitionList.{FallsLexicographically}
+use Rattle.sym_model.specs.PrintedOrder.{falling_lexicographic}
+use Rattle.sym_model.proofs.AfterLists.{length_after, after_among}
+use Rattle.sym_model.proofs.Sums.{Among-each, Among_from_each}
+use Rattle.strip_laws.proofs.RimHooks.{past_end}
+use Rattle.skew_shapes.proofs.CellRows.{map_after-at, get-without_last_zeros}
+use Rattle.skew_shapes.proofs.StripLists.{fall-append, greater_first, part-get}
+
+-- ---- the shapes at the numbers that pass a test
+
+abbrev pub fitting : (ℕ → Bool) → (ℕ → List ℕ) → List ℕ → List (List ℕ)
+fitting test shape xs = each (λ i. cond (test i) (shape i ∷ []) []) xs
+
+pub none_fits : (test : ℕ → Bool) (shape : ℕ → List ℕ) (xs : List ℕ) → ((i : ℕ) → Among i xs → test i ≡ false) → fitting test shape xs ≡ []
+none_fits test shape [] h = refl
+none_fits test shape (x ∷ xs) h =
+    ap₂ (λ (b : Bool) l. cond b (shape x ∷ []) [] ++ l) (h x (inl refl)) (none_fits test shape xs (λ i m. h i (inr m)))
+
+not_true : (b : Bool) → (b ≡ true → ⊥) → b ≡ false
+not_true true n = absurd (n refl)
+not_true false n = refl
+
+pub one_fits : (test : ℕ → Bool) (shape : ℕ → List ℕ) (i : ℕ) (xs : List ℕ) → Once xs → Among i xs → test i ≡ true
+    → ((j : ℕ) → Among j xs → test j ≡ true → j ≡ i) → fitting test shape xs ≡ shape i ∷ []
+one_fits test shape i [] o m t h = absurd m
+one_fits test shape i (x ∷ xs) o (inl e) t h =
+    ap₂ (λ (b : Bool) l. cond b (shape x ∷ []) [] ++ l) (subst (λ j. test j ≡ true) e t)
+    (none_fits test shape xs (λ j m. not_true (test j) (λ p. o.0 (subst (λ z. Among z xs) (h j (inr m) p ∙ e) m))))
+    ∙ ap (λ j. shape j ∷ []) (sym e)
+one_fits test shape i (x ∷ xs) o (inr m) t h =
+    ap₂ (λ (b : Bool) l. cond b (shape x ∷ []) [] ++ l)
+    (not_true (test x) (λ p. o.0 (subst (λ z. Among z xs) (sym (h x (inl refl) p)) m)))
+    (one_fits test shape i xs o.1 m t (λ j n. h j (inr n)))
+
+pub among_fitting : (test : ℕ → Bool) (shape : ℕ → List ℕ) (i : ℕ) (xs : List ℕ) → Among i xs → test i ≡ true → Among (shape i) (fitting test shape xs)
+among_fitting test shape i xs m t =
+    Among-each (λ i. cond (test i) (shape i ∷ []) []) i (shape i) xs m
+    (subst (λ (b : Bool). Among (shape i) (cond b (shape i ∷ []) [])) (sym t) (inl refl))
+
+pub from_fitting : (test : ℕ → Bool) (shape : ℕ → List ℕ) (ν : List ℕ) (xs : List ℕ) → Among ν (fitting test shape xs)
+    → (i : ℕ) × Among i xs × (test i ≡ true) × (ν ≡ shape i)
+from_fitting test shape ν xs m =
+    let f = Among_from_each (λ i. cond (test i) (shape i ∷ []) []) ν xs m in
+    let g = by f.0 (test f.0) refl f.2 in
+    (f.0, f.1, g.0, g.1)
+  where
+    by : (i : ℕ) (b : Bool) → test i ≡ b → Among ν (cond b (shape i ∷ []) []) → (test i ≡ true) × (ν ≡ shape i)
+    by i true e (inl h) = (e, h)
+    by i true e (inr h) = absurd h
+    by i false e h = absurd h
+
+-- ---- the order
+
+pub fall_after : (f : ℕ → List (List ℕ)) (a n : ℕ) → ((i : ℕ) → a < i → i ≤ a + n → FallsLexicographically (f i))
+    → ((i j : ℕ) (x y : List ℕ) → a < i → i < j → j ≤ a + n → Among x (f i) → Among y (f j) → falling_lexicographic x y ≡ Less)
+    → FallsLexicographically (each f (after a n))
+fall_after f a zero h c = tt
+fall_after f a (suc n) h c =
+    fall-append (f (a + 1)) (each f (after (a + 1) n)) (h (a + 1) (omega arith) (omega arith))
+    (fall_after f (a + 1) n (λ i l m. h i (omega arith) (omega arith)) (λ i j x y l m o. c i j x y (omega arith) m (omega arith)))
+    (λ x y m o.
+    let r = Among_from_each f y (after (a + 1) n) o in
+    let s = after_among (a + 1) n r.0 r.1 in
+    let s0 = s.0 in
+    let s1 = s.1 in
+    c (a + 1) r.0 x y (omega arith) (omega arith) (omega arith) m r.2)
+
+-- where one number at most passes the test
+pub fall_fitting : (test : ℕ → Bool) (shape : ℕ → List ℕ) (a n : ℕ)
+    → ((i j : ℕ) → a < i → i < j → j ≤ a + n → test i ≡ true → test j ≡ true → ⊥) → FallsLexicographically (fitting test shape (after a n))
+fall_fitting test shape a n h =
+    fall_after (λ i. cond (test i) (shape i ∷ []) []) a n (λ i l m. one (test i) (shape i))
+    (λ i j x y l m o p q. absurd (h i j l m o (passes (test i) (shape i) x p) (passes (test j) (shape j) y q)))
+  where
+    one : (b : Bool) (x : List ℕ) → FallsLexicographically (cond b (x ∷ []) [])
+    one true x = (λ y m. absurd m, tt)
+    one false x = tt
+
+    passes : (b : Bool) (z x : List ℕ) → Among x (cond b (z ∷ []) []) → b ≡ true
+    passes true z x m = refl
+    passes false z x m = absurd m
+
+before_at : (n : ℕ) (x y : List ℕ) → ((j : ℕ) → j < n → get_or x j 0 ≡ get_or y j 0) → get_or y n 0 < get_or x n 0 → falling_lexicographic x y ≡ Less
+before_at zero [] y e h = absurd (omega arith)
+before_at zero (a ∷ x) [] e h = ap (λ o. ordering_then o (falling_lexicographic x [])) (sym (nat_cmp_is 0 a Less h))
+before_at zero (a ∷ x) (b ∷ y) e h = greater_first a b x y h
+before_at (suc n) [] [] e h = absurd (omega arith)
+before_at (suc n) [] (b ∷ y) e h = absurd (omega arith)
+before_at (suc n) (a ∷ x) [] e h =
+    ap (λ o. ordering_then o (falling_lexicographic x [])) (ap (λ k. nat_cmp 0 k) (e 0 (omega arith)) ∙ tied_itself nat_cmp_total 0)
+    ∙ before_at n x [] (λ j l. e (suc j) (omega arith)) h
+before_at (suc n) (a ∷ x) (b ∷ y) e h =
+    ap (λ o. ordering_then o (falling_lexicographic x y)) (ap (λ k. nat_cmp b k) (e 0 (omega arith)) ∙ tied_itself nat_cmp_total b)
+    ∙ before_at n x y (λ j l. e (suc j) (omega arith)) h
+
+pub before_by_row : (row : ℕ) (x y : List ℕ) → 1 ≤ row → ((i : ℕ) → 1 ≤ i → i < row → part x i ≡ part y i) → part y row < part x row → falling_lexicographic x y ≡ Less
+before_by_row row x y h e l = before_at (row - 1) x y (λ j m. sym (part-get x j) ∙ e (j + 1) (omega arith) (omega arith) ∙ part-get y j) l
+
+-- ---- rows
+
+same_places : (x y : List ℕ) → ArePositive x → ArePositive y → ((j : ℕ) → get_or x j 0 ≡ get_or y j 0) → x ≡ y
+same_places [] [] p q e = refl
+same_places [] (b ∷ y) p q e = let h = q.0 in absurd (let z = e 0 in omega arith)
+same_places (a ∷ x) [] p q e = let h = p.0 in absurd (let z = e 0 in omega arith)
+same_places (a ∷ x) (b ∷ y) p q e = ap₂ (λ (c : ℕ) l. c ∷ l) (e 0) (same_places x y p.1 q.1 (λ j. e (suc j)))
+
+pub same_rows : (x y : List ℕ) → ArePositive x → ArePositive y → ((i : ℕ) → 1 ≤ i → part x i ≡ part y i) → x ≡ y
+same_rows x y p q e = same_places x y p q (λ j. sym (part-get x j) ∙ e (j + 1) (omega arith) ∙ part-get y j)
+
+place_within : (parts : List ℕ) (j : ℕ) → get_or parts j 0 ≤ size parts
+place_within [] j = omega arith
+place_within (a ∷ parts) zero = omega arith
+place_within (a ∷ parts) (suc j) = let r = place_within parts j in omega arith
+
+pub part_within : (parts : List ℕ) (i : ℕ) → part parts i ≤ size parts
+part_within parts i = place_within parts (i - 1)
+
+-- a row of a list of rows that are 0 past the last
+pub rows_at : (f : ℕ → ℕ) (n i : ℕ) → 1 ≤ i → (n < i → f i ≡ 0) → part (without_last_zeros (map f (after 0 n))) i ≡ f i
+rows_at f n i h z = get-without_last_zeros (map f (after 0 n)) (i - 1) ∙ by (cases_lt n i)
+  where
+    by : (n < i) ⊎ (i ≤ n) → get_or (map f (after 0 n)) (i - 1) 0 ≡ f i
+    by (inl l) = past_end (map f (after 0 n)) (i - 1) (let e = length-map (after 0 n) f in let d = length_after 0 n in omega arith) ∙ sym (z l)
+    by (inr l) = map_after-at f 0 n (i - 1) 0 (omega arith) ∙ ap f (omega arith)
+
+pub rows_fall : (f : ℕ → ℕ) (a n : ℕ) → ((i : ℕ) → a < i → f (i + 1) ≤ f i) → Falls (map f (after a n))
+rows_fall f a zero h = tt
+rows_fall f a (suc zero) h = tt
+rows_fall f a (suc (suc n)) h = (h (a + 1) (omega arith), rows_fall f (a + 1) (suc n) (λ i l. h i (omega arith)))
+
+pub rows_next : (f : ℕ → ℕ) (a n : ℕ) → map f (after a (n + 1)) ≡ map f (after a n) ++ (f (a + n + 1) ∷ [])
+rows_next f a zero = ap (λ i. f i ∷ []) (omega arith)
+rows_next f a (suc n) =
+    ap (λ m. map f (after a m)) (let e : suc n + 1 ≡ suc (n + 1) = omega arith in e)
+    ∙ ap (λ l. f (a + 1) ∷ l) (rows_next f (a + 1) n) ∙ ap (λ i. f (a + 1) ∷ (map f (after (a + 1) n) ++ (f i ∷ []))) (omega arith)

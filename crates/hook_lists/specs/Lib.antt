@@ -1,0 +1,3 @@
+pub mod HookLists
+pub mod AddedHooks
+pub mod RemovedHooks

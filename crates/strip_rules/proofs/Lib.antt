@@ -1,0 +1,5 @@
+pub mod ShapeSums
+pub mod ShapeLists
+pub mod Signs
+pub mod TermProducts
+pub mod ListProducts

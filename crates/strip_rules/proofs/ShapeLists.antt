@@ -1,0 +1,76 @@
+-- The shapes that strips and rim hooks of k cells make of a partition.
+--     horizontal_list, vertical_list, hook_list    each list has exactly these shapes, each once
+--     is_shape, shape_limits, shapes_small         they have at most k cells and k rows more
+--     height_positive                              the height of a rim hook
+use Rattle.std.proofs.Common.{◌≡◌, ℕ, suc, ◌+◌, ◌≤◌, List, [], ◌∷◌, get_or, arith}
+use Rattle.sym_model.specs.Sum.{Among}
+use Rattle.sym_model.specs.Partition.{IsPartition, ArePositive, Holds, size, rows}
+use Rattle.sym_model.specs.Strip.{height}
+use Rattle.sym_model.proofs.PartitionLists.{Once-FallsLexicographically}
+use Rattle.strip_laws.proofs.RimHooks.{hook_rows, height_of_rows}
+use Rattle.partitions.specs.Limits.{IsWithinLimits}
+use Rattle.skew_shapes.specs.HorizontalStrips.{AreHorizontalStrips}
+use Rattle.strip_lists.specs.VerticalStrips.{AreVerticalStrips}
+use Rattle.hook_lists.specs.HookLists.{AreHooksAdded}
+use Rattle.strip_product_laws.specs.StripLists.{ListsEach, AddsHorizontalStrip, AddsVerticalStrip, AddsRimHook}
+use Rattle.strip_product_laws.proofs.StripShapes.{holds_get}
+use Rattle.strip_rules.specs.Adding.{AreSmall}
+
+pub horizontal_list : (k : ℕ) (parts : List ℕ) (list : List (List ℕ)) → AreHorizontalStrips parts k list → ListsEach (AddsHorizontalStrip k parts) list
+horizontal_list k parts list h = record { once = Once-FallsLexicographically list h.falls; members = h.members }
+
+pub vertical_list : (k : ℕ) (parts : List ℕ) (list : List (List ℕ)) → AreVerticalStrips parts k list → ListsEach (AddsVerticalStrip k parts) list
+vertical_list k parts list h = record { once = Once-FallsLexicographically list h.falls; members = h.members }
+
+pub hook_list : (k : ℕ) (parts : List ℕ) (list : List (List ℕ)) → AreHooksAdded parts k list → ListsEach (AddsRimHook k parts) list
+hook_list k parts list h = record { once = Once-FallsLexicographically list h.falls; members = h.members }
+
+-- a partition around another one, with k cells more
+pub record IsAround (k : ℕ) (inner outer : List ℕ) : Type 0 where
+  pub partition : IsPartition outer
+  pub cells : size outer ≡ size inner + k
+  pub holds : Holds outer inner
+
+-- each further row has a cell
+rows_grow : (inner outer : List ℕ) → ArePositive inner → ArePositive outer → ((j : ℕ) → get_or inner j 0 ≤ get_or outer j 0) → rows outer + size inner ≤ rows inner + size outer
+rows_grow [] [] p q h = omega arith
+rows_grow [] (b ∷ outer) p q h = let r = rows_grow [] outer tt q.1 (λ j. omega arith) in let s = q.0 in omega arith
+rows_grow (a ∷ inner) [] p q h = absurd (let l = h 0 in let s = p.0 in omega arith)
+rows_grow (a ∷ inner) (b ∷ outer) p q h = let r = rows_grow inner outer p.1 q.1 (λ j. h (suc j)) in let l = h 0 in omega arith
+
+rows_around : (k : ℕ) (inner outer : List ℕ) → IsPartition inner → IsAround k inner outer → rows outer ≤ rows inner + k
+rows_around k inner outer p a =
+    let r = rows_grow inner outer p.positive a.partition.positive (holds_get outer inner a.holds) in
+    let c = a.cells in
+    omega arith
+
+pub shape_limits : (k : ℕ) (inner outer : List ℕ) → IsPartition inner → size inner + k ≤ 4096 → rows inner + k ≤ 512 → IsAround k inner outer → IsWithinLimits outer
+shape_limits k inner outer p cells few a =
+    let r = rows_around k inner outer p a in
+    let c = a.cells in
+    record { partition = a.partition; few = omega arith; small = omega arith }
+
+pub shapes_small : (k : ℕ) (inner : List ℕ) (list : List (List ℕ)) (cells lengths : ℕ) → IsPartition inner → ((ν : List ℕ) → Among ν list → IsAround k inner ν)
+    → size inner + k ≤ cells → rows inner + k ≤ lengths → AreSmall cells lengths list
+shapes_small k inner list cells lengths p around h l ν m =
+    let a = around ν m in
+    let r = rows_around k inner ν p a in
+    let c = a.cells in
+    (omega arith, omega arith)
+
+pub horizontal_around : (k : ℕ) (parts : List ℕ) (list : List (List ℕ)) → ListsEach (AddsHorizontalStrip k parts) list → (ν : List ℕ) → Among ν list → IsAround k parts ν
+horizontal_around k parts list h ν m = let f = (h.members ν).0 m in record { partition = f.0; cells = f.1; holds = f.2.holds }
+
+pub vertical_around : (k : ℕ) (parts : List ℕ) (list : List (List ℕ)) → ListsEach (AddsVerticalStrip k parts) list → (ν : List ℕ) → Among ν list → IsAround k parts ν
+vertical_around k parts list h ν m = let f = (h.members ν).0 m in record { partition = f.0; cells = f.1; holds = f.2.holds }
+
+pub hook_around : (k : ℕ) (parts : List ℕ) (list : List (List ℕ)) → ListsEach (AddsRimHook k parts) list → (ν : List ℕ) → Among ν list → IsAround k parts ν
+hook_around k parts list h ν m = let f = (h.members ν).0 m in record { partition = f.0; cells = f.1; holds = f.2.holds }
+
+pub height_positive : (k : ℕ) (parts : List ℕ) (list : List (List ℕ)) → IsPartition parts → ListsEach (AddsRimHook k parts) list → (ν : List ℕ) → Among ν list → 1 ≤ height ν parts
+height_positive k parts list p h ν m =
+    let f = (h.members ν).0 m in
+    let r = hook_rows ν parts f.0.falls p.falls f.2 in
+    let e = height_of_rows ν parts r.0 r.1 f.0.falls r.2 in
+    let o = r.2.ordered in
+    omega arith

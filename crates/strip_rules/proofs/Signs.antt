@@ -1,0 +1,63 @@
+-- The signs of rim hooks by their heights.
+--     sign_size                   a sign has the absolute value 1
+--     signed_odd, signed_even     a number with the sign of a height
+--     negation_large              a negation is refused for its size alone
+--     height_here                 the height that a lister tells
+use Rattle.std.proofs.Common.{◌≡◌, ◌⊎◌, ℕ, zero, suc, ◌-◌, ◌/◌, ◌%◌, ◌^◌, ◌<◌, ◌≤◌, inl, inr, refl, sym, ap, ◌∙◌, subst, arith, ℤ, pos, neg_ℤ, ◌*ℤ◌, unsigned_abs}
+use Rattle.std.specs.Prelude.{◌≢◌, List, Option, Some, None, IfSome}
+use Rattle.std.proofs.Math.Nat.{div-le_of_le-mul}
+use Rattle.std.proofs.lemmas.Bool.{cases_lt}
+use Rattle.std.proofs.lemmas.Int.{ints}
+use Rattle.sym_model.specs.PlaceOrders.{minus_one_to}
+use Rattle.sym_model.specs.Strip.{height}
+use Rattle.sym_model.specs.Expansion.{Fraction}
+use Rattle.beta_list_laws.proofs.NeighbourExchanges.{parity_of}
+use Rattle.coeff_rings.specs.Room.{magnitude}
+use Rattle.coeff_rings.specs.Answers.{AnswersNegation}
+use Rattle.coeff_rings.specs.Proved.Divisors.{quotient_positive}
+use Rattle.strip_rules.specs.Adding.{IsDenominator}
+use Rattle.sym_model.proofs.Ring.{product-one, product-negation, negation-product}
+use Rattle.coeff_rings.specs.Fractions.{scaled, fraction_negation}
+use native.Mathlib.Nat.{mul-le-mul_left}
+
+turned_size : (z : ℤ) → unsigned_abs (neg_ℤ z) ≡ unsigned_abs z
+turned_size z = omega (arith, ints)
+
+pub sign_size : (n : ℕ) → unsigned_abs (minus_one_to n) ≡ 1
+sign_size zero = refl
+sign_size (suc n) = turned_size (minus_one_to n) ∙ sign_size n
+
+pub signed_odd : (q h : ℕ) (c : Fraction) → h % 2 ≡ 1 → scaled q c ≡ scaled q c *ℤ minus_one_to (h - 1)
+signed_odd q h c e = elim (parity_of (h - 1)) [
+  | inl p ↦ sym (product-one (scaled q c)) ∙ ap (λ z. scaled q c *ℤ z) (sym p.1)
+  | inr p ↦ absurd (let m = p.0 in omega arith)
+]
+
+pub signed_even : (q h : ℕ) (c d : Fraction) → 1 ≤ h → h % 2 ≢ 1 → d ≡ fraction_negation c → scaled q d ≡ scaled q c *ℤ minus_one_to (h - 1)
+signed_even q h c d l e f = elim (parity_of (h - 1)) [
+  | inl p ↦ absurd (e (let m = p.0 in omega arith))
+  | inr p ↦
+      ap (scaled q) f
+      ∙ negation-product c.0 (pos (q / c.1))
+      ∙ ap neg_ℤ (sym (product-one (scaled q c)))
+      ∙ sym (product-negation (scaled q c) (pos 1))
+      ∙ ap (λ z. scaled q c *ℤ z) (sym p.1)
+]
+
+-- a negation is refused for its size alone
+pub negation_large : {R : Type 0} (value : R → Fraction) (c : R) → AnswersNegation value c None → (q : ℕ) → IsDenominator q (value c) → 2 ^ 127 ≤ magnitude q (value c)
+negation_large value c answers q d = by (cases_lt (magnitude (value c).1 (value c)) (2 ^ 127))
+  where
+    by : (magnitude (value c).1 (value c) < 2 ^ 127) ⊎ (2 ^ 127 ≤ magnitude (value c).1 (value c)) → 2 ^ 127 ≤ magnitude q (value c)
+    by (inl l) = let some = answers.room l in cc
+    by (inr l) =
+        let one = div-le_of_le-mul (value c).1 {m = (value c).1} {n = 1} (omega arith) in
+        let more = quotient_positive q (value c).1 d.positive d.multiple in
+        let x = mul-le-mul_left (unsigned_abs (value c).0) one in
+        let y = mul-le-mul_left (unsigned_abs (value c).0) (let o : 1 ≤ q / (value c).1 = omega arith in o) in
+        omega arith
+
+-- the height that a lister tells is that of its current shape
+pub height_here : (item : Option (List ℕ)) (now base label : List ℕ) → (high : ℕ) → IfSome item (λ ν. high ≡ height ν now) → item ≡ Some label → now ≡ base → high ≡ height label base
+height_here item now base label high h e b =
+    subst (λ o. IfSome o (λ ν. high ≡ height ν now)) e h ∙ ap (height label) b

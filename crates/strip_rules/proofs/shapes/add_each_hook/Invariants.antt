@@ -1,0 +1,22 @@
+use Rattle.std.proofs.Common.{◌≡◌, ℕ, List, ◌++◌, ◌-◌, length}
+use Rattle.sym_model.specs.PlaceOrders.{minus_one_to}
+use Rattle.sym_model.specs.Strip.{height}
+use Rattle.coeff_rings.specs.Fractions.{scaled}
+use Rattle.monomial_products.specs.Products.{AreCleared}
+use Rattle.strip_rules.specs.Room.{AreWithin}
+use Rattle.strip_rules.specs.Adding.{IsDenominator, AreSmall, AddsShapes}
+use Rattle.strip_rules.proofs.shapes.add_each_hook.Given as goal
+
+-- the shapes so far are added, they and the rest are all, and the inner partition stays
+abbrev pub invariant-loop-alloc : goal.invariant-loop-alloc
+invariant-loop-alloc g l = (done : List (List ℕ)) × record {
+  so_far : done ++ l.hooks.rest ≡ l.fn.hooks.rest;
+  base : l.hooks.base ≡ l.fn.hooks.base;
+  sums :
+      (q : ℕ) → IsDenominator q (g.R.Scalar.value l.c) → AreCleared q l.fn.sum
+      → AddsShapes q l.fn.sum (scaled q (g.R.Scalar.value l.c)) (λ ν. minus_one_to (height ν l.fn.hooks.base - 1)) done l.sum;
+  labels : (cells lengths : ℕ) → AreSmall cells lengths done → AreWithin cells lengths l.fn.sum → AreWithin cells lengths l.sum;
+}
+
+abbrev pub decreases-loop-alloc : goal.decreases-loop-alloc
+decreases-loop-alloc g l = length l.hooks.rest
