@@ -1,0 +1,7 @@
+mod Weights
+mod Expansions
+mod Tables
+mod Expressions
+mod ListProducts
+mod OneTerms
+mod Factors

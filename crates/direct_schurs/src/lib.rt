@@ -1,0 +1,10 @@
+//! Expressions expanded in Schur polynomials with no way through m.
+#![tactic(auto)]
+
+mod atoms;
+mod conversion;
+mod expansion;
+mod products;
+mod strips;
+
+pub use expansion::to_schur;

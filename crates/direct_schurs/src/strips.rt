@@ -1,0 +1,106 @@
+//! Lists of terms in Schur polynomials times e_k, h_k and p_k, by the strips and the rim hooks of k cells.
+ghost use Rattle.std.specs.Prelude.{◌≡◌, ◌<◌, ◌≤◌, ℕ, List, IsTrue, IfOk, IfSome};
+ghost use Rattle.sym_model.specs.Expansion.{schurs, IsExpansionOf};
+ghost use Rattle.sym_model.specs.Expression.{atom};
+ghost use Rattle.sym_model.specs.Partition.{ArePositive, size};
+ghost use Rattle.sym_model.specs.Polynomial.{In, Poly, times};
+ghost use Rattle.calc_expressions.specs.Trees.{basis_of, tree_of};
+ghost use Rattle.strip_rules.specs.Room.{HasRoom};
+ghost use Rattle.direct_schurs.specs.Families.{polynomial_of, product_of, basis_in};
+
+use calc_base::{Basis, SumFault};
+use calc_expressions::Expr;
+use coeff_rings::Frac;
+use partitions::Partition;
+use sparse_polys::Lin;
+use std::alloc::Global;
+use strip_rules::{add_column, add_hook, add_row};
+
+/// A family whose polynomials are multiplied over the parts of a partition.
+#[derive(Clone, Copy)]
+pub(crate) enum Family {
+    Elementary,
+    Complete,
+    PowerSum,
+}
+
+/// The most cells, and the most rows, of a label.
+const MAX_CELLS: u16 = 4096;
+
+const MAX_ROWS: u16 = 512;
+
+/// Whether each label has room for k cells more. The labels of an expression's parts always have.
+fn has_room(list: &Lin<Partition, Frac>, k: u16) -> bool
+    requires { k ≤ 512 }
+    ensures { IsTrue result → HasRoom k list.now }
+{
+    for (label, _) in list.iter() {
+        if label.size() > MAX_CELLS - k || label.rows() > MAX_ROWS - k {
+            return false;
+        }
+    }
+    true
+}
+
+/// The list times e_k, h_k or p_k.
+fn times_part(
+    alloc: Global,
+    family: Family,
+    list: Lin<Partition, Frac>,
+    k: u16,
+) -> Result<Lin<Partition, Frac>, SumFault>
+    requires positive { 0 < k }
+    requires low { k ≤ 512 }
+    ensures { IfOk result (λ product. (n : ℕ) (f : Poly) (q : ℕ)
+        → IsExpansionOf schurs list n f q → IsExpansionOf schurs product n (times (polynomial_of family k n) f) q) }
+{
+    if !has_room(&list, k) {
+        return Err(SumFault::Large);
+    }
+    match family {
+        Family::Elementary => add_column(alloc, list, k),
+        Family::Complete => add_row(alloc, list, k),
+        Family::PowerSum => add_hook(alloc, list, k),
+    }
+}
+
+/// The list times e_k, h_k or p_k for each of the parts k.
+pub(crate) fn times_parts(
+    alloc: Global,
+    family: Family,
+    list: Lin<Partition, Frac>,
+    parts: &[u16],
+) -> Result<Lin<Partition, Frac>, SumFault>
+    requires positive { ArePositive parts.now }
+    requires low { size parts.now ≤ 512 }
+    ensures { IfOk result (λ product. (n : ℕ) (f : Poly) (q : ℕ) → In n f
+        → IsExpansionOf schurs list n f q → IsExpansionOf schurs product n (times (product_of family parts.now n) f) q) }
+{
+    let [k, rest @ ..] = parts else {
+        return Ok(list);
+    };
+    let others = times_parts(alloc, family, list, rest)?;
+    times_part(alloc, family, others, *k)
+}
+
+/// The family whose products are a basis.
+fn family_of(basis: Basis) -> Option<Family>
+    ensures { IfSome result (λ family. basis_of basis ≡ basis_in family) }
+{
+    match basis {
+        Basis::E => Some(Family::Elementary),
+        Basis::H => Some(Family::Complete),
+        Basis::P => Some(Family::PowerSum),
+        Basis::M | Basis::S => None,
+    }
+}
+
+/// The family and the partition of an atom in e, h or p.
+pub(crate) fn factors_of(tree: &Expr) -> Option<(Family, &Partition)>
+    ensures { IfSome result (λ factors. tree_of tree.now ≡ atom (basis_in factors.0) factors.1.now) }
+{
+    match tree {
+        Expr::Atom { basis, label } => Some((family_of(*basis)?, label)),
+        _ => None,
+    }
+}
