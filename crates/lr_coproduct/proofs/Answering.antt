@@ -1,6 +1,6 @@
 -- What a coproduct answers.
 use Rattle.std.proofs.Common.{◌≡◌, ℕ, ◌+◌, List, [], ◌∷◌, ◌++◌, map, refl, sym, ap, ◌∙◌, arith, ℤ, pos, ◌+ℤ◌, ◌*ℤ◌}
-use Rattle.std.specs.Prelude.{None}
+use Rattle.std.specs.Prelude.{None, false}
 use Rattle.std.proofs.lemmas.Int.{ints}
 use Rattle.sym_model.specs.Sum.{total, each, Among}
 use Rattle.sym_model.specs.Partition.{IsPartition, columns, without_last_zeros}
@@ -111,9 +111,9 @@ coproduct_meets shape inners terms p l w sums n k =
 
 -- ---- coefficients past the limit
 
-pub past_of_inner : (shape inner : List ℕ) (inners : List (List ℕ)) → ListsShapesInside shape inners → Among inner inners → HasPastCoefficient (skew None shape inner) → HasPastCoefficient (coprod shape)
+pub past_of_inner : (shape inner : List ℕ) (inners : List (List ℕ)) → ListsShapesInside shape inners → Among inner inners → HasPastCoefficient (skew None false shape inner) → HasPastCoefficient (coprod shape)
 past_of_inner shape inner inners l m (c, s, past) =
     (c, record { part = inner; partition = l.partitions inner m; inside = l.inside inner m; is = s }, past)
 
-pub none_past : (shape : List ℕ) (inners : List (List ℕ)) → ListsShapesInside shape inners → ((inner : List ℕ) → Among inner inners → HasPastCoefficient (skew None shape inner) → ⊥) → HasPastCoefficient (coprod shape) → ⊥
+pub none_past : (shape : List ℕ) (inners : List (List ℕ)) → ListsShapesInside shape inners → ((inner : List ℕ) → Among inner inners → HasPastCoefficient (skew None false shape inner) → ⊥) → HasPastCoefficient (coprod shape) → ⊥
 none_past shape inners l fits (c, d, past) = fits d.part (l.all d.part d.partition d.inside) (c, d.is, past)

@@ -1,5 +1,5 @@
 //! The coproduct of a Schur polynomial.
-ghost use Rattle.std.specs.Prelude.{◌≡◌, ℕ, List, ◌⊎◌, true, None, IfOk, OnOk, IsErrOf};
+ghost use Rattle.std.specs.Prelude.{◌≡◌, ℕ, List, ◌⊎◌, true, false, None, IfOk, OnOk, IsErrOf};
 ghost use Rattle.coeff_rings.specs.Fractions.{whole};
 ghost use Rattle.sym_model.specs.Sum.{Among};
 ghost use Rattle.sym_model.specs.LabelLimits.{is_label, is_pair_label};
@@ -61,8 +61,8 @@ fn add_inner(
         → IsCanonicalList pair_order is_pair_label (terms_of whole pairs.new.items)) }
     ensures firsts { OnOk result ((t : (List ℕ × List ℕ) × Fraction) → Among t (terms_of whole pairs.new.items)
         → Among t (terms_of whole pairs.old.items) ⊎ (t.0.0 ≡ inner.now)) }
-    ensures fits { OnOk result (HasPastCoefficient (commands.skew None shape.now inner.now) → ⊥) }
-    ensures large { IsErrOf result SumFault.Large → HasPastCoefficient (commands.skew None shape.now inner.now) }
+    ensures fits { OnOk result (HasPastCoefficient (commands.skew None false shape.now inner.now) → ⊥) }
+    ensures large { IsErrOf result SumFault.Large → HasPastCoefficient (commands.skew None false shape.now inner.now) }
 {
     lies_in_limits(inner);
     let list = match skew(alloc, shape, inner, None) {

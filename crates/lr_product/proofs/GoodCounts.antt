@@ -179,21 +179,25 @@ variables_same : (rows_given : Option ℕ) (k : ℕ) → unwrap_or rows_given k 
 variables_same None k = refl
 variables_same (Some n) k = refl
 
+-- the rows of both factors are enough variables
+enough_same : (variables : Option ℕ) (left right : List ℕ) → unwrap_or variables (rows left + rows right) ≡ variables_or variables (size (map rows (left ∷ right ∷ [])))
+enough_same variables left right = variables_same variables (rows left + rows right) ∙ ap (variables_or variables) (let z : rows left + rows right ≡ rows left + (rows right + 0) = omega arith in z)
+
 pub mult_answers : (variables : Option ℕ) (m : ℕ) (left right : List ℕ) (terms : Terms (List ℕ)) → m ≡ unwrap_or variables (rows left + rows right) → IsPartition left → IsPartition right
-    → ListsCounts m (product_count m left right) terms → Meets (mult variables left right) (answer product terms)
+    → ListsCounts m (product_count m left right) terms → Meets (mult variables false (left ∷ right ∷ [])) (answer product terms)
 mult_answers variables m left right terms e p q c =
     mult_meets variables left right terms p q (subst (λ k. ListsCounts k (product_count k left right) terms) (e ∙ variables_same variables (rows left + rows right)) c)
 
 pub mult_past : (variables : Option ℕ) (m : ℕ) (left right : List ℕ) → m ≡ unwrap_or variables (rows left + rows right) → IsPartition left → IsPartition right
-    → IsPastSomewhere m (product_count m left right) → HasPastCoefficient (mult variables left right)
+    → IsPastSomewhere m (product_count m left right) → HasPastCoefficient (mult variables false (left ∷ right ∷ []))
 mult_past variables m left right e p q past =
-    subst (λ k. HasPast k (schur_product (left ∷ right ∷ []) k)) (e ∙ variables_same variables (rows left + rows right)) (has_past m (schur_product (left ∷ right ∷ []) m) (product_count m left right) (product_counts m left right p q) past)
+    subst (λ k. HasPast k (schur_product (left ∷ right ∷ []) k)) (e ∙ enough_same variables left right) (has_past m (schur_product (left ∷ right ∷ []) m) (product_count m left right) (product_counts m left right p q) past)
 
 pub mult_fits : (variables : Option ℕ) (m : ℕ) (left right : List ℕ) → m ≡ unwrap_or variables (rows left + rows right) → IsPartition left → IsPartition right
-    → ((ν : List ℕ) → IsPartition ν → rows ν ≤ m → product_count m left right ν < 2 ^ 127) → HasPastCoefficient (mult variables left right) → ⊥
+    → ((ν : List ℕ) → IsPartition ν → rows ν ≤ m → product_count m left right ν < 2 ^ 127) → HasPastCoefficient (mult variables false (left ∷ right ∷ [])) → ⊥
 mult_fits variables m left right e p q small past =
     has_none_past m (schur_product (left ∷ right ∷ []) m) (product_count m left right) (product_counts m left right p q) small
-    (subst (λ k. HasPast k (schur_product (left ∷ right ∷ []) k)) (sym (e ∙ variables_same variables (rows left + rows right))) past)
+    (subst (λ k. HasPast k (schur_product (left ∷ right ∷ []) k)) (sym (e ∙ enough_same variables left right)) past)
 
 -- the list is the classical product
 pub classical_answer : (k : ℕ) (left right : List ℕ) (terms : Terms (List ℕ)) → IsPartition left → IsPartition right → ListsCounts k (product_count k left right) terms
@@ -259,17 +263,17 @@ same_skew n m outer inner e o i holds =
     ∙ skew_counts m outer inner o i holds ν r l)
 
 pub skew_answers : (variables : Option ℕ) (m : ℕ) (outer inner : List ℕ) (terms : Terms (List ℕ)) → m ≡ unwrap_or variables (rows outer) → IsPartition outer → IsPartition inner → contains outer inner ≡ true
-    → ListsCounts m (skew_count outer inner) terms → Meets (skew variables outer inner) (answer product terms)
+    → ListsCounts m (skew_count outer inner) terms → Meets (skew variables false outer inner) (answer product terms)
 skew_answers variables m outer inner terms e o i holds c =
     skew_meets variables outer inner terms o i holds (subst (λ k. ListsCounts k (skew_count outer inner) terms) (e ∙ variables_same variables (rows outer)) c)
 
 pub skew_past : (variables : Option ℕ) (m : ℕ) (outer inner : List ℕ) → m ≡ unwrap_or variables (rows outer) → IsPartition outer → IsPartition inner → contains outer inner ≡ true
-    → IsPastSomewhere m (skew_count outer inner) → HasPastCoefficient (skew variables outer inner)
+    → IsPastSomewhere m (skew_count outer inner) → HasPastCoefficient (skew variables false outer inner)
 skew_past variables m outer inner e o i holds past =
     subst (λ k. HasPast k (skew_schur outer inner k)) (e ∙ variables_same variables (rows outer)) (has_past m (skew_schur outer inner m) (skew_count outer inner) (skew_counts m outer inner o i holds) past)
 
 pub skew_fits : (variables : Option ℕ) (m : ℕ) (outer inner : List ℕ) → m ≡ unwrap_or variables (rows outer) → IsPartition outer → IsPartition inner → contains outer inner ≡ true
-    → ((ν : List ℕ) → IsPartition ν → rows ν ≤ m → skew_count outer inner ν < 2 ^ 127) → HasPastCoefficient (skew variables outer inner) → ⊥
+    → ((ν : List ℕ) → IsPartition ν → rows ν ≤ m → skew_count outer inner ν < 2 ^ 127) → HasPastCoefficient (skew variables false outer inner) → ⊥
 skew_fits variables m outer inner e o i holds small past =
     has_none_past m (skew_schur outer inner m) (skew_count outer inner) (skew_counts m outer inner o i holds) small (subst (λ k. HasPast k (skew_schur outer inner k)) (sym (e ∙ variables_same variables (rows outer))) past)
 
@@ -287,11 +291,11 @@ contains-false outer inner h = false_from_ne_true (contains outer inner) (λ e. 
 skew_none : (outer inner : List ℕ) (n : ℕ) → contains outer inner ≡ false → skew_schur outer inner n ≡ []
 skew_none outer inner n h = ap (λ (b : Bool). map (λ (T : List (List ℕ)). (content n (letters_of T), pos 1)) (cond b (select (semistandard inner) (fillings_of n (row_lengths outer inner))) [])) h
 
-pub outside_answers : (variables : Option ℕ) (outer inner : List ℕ) → contains outer inner ≡ false → Meets (skew variables outer inner) (answer product [])
+pub outside_answers : (variables : Option ℕ) (outer inner : List ℕ) → contains outer inner ≡ false → Meets (skew variables false outer inner) (answer product [])
 outside_answers None outer inner h = λ n. represents-whole (λ label. schur label n) [] (skew_schur outer inner n) tt (λ α. ap (λ (f : Poly). coefficient f α) (sym (skew_none outer inner n h)))
 outside_answers (Some k) outer inner h = (represents-whole (λ label. schur label k) [] (skew_schur outer inner k) tt (λ α. ap (λ (f : Poly). coefficient f α) (sym (skew_none outer inner k h))), λ t m. absurd m)
 
-pub outside_fits : (variables : Option ℕ) (outer inner : List ℕ) → contains outer inner ≡ false → HasPastCoefficient (skew variables outer inner) → ⊥
+pub outside_fits : (variables : Option ℕ) (outer inner : List ℕ) → contains outer inner ≡ false → HasPastCoefficient (skew variables false outer inner) → ⊥
 outside_fits variables outer inner h past =
     let m = variables_or variables (rows outer) in
     has_none_past m [] (λ ν. 0) (λ ν q l. coefficient_pair (times (alternant (staircase m)) []) (join ν (staircase m)) ∙ pair_times (alternant (staircase m)) [] (at_only (join ν (staircase m))) ∙ pair_zero (alternant (staircase m)))

@@ -1,5 +1,5 @@
 //! Products of two Schur polynomials.
-ghost use Rattle.std.specs.Prelude.{◌≡◌, ◌+◌, ◌^◌, ◌<◌, ◌≤◌, ℕ, List, [], ◌∷◌, IfOk, OnOk, IfSome, IsErrOf};
+ghost use Rattle.std.specs.Prelude.{◌≡◌, ◌+◌, ◌^◌, ◌<◌, ◌≤◌, ℕ, List, [], ◌∷◌, false, IfOk, OnOk, IfSome, IsErrOf};
 ghost use Rattle.std.specs.Option.{ForSome};
 ghost use Rattle.sym_model.specs.Partition.{IsPartition, size, rows as number_of_rows};
 ghost use Rattle.sym_model.specs.Polynomial.{Same};
@@ -33,9 +33,9 @@ pub fn mult(
     requires sizes { size left.now + size right.now ≤ 4096 }
     requires lengths { number_of_rows left.now + number_of_rows right.now ≤ 512 }
     requires variables { ForSome rows (λ k. (1 ≤ k) × (k ≤ 512)) }
-    ensures meets { IfOk result (λ terms. Meets (commands.mult rows left.now right.now) (answer kinds.product terms)) }
-    ensures large { IsErrOf result SumFault.Large → HasPastCoefficient (commands.mult rows left.now right.now) }
-    ensures fits { OnOk result (HasPastCoefficient (commands.mult rows left.now right.now) → ⊥) }
+    ensures meets { IfOk result (λ terms. Meets (commands.mult rows false (left.now ∷ right.now ∷ [])) (answer kinds.product terms)) }
+    ensures large { IsErrOf result SumFault.Large → HasPastCoefficient (commands.mult rows false (left.now ∷ right.now ∷ [])) }
+    ensures fits { OnOk result (HasPastCoefficient (commands.mult rows false (left.now ∷ right.now ∷ [])) → ⊥) }
 
     // In a number of variables it is the classical product, and a coefficient that is too large makes the sum of all so.
     ensures classical { IfOk result (λ terms. IfSome rows (λ k.

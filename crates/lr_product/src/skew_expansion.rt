@@ -1,5 +1,5 @@
 //! Skew Schur polynomials in Schur polynomials.
-ghost use Rattle.std.specs.Prelude.{◌≡◌, ◌^◌, ◌<◌, ◌≤◌, ℕ, List, true, IfOk, OnOk, IsErrOf};
+ghost use Rattle.std.specs.Prelude.{◌≡◌, ◌^◌, ◌<◌, ◌≤◌, ℕ, List, true, false, IfOk, OnOk, IsErrOf};
 ghost use Rattle.std.specs.Option.{ForSome};
 ghost use Rattle.sym_model.specs.Partition.{IsPartition, rows as number_of_rows};
 ghost use Rattle.sym_model.specs.Schur.{contains};
@@ -30,9 +30,9 @@ pub fn skew(
     rows: Option<u16>,
 ) -> Result<Terms<Partition, Int>, SumFault>
     requires { ForSome rows (λ k. (1 ≤ k) × (k ≤ 512)) }
-    ensures meets { IfOk result (λ terms. Meets (commands.skew rows outer.now inner.now) (answer kinds.product terms)) }
-    ensures large { IsErrOf result SumFault.Large → HasPastCoefficient (commands.skew rows outer.now inner.now) }
-    ensures fits { OnOk result (HasPastCoefficient (commands.skew rows outer.now inner.now) → ⊥) }
+    ensures meets { IfOk result (λ terms. Meets (commands.skew rows false outer.now inner.now) (answer kinds.product terms)) }
+    ensures large { IsErrOf result SumFault.Large → HasPastCoefficient (commands.skew rows false outer.now inner.now) }
+    ensures fits { OnOk result (HasPastCoefficient (commands.skew rows false outer.now inner.now) → ⊥) }
 {
     if !outer.contains(inner) {
         return no_terms(alloc);

@@ -4,5 +4,3 @@ pub mod Counts
 pub mod Reduced
 pub mod Turns
 pub mod AlcoveOf
-pub mod Collected
-pub mod ReducedLists

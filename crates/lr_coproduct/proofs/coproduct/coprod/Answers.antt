@@ -1,5 +1,5 @@
 use Rattle.std.proofs.Common.{◌≡◌, ℕ, List, ◌+◌, take, sym, subst, inl, inr, arith}
-use Rattle.std.specs.Prelude.{None}
+use Rattle.std.specs.Prelude.{None, false}
 use Rattle.coeff_rings.specs.Fractions.{whole}
 use Rattle.sym_model.specs.Sum.{Among, each}
 use Rattle.sym_model.specs.Polynomial.{Same}
@@ -45,7 +45,7 @@ loop-at-preserved c =
       canonical = c.in_default.ensures.goes_on (λ t m. earlier_before items at inner t.0.0 c.in-Ok.ensures.listed.ordered here (c.loop-at.invariant.firsts t m)) c.loop-at.invariant.canonical;
       firsts = λ t m. subst (λ (l : List (List ℕ)). Among t.0.0 l) (sym next)
           (elim (c.in_default.ensures.firsts t m) [ inl k ↦ Among-append_left t.0.0 (take at items) _ (c.loop-at.invariant.firsts t k) | inr e ↦ Among-append_right t.0.0 (take at items) _ (inl e) ]);
-      fits = λ i m. either_at (λ j. HasPastCoefficient (skew None shape j) → ⊥) items at inner i here m c.in_default.ensures.fits (c.loop-at.invariant.fits i);
+      fits = λ i m. either_at (λ j. HasPastCoefficient (skew None false shape j) → ⊥) items at inner i here m c.in_default.ensures.fits (c.loop-at.invariant.fits i);
     }
 
 pub returns-clause-meets : goal.returns-clause-meets

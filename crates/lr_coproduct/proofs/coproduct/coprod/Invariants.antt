@@ -1,5 +1,5 @@
 use Rattle.std.proofs.Common.{◌≡◌, ℕ, List, length, take}
-use Rattle.std.specs.Prelude.{None}
+use Rattle.std.specs.Prelude.{None, false}
 use Rattle.coeff_rings.specs.Fractions.{whole}
 use Rattle.sym_model.specs.Sum.{Among, each}
 use Rattle.sym_model.specs.Polynomial.{Same}
@@ -19,5 +19,5 @@ invariant-loop-at l = record {
   adds : (n k : ℕ) → Same (pair_sum n k (terms_of whole l.pairs.items)) (each (λ inner. beside (schur inner n) (skew_schur l.shape inner k)) (take l.at l.inners.items));
   canonical : IsCanonicalList pair_order is_pair_label (terms_of whole l.pairs.items);
   firsts : (t : (List ℕ × List ℕ) × Fraction) → Among t (terms_of whole l.pairs.items) → Among t.0.0 (take l.at l.inners.items);
-  fits : (inner : List ℕ) → Among inner (take l.at l.inners.items) → HasPastCoefficient (skew None l.shape inner) → ⊥;
+  fits : (inner : List ℕ) → Among inner (take l.at l.inners.items) → HasPastCoefficient (skew None false l.shape inner) → ⊥;
 }

@@ -1,4 +1,4 @@
-use Rattle.std.proofs.Common.{◌≡◌, true, subst, sym, ap, ◌∙◌}
+use Rattle.std.proofs.Common.{◌≡◌, true, false, subst, sym, ap, ◌∙◌}
 use Rattle.std.specs.Option.{unwrap_or}
 use Rattle.sym_model.specs.Partition.{rows}
 use Rattle.sym_model.specs.Command.{skew}
@@ -12,7 +12,7 @@ use Rattle.lr_product.proofs.skew_expansion.skew.Goals as goal
 pub returns-then-not-contains-clause-meets : goal.returns-then-not-contains-clause-meets
 returns-then-not-contains-clause-meets c =
     let outside = contains-false c.args.outer.now c.args.inner.now (λ h. let yes : c.contains.result ≡ true = c.contains.ensures.1 h in absurd (cc)) in
-    if_answered c.no_terms.result c.no_terms.ensures.none (λ terms e. subst (λ ts. Meets (skew c.args.rows c.args.outer.now c.args.inner.now) (answer product ts)) (sym e) (outside_answers c.args.rows c.args.outer.now c.args.inner.now outside))
+    if_answered c.no_terms.result c.no_terms.ensures.none (λ terms e. subst (λ ts. Meets (skew c.args.rows false c.args.outer.now c.args.inner.now) (answer product ts)) (sym e) (outside_answers c.args.rows c.args.outer.now c.args.inner.now outside))
 
 pub returns-then-not-contains-clause-fits : goal.returns-then-not-contains-clause-fits
 returns-then-not-contains-clause-fits c =

@@ -1,0 +1,6 @@
+mod TableLists
+mod CountSums
+mod PastCoefficients
+mod FactorSums
+mod Partial
+mod NothingLeft

@@ -1,0 +1,2 @@
+pub mod ProductOfFactors
+pub mod Tables

@@ -1,0 +1,10 @@
+pub mod CollectedTerms
+pub mod Reducing
+pub mod ClassicalLists
+pub mod Reflecting
+pub mod RaisedTerms
+pub mod ScaledTerms
+pub mod CollectedLists
+pub mod FactorSteps
+pub mod QuantumSteps
+pub mod FusionSteps

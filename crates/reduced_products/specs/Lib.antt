@@ -1,0 +1,4 @@
+pub mod Collected
+pub mod ReducedLists
+pub mod FactorRows
+pub mod HeavySteps
