@@ -1,0 +1,29 @@
+-- The block that a one-line form comes to, byte by byte (this project's own).
+use Rattle.std.specs.Prelude.{ℕ, ◌==◌, nat_le, Bool, true, false, ◌&&◌, ◌||◌, List, [], ◌∷◌, ◌++◌, codes, cond}
+use Rattle.sym_model.specs.Kind.{Kind, expansion, product}
+
+-- the kinds whose labels are partitions alone, which stand on one line as atoms
+abbrev pub HasAtoms : Kind → Type 0
+HasAtoms expansion = Unit {0}
+HasAtoms product = Unit {0}
+HasAtoms _ = ⊥
+
+-- whether a byte leaves no trace: `+`, `*`, a letter, and LF where no number was read since the last atom
+abbrev pub is_dropped : Bool → ℕ → Bool
+is_dropped bare byte = (((byte == 43) || (byte == 42)) || nat_le 97 byte) || (bare && (byte == 10))
+
+-- what a byte comes to: `[` opens a label, behind the coefficient 1 where none was read, and `]` ends its line
+abbrev pub emitted : Bool → ℕ → List ℕ
+emitted bare byte =
+    cond (is_dropped bare byte) []
+    (cond (byte == 91) (cond bare (codes "1  (") (codes "  ("))
+    (cond (byte == 93) (codes ")\n") (byte ∷ [])))
+
+-- whether no number was read since the last atom, when this byte has been
+abbrev pub is_bare_after : Bool → ℕ → Bool
+is_bare_after bare byte = cond (byte == 93) true (cond (nat_le 48 byte && nat_le byte 57) false bare)
+
+-- the block that the rest of a line comes to
+abbrev pub block_from : Bool → List ℕ → List ℕ
+block_from bare [] = []
+block_from bare (byte ∷ text) = emitted bare byte ++ block_from (is_bare_after bare byte) text
