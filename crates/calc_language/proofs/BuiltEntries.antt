@@ -13,7 +13,7 @@ use Rattle.calc_base.specs.declared.words.WordsFault.{WordsFault}
 use Rattle.calc_words.specs.Reading.{IsRead}
 use Rattle.calc_words.specs.WrittenLimits.{KeepsLimits}
 use Rattle.calc_words.proofs.Joining.{joined_read}
-use Rattle.calc_words.proofs.WrittenCommands.{Keeps, all_keep, some_keeps, whole_tab_keeps}
+use Rattle.calc_words.proofs.WrittenCommands.{Keeps, all_keep, some_keeps}
 use Rattle.calc_language.specs.BuiltCommands.{built_names, built_targets, all_entries, all_line_entries, is_built, command_entries, batch_entries}
 use Rattle.calc_language.proofs.NamedEntries.{IsLed, are_named_apart, names_of, named_differently, each_select, some_select, can_select, joined, unnamed, wordless, not_named}
 
@@ -167,9 +167,7 @@ no_line_name w ws h =
 
 -- words without an offence keep the limits
 all_kept : EachOf Keeps all_entries
-all_kept =
-    let k = all_keep built_targets in
-    (k.0, (k.1.0, (k.1.1.0, (k.1.1.1.0, (whole_tab_keeps, k.1.1.1.1.1)))))
+all_kept = all_keep built_targets
 
 pub kept_by_all : (words : Words) (c : Command) → SpellsWithoutOffence all_entries words c → KeepsLimits c
 kept_by_all words c h = some_keeps all_entries all_kept words c h

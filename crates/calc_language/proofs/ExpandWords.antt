@@ -1,13 +1,14 @@
 -- Where words of `expand` go wrong, word by word, and what they are otherwise.
-use Rattle.std.proofs.Common.{◌≡◌, ℕ, ◌<◌, ◌==◌, nat_lt, Bool, true, false, ◌&&◌, ◌||◌, cond, List, [], ◌∷◌, ◌++◌, length, map, refl, sym, ap, ◌∙◌, subst, arith, Option, Some, None, option_map, Result, Ok, Err, inl, eq-eqb}
+use Rattle.std.proofs.Common.{◌≡◌, ℕ, ◌+◌, ◌<◌, ◌==◌, nat_lt, Bool, true, false, ◌&&◌, ◌||◌, cond, List, [], ◌∷◌, ◌++◌, length, map, refl, sym, ap, ◌∙◌, subst, arith, Option, Some, None, option_map, Result, Ok, Err, inl, eq-eqb}
 use Rattle.std.specs.Prelude.{codes}
 use Rattle.std.proofs.lemmas.Bool.Decides.{nat_tests}
 use Rattle.sym_model.specs.Polynomial.{same}
 use Rattle.sym_model.proofs.Exponents.{same_true}
-use Rattle.sym_model.specs.Expansion.{Basis}
-use Rattle.sym_model.specs.Phrase.{Phrase, SpellsPhrase, letter}
+use Rattle.sym_model.specs.Expansion.{Basis, monomials, elementaries, completes, power_sums, schurs}
+use Rattle.sym_model.specs.Phrase.{Phrase, SpellsPhrase, letter, tree}
 use Rattle.sym_model.specs.ExpressionOffence.{WordOffence, comes_first, earlier, first_of, offences}
-use Rattle.sym_model.specs.Form.{Form, Has, empty, sequence, word, target, formula, is_letter_of}
+use Rattle.sym_model.specs.Form.{Form, May, Has, words_of, empty, sequence, word, target, formula, is_letter_of, after_word, has_skippable, some_awaits_next}
+use Rattle.sym_model.specs.WordForms.{optional, form_words, is_one_line}
 use Rattle.word_laws.proofs.Classes.{letter_complete}
 use Rattle.sym_model.specs.Command.{expand}
 use Rattle.sym_model.specs.CommandOffence.{Offence, is_no_later, earlier_of, first_offence}
@@ -27,9 +28,11 @@ use Rattle.calc_expressions.specs.declared.reading.ExpressionFault.{ExpressionFa
 use Rattle.calc_expressions.specs.declared.reading.ExpressionFault.TheVariants.{Syntax as Wrong, Literal as Wide, Range as Past, Shape as Misshapen, NoMemory as Full}
 use Rattle.calc_expressions.specs.Reading.{IsRead as IsReadAs, IsExpression, IsWrongByte}
 use Rattle.calc_language.specs.declared.words.Command.TheVariants.{Expand}
+use Rattle.calc_words.specs.NumberRuns.{BeginsOtherwise}
 use Rattle.calc_words.specs.Reading.{IsRead as IsReadBy}
 use Rattle.calc_expressions.specs.Trees.{basis_of}
 use Rattle.calc_language.specs.declared.words.Command.{Command}
+use Rattle.calc_language.specs.ExpandFront.{form_written, front, IsBehindForm}
 use Rattle.calc_language.specs.Reading.{placed, command_of}
 
 abbrev Words : Type 0
@@ -42,19 +45,27 @@ the_entry = expand_entry built_targets
 abbrev pub expand_alone : List Entry
 expand_alone = the_entry ∷ []
 
--- three words, the third of which is to be an expression
-abbrev pub three : Basis → List ℕ → Words
-three t z = codes "expand" ∷ letter t ∷ z ∷ []
+-- the words of a target and what is to be an expression, behind those in front
+abbrev pub spelled_words : Bool → Basis → List ℕ → Words
+spelled_words m t z = front m ++ letter t ∷ z ∷ []
 
 has_letter : (t : Basis) → IsTarget t → is_letter_of built_targets (letter t) ≡ true
 has_letter t m = letter_complete built_targets t m
 
+form_allowed : (m : Bool) → May (optional form_words) (form_written m)
+form_allowed false = tt
+form_allowed true = tt
+
+form_said : (m : Bool) → is_one_line (form_written m) ≡ m
+form_said false = refl
+form_said true = refl
+
 -- words of its form
-abbrev has_command : (t : Basis) → IsTarget t → (z : List ℕ) (e : Phrase) → SpellsPhrase z e → Has the_entry.form (three t z)
-has_command t m z e s = record {
-  written = (tt, (t, e));
-  allowed = (tt, (m, s.allowed));
-  spelled = ap (λ v. codes "expand" ∷ letter t ∷ v ∷ []) s.spelled;
+abbrev has_command : (m : Bool) (t : Basis) → IsTarget t → (z : List ℕ) (e : Phrase) → SpellsPhrase z e → Has the_entry.form (spelled_words m t z)
+has_command m t i z e s = record {
+  written = (tt, (form_written m, (t, e)));
+  allowed = (tt, (form_allowed m, (i, s.allowed)));
+  spelled = ap (λ v. front m ++ letter t ∷ v ∷ []) s.spelled;
 }
 
 -- what is still to come after the words so far
@@ -62,7 +73,11 @@ abbrev target_and_expression : Form
 target_and_expression = sequence (word (target built_targets)) (word formula)
 
 abbrev after_expand : Form
-after_expand = sequence empty target_and_expression
+after_expand = sequence empty (sequence (optional form_words) target_and_expression)
+
+abbrev after_front : Bool → Form
+after_front false = after_expand
+after_front true = sequence empty target_and_expression
 
 abbrev after_target : Form
 after_target = sequence empty (word formula)
@@ -73,12 +88,15 @@ can_all = (refl, tt)
 some_entry : 0 < length expand_alone
 some_entry = omega arith
 
--- the forms that a word leaves, where one test decides
+-- the forms that a word leaves, where tests decide
 abbrev kept_first : Bool → List Form
-kept_first b = (map (λ h. sequence h target_and_expression) (cond b (empty ∷ []) []) ++ []) ++ []
+kept_first b = (map (λ h. sequence h (sequence (optional form_words) target_and_expression)) (cond b (empty ∷ []) []) ++ []) ++ []
 
-abbrev kept_second : Bool → List Form
-kept_second b = (map (λ h. sequence h (word formula)) (cond b (empty ∷ []) []) ++ []) ++ []
+abbrev kept_target : Bool → List Form
+kept_target b = map (λ h. sequence h (word formula)) (cond b (empty ∷ []) []) ++ []
+
+abbrev kept_form : Bool → Bool → List Form
+kept_form f b = (map (λ h. sequence h target_and_expression) (cond f (empty ∷ []) []) ++ kept_target b) ++ []
 
 abbrev kept_third : Bool → List Form
 kept_third b = cond b (empty ∷ []) [] ++ []
@@ -86,11 +104,40 @@ kept_third b = cond b (empty ∷ []) [] ++ []
 stands_first : (words : Words) → Stands expand_alone words [] words the_entry.form []
 stands_first words = record { words_are = refl; still = refl }
 
-stands_second : (rest : Words) → Stands expand_alone (codes "expand" ∷ rest) (codes "expand" ∷ []) rest after_expand []
-stands_second rest = record { words_are = refl; still = refl }
+stands_second : (m : Bool) (rest : Words) → Stands expand_alone (front m ++ rest) (front m) rest (after_front m) []
+stands_second false rest = record { words_are = refl; still = refl }
+stands_second true rest = record { words_are = refl; still = refl }
 
-stands_third : (t : Basis) → IsTarget t → (rest : Words) → Stands expand_alone (codes "expand" ∷ letter t ∷ rest) (codes "expand" ∷ letter t ∷ []) rest after_target []
-stands_third t m rest = record { words_are = refl; still = ap kept_second (has_letter t m) }
+-- the letter of a target is not the word for the one-line form
+no_form : (t : Basis) → same (codes "-m") (letter t) ≡ false
+no_form monomials = refl
+no_form elementaries = refl
+no_form completes = refl
+no_form power_sums = refl
+no_form schurs = refl
+
+stands_third : (m : Bool) (t : Basis) → IsTarget t → (rest : Words)
+    → Stands expand_alone (front m ++ letter t ∷ rest) (front m ++ letter t ∷ []) rest after_target []
+stands_third false t i rest = record {
+  words_are = refl;
+  still =
+      ap (λ f. kept_form f (is_letter_of built_targets (letter t))) (no_form t) ∙ ap (kept_form false) (has_letter t i);
+}
+stands_third true t i rest =
+    record { words_are = refl; still = ap (λ b. kept_target b ++ []) (has_letter t i) }
+
+-- how many words stand in front of an expression, and with it
+front_and_letter : (m : Bool) (t : Basis) → length (front m ++ letter t ∷ []) ≡ length (front m) + 1
+front_and_letter false t = refl
+front_and_letter true t = refl
+
+with_expression : (m : Bool) (t : Basis) (z : List ℕ) → length ((front m ++ letter t ∷ []) ++ z ∷ []) ≡ length (front m) + 2
+with_expression false t z = refl
+with_expression true t z = refl
+
+expression_word : (m : Bool) → 2 + length (words_of (optional form_words) (form_written m)) ≡ length (front m) + 1
+expression_word false = refl
+expression_word true = refl
 
 not_same : (u v : List ℕ) → (v ≡ u → ⊥) → same u v ≡ false
 not_same u v n = by (same u v) refl
@@ -106,37 +153,62 @@ no_expression z n = by (is_expression z) refl
     by true e = let p = tells_expressions.sound z e in absurd (n p.0 p.1)
     by false e = refl
 
-pub place-empty : IsSyntaxPlace expand_alone [] 0 0
+place-empty : IsSyntaxPlace expand_alone [] 0 0
 place-empty = ends_early expand_alone can_all some_entry [] [] the_entry.form [] (stands_first []) refl
 
-pub place-first : (x : List ℕ) (xs : Words) → (x ≡ codes "expand" → ⊥) → IsSyntaxPlace expand_alone (x ∷ xs) 0 0
+place-first : (x : List ℕ) (xs : Words) → (x ≡ codes "expand" → ⊥) → IsSyntaxPlace expand_alone (x ∷ xs) 0 0
 place-first x xs n =
     wrong_word expand_alone can_all some_entry (x ∷ xs) [] x xs the_entry.form [] (stands_first (x ∷ xs))
     (ap kept_first (not_same (codes "expand") x n)) refl
 
-pub place-one : IsSyntaxPlace expand_alone (codes "expand" ∷ []) 1 0
-place-one = ends_early expand_alone can_all some_entry (codes "expand" ∷ []) (codes "expand" ∷ []) after_expand [] (stands_second []) refl
+-- words that do not begin with the command's name
+pub place-otherwise : (words : Words) → BeginsOtherwise (λ t. t ≡ codes "expand") words → IsSyntaxPlace expand_alone words 0 0
+place-otherwise [] b = place-empty
+place-otherwise (x ∷ xs) b = place-first x xs b
 
-pub place-second : (y : List ℕ) (xs : Words) → is_letter_of built_targets y ≡ false → IsSyntaxPlace expand_alone (codes "expand" ∷ y ∷ xs) 1 0
-place-second y xs n =
-    wrong_word expand_alone can_all some_entry (codes "expand" ∷ y ∷ xs) (codes "expand" ∷ []) y xs after_expand [] (stands_second (y ∷ xs))
-    (ap kept_second n) refl
+unfinished : (m : Bool) → has_skippable (after_front m ∷ []) ≡ false
+unfinished false = refl
+unfinished true = refl
 
-pub place-two : (t : Basis) → IsTarget t → IsSyntaxPlace expand_alone (codes "expand" ∷ letter t ∷ []) 2 0
-place-two t m =
-    ends_early expand_alone can_all some_entry (codes "expand" ∷ letter t ∷ []) (codes "expand" ∷ letter t ∷ []) after_target [] (stands_third t m []) refl
+not_awaited : (m : Bool) → some_awaits_next (after_front m ∷ []) ≡ false
+not_awaited false = refl
+not_awaited true = refl
 
-pub place-word : (t : Basis) → IsTarget t → (z : List ℕ) (xs : Words) (byte : ℕ) → IsWrongByte z byte → IsSyntaxPlace expand_alone (codes "expand" ∷ letter t ∷ z ∷ xs) 2 byte
-place-word t m z xs byte p =
-    wrong_expression expand_alone can_all some_entry (codes "expand" ∷ letter t ∷ z ∷ xs) (codes "expand" ∷ letter t ∷ []) z xs after_target [] byte
-    (stands_third t m (z ∷ xs)) (ap kept_third (no_expression z p.0)) refl p.1
+pub place-one : (m : Bool) → IsSyntaxPlace expand_alone (front m ++ []) (length (front m)) 0
+place-one m = ends_early expand_alone can_all some_entry (front m ++ []) (front m) (after_front m) [] (stands_second m []) (unfinished m)
 
-pub place-fourth : (t : Basis) → IsTarget t → (z v : List ℕ) (xs : Words) (e : Phrase) → SpellsPhrase z e → IsSyntaxPlace expand_alone (codes "expand" ∷ letter t ∷ z ∷ v ∷ xs) 3 0
-place-fourth t m z v xs e s =
-    wrong_word expand_alone can_all some_entry (codes "expand" ∷ letter t ∷ z ∷ v ∷ xs) (codes "expand" ∷ letter t ∷ z ∷ []) v xs empty []
-    (stands_next expand_alone (codes "expand" ∷ letter t ∷ z ∷ v ∷ xs) (codes "expand" ∷ letter t ∷ []) z (v ∷ xs) after_target empty [] []
-    (stands_third t m (z ∷ v ∷ xs)) (ap kept_third (tells_expressions.complete z e s)))
-    refl refl
+no_target : (m : Bool) (y : List ℕ) (xs : Words) → IsBehindForm m (y ∷ xs) → is_letter_of built_targets y ≡ false
+    → after_word is_expression (after_front m ∷ []) y ≡ []
+no_target false y xs b n =
+    ap (λ f. kept_form f (is_letter_of built_targets y)) (not_same (codes "-m") y b) ∙ ap (kept_form false) n
+no_target true y xs b n = ap (λ l. kept_target l ++ []) n
+
+pub place-second : (m : Bool) (y : List ℕ) (xs : Words) → IsBehindForm m (y ∷ xs) → is_letter_of built_targets y ≡ false
+    → IsSyntaxPlace expand_alone (front m ++ y ∷ xs) (length (front m)) 0
+place-second m y xs b n =
+    wrong_word expand_alone can_all some_entry (front m ++ y ∷ xs) (front m) y xs (after_front m) [] (stands_second m (y ∷ xs))
+    (no_target m y xs b n) (not_awaited m)
+
+pub place-two : (m : Bool) (t : Basis) → IsTarget t → IsSyntaxPlace expand_alone (front m ++ letter t ∷ []) (length (front m) + 1) 0
+place-two m t i =
+    subst (λ n. IsSyntaxPlace expand_alone (front m ++ letter t ∷ []) n 0) (front_and_letter m t)
+    (ends_early expand_alone can_all some_entry (front m ++ letter t ∷ []) (front m ++ letter t ∷ []) after_target [] (stands_third m t i []) refl)
+
+pub place-word : (m : Bool) (t : Basis) → IsTarget t → (z : List ℕ) (xs : Words) (byte : ℕ) → IsWrongByte z byte
+    → IsSyntaxPlace expand_alone (front m ++ letter t ∷ z ∷ xs) (length (front m) + 1) byte
+place-word m t i z xs byte p =
+    subst (λ n. IsSyntaxPlace expand_alone (front m ++ letter t ∷ z ∷ xs) n byte) (front_and_letter m t)
+    (wrong_expression expand_alone can_all some_entry (front m ++ letter t ∷ z ∷ xs) (front m ++ letter t ∷ []) z xs after_target [] byte
+    (stands_third m t i (z ∷ xs)) (ap kept_third (no_expression z p.0)) refl p.1)
+
+pub place-fourth : (m : Bool) (t : Basis) → IsTarget t → (z v : List ℕ) (xs : Words) (e : Phrase) → SpellsPhrase z e
+    → IsSyntaxPlace expand_alone (front m ++ letter t ∷ z ∷ v ∷ xs) (length (front m) + 2) 0
+place-fourth m t i z v xs e s =
+    subst (λ n. IsSyntaxPlace expand_alone (front m ++ letter t ∷ z ∷ v ∷ xs) n 0) (with_expression m t z)
+    (wrong_word expand_alone can_all some_entry (front m ++ letter t ∷ z ∷ v ∷ xs) ((front m ++ letter t ∷ []) ++ z ∷ []) v xs empty []
+    (stands_next expand_alone (front m ++ letter t ∷ z ∷ v ∷ xs) (front m ++ letter t ∷ []) z (v ∷ xs) after_target empty [] []
+    (stands_third m t i (z ∷ v ∷ xs)) (ap kept_third (tells_expressions.complete z e s)))
+    refl refl)
 
 -- the offences of an expression, with the word at which it stands, come in the same order
 abbrev at_word : ℕ → WordOffence → Offence
@@ -166,34 +238,42 @@ first-placed : (k : ℕ) (os : List WordOffence) → first_offence (map (at_word
 first-placed k [] = refl
 first-placed k (o ∷ os) = ap (earlier_of (at_word k o)) (first-placed k os) ∙ earlier-placed k o (first_of os)
 
-offends : (t : Basis) → IsTarget t → (z : List ℕ) (e : Phrase) (first : Option WordOffence) → SpellsPhrase z e → first_of (offences t e) ≡ first
-    → HasFirstOffence expand_alone (three t z) (option_map (at_word 2) first)
-offends t m z e first s h =
+offends : (m : Bool) (t : Basis) → IsTarget t → (z : List ℕ) (e : Phrase) (first : Option WordOffence) → SpellsPhrase z e
+    → first_of (offences t e) ≡ first → HasFirstOffence expand_alone (spelled_words m t z) (option_map (at_word (length (front m) + 1)) first)
+offends m t i z e first s h =
+    let k = 2 + length (words_of (optional form_words) (form_written m)) in
     inl
     (record {
-      has = has_command t m z e s;
-      first_is = sym (first-placed 2 (offences t e) ∙ ap (option_map (at_word 2)) h);
+      has = has_command m t i z e s;
+      first_is =
+          ap (λ n. option_map (at_word n) first) (sym (expression_word m))
+          ∙ sym (first-placed k (offences t e) ∙ ap (option_map (at_word k)) h);
     })
 
 -- what the words are read as where they are those of `expand` alone
 abbrev pub IsAlone : Words → Result Command WordsFault → Type 0
 IsAlone words r = IsReadBy expand_alone command_of words r
 
-pub read-expression : (b : Letter) → IsTarget (basis_of b) → (z : List ℕ) (f : Formula) → IsExpression (basis_of b) z f → IsAlone (three (basis_of b) z) (Ok (Expand b f))
-read-expression b m z f h =
+pub read-expression : (m : Bool) (b : Letter) → IsTarget (basis_of b) → (z : List ℕ) (f : Formula) → IsExpression (basis_of b) z f
+    → IsAlone (spelled_words m (basis_of b) z) (Ok (Expand b m f))
+read-expression m b i z f h =
+    let k = 2 + length (words_of (optional form_words) (form_written m)) in
     inl
     (record {
-      has = has_command (basis_of b) m z h.0 h.1;
-      says_it = ap (expand (basis_of b)) h.3;
-      no_offence = first-placed 2 (offences (basis_of b) h.0) ∙ ap (option_map (at_word 2)) h.2;
+      has = has_command m (basis_of b) i z h.0 h.1;
+      says_it =
+          ap (expand (basis_of b) m) h.3
+          ∙ ap (λ o. expand (basis_of b) o (tree h.0)) (sym (form_said m));
+      no_offence = first-placed k (offences (basis_of b) h.0) ∙ ap (option_map (at_word k)) h.2;
     })
 
-pub read-fault : (t : Basis) → IsTarget t → (z : List ℕ) (e : ExpressionFault) → IsReadAs t z (Err e) → IsAlone (three t z) (Err (placed 2 e))
-read-fault t m z (Wrong byte) h = place-word t m z [] byte h
-read-fault t m z (Wide byte) h = offends t m z h.0 _ h.1 h.2
-read-fault t m z (Past byte) h = offends t m z h.0 _ h.1 h.2
-read-fault t m z (Misshapen byte) h = offends t m z h.0 _ h.1 h.2
-read-fault t m z Full h = tt
+pub read-fault : (m : Bool) (t : Basis) → IsTarget t → (z : List ℕ) (e : ExpressionFault) → IsReadAs t z (Err e)
+    → IsAlone (spelled_words m t z) (Err (placed (length (front m) + 1) e))
+read-fault m t i z (Wrong byte) h = place-word m t i z [] byte h
+read-fault m t i z (Wide byte) h = offends m t i z h.0 _ h.1 h.2
+read-fault m t i z (Past byte) h = offends m t i z h.0 _ h.1 h.2
+read-fault m t i z (Misshapen byte) h = offends m t i z h.0 _ h.1 h.2
+read-fault m t i z Full h = tt
 
 pub syntax-read : (words v : Words) (f : WordsFault) (w b : ℕ) → words ≡ v → f ≡ Syntax (record { word = w; byte = b }) → IsSyntaxPlace expand_alone v w b → IsAlone words (Err f)
 syntax-read words v f w b e k p =

@@ -1,44 +1,21 @@
 -- The column reading of rows that were read, and the tableau that has it.
-use Rattle.std.proofs.Common.{◌≡◌, ◌≤◌, ◌<◌, ℕ, zero, suc, ◌+◌, true, ◌&&◌, List, [], ◌∷◌, ◌++◌, map, length, get_or, take, refl, sym, ap, subst, ◌∙◌, arith}
-use Rattle.std.proofs.lemmas.List.{length-map, length-append, map-append}
+use Rattle.std.proofs.Common.{◌≡◌, ◌≤◌, ◌<◌, ℕ, zero, suc, ◌+◌, true, ◌&&◌, List, [], ◌∷◌, map, length, get_or, refl, sym, ap, ◌∙◌, arith}
+use Rattle.std.proofs.lemmas.List.{length-map, length-append}
 use Rattle.partitions.proofs.BetaSteps.{at-within-size}
 use Rattle.partitions.specs.Limits.{IsWithinLimits}
 use Rattle.sym_model.proofs.SortedParts.{rows_within_size}
 use Rattle.sym_model.specs.CommandOffence.{most_letters}
-use Rattle.sym_model.specs.Partition.{cells, size}
-use Rattle.sym_model.specs.Schur.{row_lengths, letters_of, semistandard}
+use Rattle.sym_model.specs.GoodTableau.{column_reading}
+use Rattle.sym_model.specs.Partition.{size}
+use Rattle.sym_model.specs.Schur.{letters_of, semistandard}
 use Rattle.sym_model.specs.Tableau.{IsTableau, IsStraightTableau, shape_of, are_letters}
-use Rattle.sym_model.specs.TableauList.{reading_cells, filling_of}
 use Rattle.skew_shapes.specs.CellFillings.{filled_with, is_tableau}
-use Rattle.skew_shapes.proofs.CellReadings.{reading-rows_by}
-use Rattle.tableau_iter.proofs.GoodWords.{rows-by_cells}
-use Rattle.tableau_iter.proofs.Orders.{filling_of-reading, length-reading}
-use Rattle.calc_language.specs.ReadRows.{letter_in_rows}
+use Rattle.lattice_tableaux.proofs.EntryLimits.{filling_back}
 
-abbrev pub reading_in : List ℕ → List ℕ → List (List ℕ) → List ℕ
-reading_in outer inner rows = map (λ (c : ℕ × ℕ). letter_in_rows inner rows c.0 c.1) (reading_cells outer inner)
-
-pub filling_back : (outer inner : List ℕ) (rows : List (List ℕ)) → IsTableau outer inner rows → filling_of outer inner (reading_in outer inner rows) ≡ rows
-filling_back outer inner rows t =
-    let f = letter_in_rows inner rows in
-    ap (filling_of outer inner) (sym (reading-rows_by f outer inner)) ∙ filling_of-reading f outer inner t.outside.falls ∙ sym (rows-by_cells outer inner rows t.cells)
-
-pub reading_length : (outer inner : List ℕ) (rows : List (List ℕ)) → IsTableau outer inner rows → length (reading_in outer inner rows) ≡ length (cells outer inner)
-reading_length outer inner rows t = length-map (reading_cells outer inner) (λ (c : ℕ × ℕ). letter_in_rows inner rows c.0 c.1) ∙ length-reading outer inner t.outside.falls
-
-pub is_tableau_back : (outer inner : List ℕ) (rows : List (List ℕ)) → IsTableau outer inner rows → is_tableau (filled_with outer inner (reading_in outer inner rows)) ≡ true
+pub is_tableau_back : (outer inner : List ℕ) (rows : List (List ℕ)) → IsTableau outer inner rows → is_tableau (filled_with outer inner (column_reading outer inner rows)) ≡ true
 is_tableau_back outer inner rows t =
-    ap (λ rs. are_letters (letters_of rs) && semistandard inner rs) (filling_back outer inner rows t)
+    ap (λ rs. are_letters (letters_of rs) && semistandard inner rs) (filling_back outer inner rows t.outside.falls t.cells)
     ∙ ap (λ b. b && semistandard inner rows) t.letters ∙ t.order
-
-lengths_count : (outer inner : List ℕ) → length (row_lengths outer inner) ≡ length outer
-lengths_count [] inner = refl
-lengths_count (a ∷ outer) [] = ap suc (lengths_count outer [])
-lengths_count (a ∷ outer) (b ∷ inner) = ap suc (lengths_count outer inner)
-
-pub rows_count : {A : Type 0} (f : A → List ℕ) (outer inner : List ℕ) (xs : List A) → IsTableau outer inner (map f xs) → length xs ≡ length outer
-rows_count f outer inner xs t =
-    sym (length-map xs f) ∙ sym (length-map (map f xs) length) ∙ ap length t.cells ∙ lengths_count outer inner
 
 -- ---- straight tableaux
 

@@ -1,12 +1,10 @@
 -- Which commands are built. What is not built is in no list here, and so is spelled by no words (this project's own).
-use Rattle.std.specs.Prelude.{◌≡◌, ℕ, Bool, cond, List, [], ◌∷◌, map, codes}
-use Rattle.sym_model.specs.Polynomial.{same}
+use Rattle.std.specs.Prelude.{◌≡◌, ℕ, Bool, List, [], ◌∷◌, codes}
 use Rattle.sym_model.specs.Sum.{select}
 use Rattle.sym_model.specs.GoodTableau.{is_among}
 use Rattle.sym_model.specs.Expansion.{Basis, monomials, elementaries, completes, power_sums, schurs}
 use Rattle.sym_model.specs.Form.{SomeOf}
 use Rattle.sym_model.specs.Entry.{Entry}
-use Rattle.calc_words.specs.Entries.{whole_tab_entry}
 use Rattle.sym_model.specs.Grammar.{entries_of, line_entries}
 
 -- the names of the commands that are built
@@ -25,16 +23,12 @@ built_targets = monomials ∷ elementaries ∷ completes ∷ power_sums ∷ schu
 abbrev pub IsTarget : Basis → Type 0
 IsTarget basis = SomeOf (λ b. basis ≡ b) built_targets
 
--- a command as it is built: `tab` asks for a whole list
-abbrev pub as_built : Entry → Entry
-as_built e = cond (same e.name (codes "tab")) whole_tab_entry e
-
 -- all commands, and those of a line of a batch, as they would be built
 abbrev pub all_entries : List Entry
-all_entries = map as_built (entries_of built_targets)
+all_entries = entries_of built_targets
 
 abbrev pub all_line_entries : List Entry
-all_line_entries = map as_built (line_entries built_targets)
+all_line_entries = line_entries built_targets
 
 -- the commands of the command line
 abbrev pub command_entries : List Entry

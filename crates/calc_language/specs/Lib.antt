@@ -2,5 +2,5 @@ pub mod Reading
 pub mod BuiltCommands
 pub mod Names
 pub mod Lines
-pub mod ReadRows
 pub mod Pairs
+pub mod ExpandFront

@@ -1,8 +1,7 @@
 -- The commands that are built, by the variants that stand for them (this project's own).
 use Rattle.std.specs.Prelude.{ℕ, Bool, true, false, List, codes}
 use Rattle.sym_model.specs.Entry.{Entry}
-use Rattle.sym_model.specs.Grammar.{mult_entry, skew_entry, coef_entry, coprod_entry, quantum_entry, fusion_entry, schubert_entry, schubmult_entry, expand_entry, rsk_entry, unrsk_entry, rect_entry, batch_entry, work_entry}
-use Rattle.calc_words.specs.Entries.{whole_tab_entry}
+use Rattle.sym_model.specs.Grammar.{mult_entry, skew_entry, coef_entry, coprod_entry, tab_entry, quantum_entry, fusion_entry, schubert_entry, schubmult_entry, expand_entry, rsk_entry, unrsk_entry, rect_entry, batch_entry, work_entry}
 use Rattle.calc_language.specs.BuiltCommands.{built_targets}
 use Rattle.calc_language.specs.declared.name.Name.{Name}
 use Rattle.calc_language.specs.declared.name.Name.TheVariants.{Mult, Skew, Coef, Coprod, Tab, Quantum, Fusion, Schubert, Schubmult, Expand, Rsk, Unrsk, Rect, Batch, Work}
@@ -31,7 +30,7 @@ entry_of Mult = mult_entry
 entry_of Skew = skew_entry
 entry_of Coef = coef_entry
 entry_of Coprod = coprod_entry
-entry_of Tab = whole_tab_entry
+entry_of Tab = tab_entry
 entry_of Quantum = quantum_entry
 entry_of Fusion = fusion_entry
 entry_of Schubert = schubert_entry

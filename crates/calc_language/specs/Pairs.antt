@@ -3,7 +3,7 @@ use Rattle.std.specs.Prelude.{◌≡◌, ◌≤◌, [], length}
 use Rattle.sym_model.specs.CommandOffence.{most_letters}
 use Rattle.sym_model.specs.Schur.{letters_of}
 use Rattle.sym_model.specs.StandardTableau.{IsStandard}
-use Rattle.sym_model.specs.Tableau.{IsStraightTableau, SkewFilling}
+use Rattle.sym_model.specs.Tableau.{SkewFilling}
 
 -- a straight tableau and a standard one of its shape, of at most 256 cells
 pub record IsPair (p q : SkewFilling) : Type 0 where

@@ -1,5 +1,5 @@
 -- What the words of a command are read as (this project's own).
-use Rattle.std.specs.Prelude.{ℕ, List, Result, None}
+use Rattle.std.specs.Prelude.{ℕ, List, Result}
 use Rattle.sym_model.specs.Command.{Command as PlainCommand, mult, skew, coef, coprod, quantum, fusion, expand, schubert, schubmult, tab, rsk, unrsk, rect, batch, work}
 use Rattle.calc_language.specs.BuiltCommands.{command_entries}
 use Rattle.calc_base.specs.declared.words.WordsFault.{WordsFault}
@@ -15,16 +15,16 @@ pub use Rattle.calc_words.specs.Reading.{IsFaultOf, Refuses, GoesWrong}
 
 -- the plain command
 abbrev pub command_of : Command → PlainCommand
-command_of (Mult rows left right) = mult rows left right
-command_of (Skew rows outer inner) = skew rows outer inner
+command_of (Mult rows one_line factors) = mult rows one_line factors
+command_of (Skew rows one_line outer inner) = skew rows one_line outer inner
 command_of (Coef outer left right) = coef outer left right
 command_of (Coprod shape) = coprod shape
-command_of (Tab outer inner) = tab outer inner None
-command_of (Quantum rows cols left right) = quantum rows cols left right
-command_of (Fusion rows level left right) = fusion rows level left right
+command_of (Tab outer inner after) = tab outer inner after
+command_of (Quantum rows cols factors) = quantum rows cols factors
+command_of (Fusion rows level factors) = fusion rows level factors
 command_of (Schubert perm) = schubert perm
 command_of (Schubmult left right) = schubmult left right
-command_of (Expand target formula) = expand (basis_of target) (tree_of formula.tree)
+command_of (Expand target one_line formula) = expand (basis_of target) one_line (tree_of formula.tree)
 command_of (Rsk letters) = rsk letters
 command_of (Unrsk pair) = unrsk pair.0.rows pair.1.rows
 command_of (Rect tableau) = rect tableau.outer tableau.inner tableau.rows

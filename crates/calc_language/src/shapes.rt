@@ -1,26 +1,25 @@
 //! The commands on partitions.
 ghost use Rattle.std.specs.Prelude.{[], ◌∷◌, map, string_bytes};
-ghost use Rattle.sym_model.specs.Grammar.{mult_entry, skew_entry, coef_entry, coprod_entry, quantum_entry, fusion_entry};
-ghost use Rattle.calc_words.specs.Entries.{whole_tab_entry};
+ghost use Rattle.sym_model.specs.Grammar.{mult_entry, skew_entry, coef_entry, coprod_entry, tab_entry, quantum_entry, fusion_entry};
 ghost use Rattle.calc_words.specs.Reading.{IsRead as IsReadBy};
 ghost use Rattle.calc_language.specs.Reading.{command_of};
 
 use crate::Command;
 use calc_base::WordsFault;
-use calc_words::{
-    read_coef, read_coprod, read_fusion, read_mult, read_quantum, read_skew, read_whole_tab,
-};
+use calc_words::{read_coef, read_coprod, read_skew};
+use factor_words::{read_fusion, read_mult, read_quantum};
 use std::alloc::Global;
+use tab_words::read_tab;
 
 /// The words of `mult`.
 pub(crate) fn mult(alloc: Global, words: &[String]) -> Result<Command, WordsFault>
     ensures { IsReadBy (mult_entry ∷ []) command_of (map string_bytes words.now) result }
 {
     match read_mult(alloc, words) {
-        Ok(shapes) => Ok(Command::Mult {
-            rows: shapes.rows,
-            left: shapes.first,
-            right: shapes.second,
+        Ok(product) => Ok(Command::Mult {
+            rows: product.rows,
+            one_line: product.one_line,
+            factors: product.factors,
         }),
         Err(fault) => Err(fault),
     }
@@ -33,8 +32,9 @@ pub(crate) fn skew(alloc: Global, words: &[String]) -> Result<Command, WordsFaul
     match read_skew(alloc, words) {
         Ok(shapes) => Ok(Command::Skew {
             rows: shapes.rows,
-            outer: shapes.first,
-            inner: shapes.second,
+            one_line: shapes.one_line,
+            outer: shapes.outer,
+            inner: shapes.inner,
         }),
         Err(fault) => Err(fault),
     }
@@ -66,12 +66,13 @@ pub(crate) fn coprod(alloc: Global, words: &[String]) -> Result<Command, WordsFa
 
 /// The words of `tab`.
 pub(crate) fn tab(alloc: Global, words: &[String]) -> Result<Command, WordsFault>
-    ensures { IsReadBy (whole_tab_entry ∷ []) command_of (map string_bytes words.now) result }
+    ensures { IsReadBy (tab_entry ∷ []) command_of (map string_bytes words.now) result }
 {
-    match read_whole_tab(alloc, words) {
+    match read_tab(alloc, words) {
         Ok(shapes) => Ok(Command::Tab {
-            outer: shapes.first,
-            inner: shapes.second,
+            outer: shapes.outer,
+            inner: shapes.inner,
+            after: shapes.after,
         }),
         Err(fault) => Err(fault),
     }
@@ -85,8 +86,7 @@ pub(crate) fn quantum(alloc: Global, words: &[String]) -> Result<Command, WordsF
         Ok(reduction) => Ok(Command::Quantum {
             rows: reduction.rows,
             cols: reduction.bound,
-            left: reduction.left,
-            right: reduction.right,
+            factors: reduction.factors,
         }),
         Err(fault) => Err(fault),
     }
@@ -100,8 +100,7 @@ pub(crate) fn fusion(alloc: Global, words: &[String]) -> Result<Command, WordsFa
         Ok(reduction) => Ok(Command::Fusion {
             rows: reduction.rows,
             level: reduction.bound,
-            left: reduction.left,
-            right: reduction.right,
+            factors: reduction.factors,
         }),
         Err(fault) => Err(fault),
     }

@@ -13,6 +13,7 @@ use crate::pairs::Pair;
 use crate::refusal::syntax;
 use crate::{Basis, Formula};
 use calc_base::{Word, WordsFault};
+use factor_lists::Factors;
 use partitions::Partition;
 use perm_codes::Perm;
 use skew_shapes::Tableau;
@@ -21,15 +22,18 @@ use std::alloc::Global;
 /// A command.
 #[derive(Debug, Drop)]
 pub enum Command {
-    /// The product of the Schur functions of two shapes, in so many variables where a number of rows is there.
+    /// The product of the Schur functions of two to eight shapes, in so many variables where a number of rows is there, on
+    /// one line where it is so asked.
     Mult {
         rows: Option<u16>,
-        left: Partition,
-        right: Partition,
+        one_line: bool,
+        factors: Factors,
     },
-    /// The skew Schur function of a shape over another, in so many variables where a number of rows is there.
+    /// The skew Schur function of a shape over another, in so many variables where a number of rows is there, on one line
+    /// where it is so asked.
     Skew {
         rows: Option<u16>,
+        one_line: bool,
         outer: Partition,
         inner: Partition,
     },
@@ -43,24 +47,24 @@ pub enum Command {
     Coprod {
         shape: Partition,
     },
-    /// The lattice tableaux of a shape over another, all of them.
+    /// The lattice tableaux of a shape over another: all of them, or those behind the one with this column reading, which is
+    /// one of them.
     Tab {
         outer: Partition,
         inner: Partition,
+        after: Option<Word>,
     },
     /// The product in the quantum cohomology of the Grassmannian whose shapes have so many rows and columns at most.
     Quantum {
         rows: u16,
         cols: u16,
-        left: Partition,
-        right: Partition,
+        factors: Factors,
     },
     /// The fusion product with so many rows, at a level.
     Fusion {
         rows: u16,
         level: u16,
-        left: Partition,
-        right: Partition,
+        factors: Factors,
     },
     /// The Schubert polynomial of a permutation.
     Schubert {
@@ -71,9 +75,10 @@ pub enum Command {
         left: Perm,
         right: Perm,
     },
-    /// The expression in the basis of the target.
+    /// The expression in the basis of the target, on one line where it is so asked.
     Expand {
         target: Basis,
+        one_line: bool,
         formula: Formula,
     },
     /// The pair of tableaux that the insertion of a word of letters makes.
@@ -104,8 +109,7 @@ pub enum Command {
 /// with its letters, `unrsk` with two tableaux, `rect` with two partitions and a tableau, `batch`, and `work` with its two
 /// numbers. Words that are no command are refused as `Syntax`, at the word where they go wrong, and in the word of an
 /// expression at the byte after its longest prefix that begins one. Otherwise the first offence is refused, as
-/// `calc_words::read_mult` and its like and
-/// `calc_expressions::read_expression` say.
+/// `factor_words::read_mult` and its like and `calc_expressions::read_expression` say.
 pub fn read_words(alloc: Global, words: &[String]) -> Result<Command, WordsFault>
     ensures read { IsRead (map string_bytes words.now) result }
     ensures within { IfOk result IsWithinItsLimits }

@@ -1,28 +1,29 @@
 -- Words that have been read: which command they are.
-use Rattle.std.proofs.Common.{◌≡◌, ℕ, ◌+◌, ◌-◌, ◌≤◌, Bool, true, false, map, arith, Option, ◌⊎◌, List, [], ◌∷◌, ◌++◌, append_assoc, length, refl, sym, ap, ◌∙◌, subst, Some, None, Result, Ok, Err, inl, inr}
+use Rattle.std.proofs.Common.{◌≡◌, ℕ, ◌+◌, ◌-◌, ◌≤◌, Bool, true, false, map, arith, Option, ◌⊎◌, List, [], ◌∷◌, ◌++◌, length, length-append, refl, sym, ap, ◌∙◌, subst, Some, None, Result, Ok, Err, inl, inr}
 use Rattle.std.specs.Prelude.{codes}
 use Rattle.std.proofs.lemmas.List.{length-map}
 use Rattle.sym_model.specs.Sum.{each, Among}
 use Rattle.sym_model.proofs.Sums.{Among_from_append}
 use Rattle.sym_model.specs.PrintedBlock.{decimal_value}
 use Rattle.sym_model.specs.ExpressionOffence.{literal, range, shape, is_wide}
-use Rattle.sym_model.specs.Form.{word, number, EachOf, May, Has, can_be}
-use Rattle.sym_model.specs.Command.{Command, coprod, coef, tab}
+use Rattle.sym_model.specs.Form.{word, number, Written, words_of, EachOf, May, Has, can_be}
+use Rattle.sym_model.specs.Command.{Command, coprod, coef, skew}
 use Rattle.sym_model.specs.CommandOffence.{Offence, Rule, first_offence, part_offences, part_rule, rows_rule, offences_by, when, is_outside, most_rows}
 use Rattle.sym_model.specs.Entry.{Entry}
-use Rattle.sym_model.specs.Grammar.{coprod_words, coprod_entry, coef_entry, two_partitions, reduction_offends}
+use Rattle.sym_model.specs.Grammar.{coprod_words, coprod_entry, coef_entry, skew_entry, two_partitions, option_words}
 use Rattle.sym_model.specs.SyntaxPlace.{IsSyntaxPlace}
-use Rattle.sym_model.specs.WordForms.{numbers, partition}
+use Rattle.sym_model.specs.WordForms.{optional, rows_words, form_words, numbers, partition, row_limit, row_limit_offences}
 use Rattle.word_laws.proofs.Classes.{number_sound}
 use Rattle.calc_base.specs.declared.words.WordsFault.{WordsFault}
 use Rattle.calc_base.specs.declared.words.WordsFault.TheVariants.{Syntax, Literal, Range, Shape, NoMemory}
-use Rattle.calc_words.specs.NumberRuns.{IsNumber, narrow}
+use Rattle.calc_words.specs.NumberRuns.{IsNumber, AreTwoLists, narrow}
 use Rattle.calc_words.specs.declared.offence.Kind.TheVariants.{Literal as Wide, Range as Past}
 use Rattle.calc_words.specs.Faults.{fault_of}
-use Rattle.calc_words.specs.Entries.{shapes_entry, whole_tab_entry, reduction_entry}
-use Rattle.calc_words.specs.ReadShapes.{AreShapes, tableaux_of, AreThree, coefficient_of, IsReduction}
+use Rattle.calc_words.specs.Rows.{AreOptions, IsLimitWord}
+use Rattle.calc_words.specs.ReadShapes.{AreShapes, AreSkewShapes, skew_of, AreThree, coefficient_of}
 use Rattle.calc_words.specs.declared.coef.ThreeShapes.{ThreeShapes}
-use Rattle.calc_words.specs.declared.reduction.Reduction.{Reduction}
+use Rattle.calc_words.specs.declared.options.Options.{Options}
+use Rattle.calc_words.specs.declared.skew_command.SkewShapes.{SkewShapes}
 use Rattle.calc_words.specs.declared.two_shapes.TwoShapes.{TwoShapes}
 use Rattle.calc_words.proofs.FirstOffences.{of_kind, first-kind, first_of_three, lowest, within, AllBefore, first-append, none-append}
 use Rattle.calc_words.proofs.Judging.{narrow_none, narrow_some}
@@ -161,39 +162,63 @@ lists_spelled : (sep : List ℕ) (left right : Words) → ◌≡◌ {A = Words} 
 lists_spelled sep left right =
     ap (λ ws. ws ++ sep ∷ right) (sym (singles left)) ∙ ap (λ ws. each (λ t. t ∷ []) left ++ (sep ∷ ws)) (sym (singles right))
 
-says_same : (says : Option ℕ → List ℕ → List ℕ → Command) (rows : Option ℕ) (first second : List ℕ) (s : TwoShapes) → AreShapes rows first second s
-    → says s.rows s.first s.second ≡ says rows first second
-says_same says rows first second s h =
-    ap (λ r. says r s.first s.second) h.0 ∙ ap (λ l. says rows l s.second) h.1 ∙ ap (says rows first) h.2
+-- the words of `skew`
+limit_before : (limit : Written (optional rows_words)) (ys : List Offence)
+    → ((p : Offence) → Among p ys → 1 + length (words_of (optional rows_words) limit) ≤ p.0) → AllBefore (row_limit_offences 1 limit) ys
+limit_before (inl x) ys b p q m n = absurd m
+limit_before (inr x) ys b p q m n =
+    let a = within rows_rule [] 2 (decimal_value x.1 ∷ []) p m in
+    let y = b q n in
+    omega (arith, a.1, y)
 
-pub shapes_without_rows : (name sep : List ℕ) (says : Option ℕ → List ℕ → List ℕ → Command) (words left right : Words) (r : Result TwoShapes WordsFault)
-    → words ≡ name ∷ (left ++ sep ∷ right) → EachOf IsNumber left → EachOf IsNumber right
-    → IsJudged (AreShapes None (partition left) (partition right)) (first_offence (two_partitions 1 left right)) r
-    → IsRead (shapes_entry name sep says ∷ []) (λ s. says s.rows s.first s.second) words r
-shapes_without_rows name sep says words left right r e l k h =
-    read_judged (shapes_entry name sep says) words
-    (record {
-      written = (tt, (inl tt, (left, (tt, right))));
-      allowed = (tt, (tt, (may_be left l, (tt, may_be right k))));
-      spelled = e ∙ ap (λ ws. name ∷ ws) (lists_spelled sep left right);
-    })
-    (λ s. says s.rows s.first s.second) (AreShapes None (partition left) (partition right))
-    (says_same says None (partition left) (partition right)) r h
+-- a number of rows in front of other lists offends
+pub limit_faulty : {A B : Type 0} (P : A → Type 0) (Q : B → Type 0) (limit : Written (optional rows_words)) (ys : List Offence) (fault : WordsFault)
+    → ((p : Offence) → Among p ys → 1 + length (words_of (optional rows_words) limit) ≤ p.0)
+    → IsJudged P (first_offence (row_limit_offences 1 limit)) (Err fault) → IsJudged Q (first_offence (row_limit_offences 1 limit ++ ys)) (Err fault)
+limit_faulty P Q limit ys fault b h = judged_err P Q (row_limit_offences 1 limit) ys fault (limit_before limit ys b) h
 
-pub shapes_with_rows : (name sep digits : List ℕ) (says : Option ℕ → List ℕ → List ℕ → Command) (words left right : Words) (r : Result TwoShapes WordsFault)
-    → words ≡ name ∷ codes "-r" ∷ digits ∷ (left ++ sep ∷ right) → IsNumber digits → EachOf IsNumber left → EachOf IsNumber right
-    → IsJudged (AreShapes (Some (decimal_value digits)) (partition left) (partition right))
-    (first_offence (offences_by rows_rule 2 (decimal_value digits ∷ []) ++ two_partitions 3 left right)) r
-    → IsRead (shapes_entry name sep says ∷ []) (λ s. says s.rows s.first s.second) words r
-shapes_with_rows name sep digits says words left right r e d l k h =
-    read_judged (shapes_entry name sep says) words
+skew_same : (rows : Option ℕ) (one_line : Bool) (outer inner : List ℕ) (s : SkewShapes) → AreSkewShapes rows one_line outer inner s
+    → skew_of s ≡ skew rows one_line outer inner
+skew_same rows one_line outer inner s h =
+    ap (λ r. skew r s.one_line s.outer s.inner) h.0
+    ∙ ap (λ b. skew rows b s.outer s.inner) h.1
+    ∙ ap (λ l. skew rows one_line l s.inner) h.2
+    ∙ ap (skew rows one_line outer) h.3
+
+-- where the shapes begin behind the options
+pub options_place : (name : List ℕ) (words optioned rest : Words) (limit : Written (optional rows_words)) (form : Written (optional form_words)) (at : ℕ)
+    → words ≡ name ∷ optioned → optioned ≡ words_of (optional rows_words) limit ++ (words_of (optional form_words) form ++ rest)
+    → at ≡ length words - length rest → at ≡ 1 + option_words limit form
+options_place name words optioned rest limit form at e f k =
+    let a = ap length e in
+    let b = ap length f in
+    let c = length-append (words_of (optional rows_words) limit) (words_of (optional form_words) form ++ rest) in
+    let d = length-append (words_of (optional form_words) form) rest in
+    omega (arith, a, b, c, d, k)
+
+pub skew_read : (words optioned rest outer inner : Words) (o : Options) (at : ℕ) (r : Result SkewShapes WordsFault)
+    → words ≡ codes "skew" ∷ optioned → AreOptions o optioned rest → AreTwoLists (codes "/") outer inner rest → at ≡ length words - length rest
+    → ((limit : Written (optional rows_words)) → IsLimitWord o.rows limit → 1 + length (words_of (optional rows_words) limit) ≤ at
+    → IsJudged (AreSkewShapes (row_limit limit) o.one_line (partition outer) (partition inner)) (first_offence (row_limit_offences 1 limit ++ two_partitions at outer inner)) r)
+    → IsRead (skew_entry ∷ []) skew_of words r
+skew_read words optioned rest outer inner o at r e a l k h =
+    let at_is = options_place (codes "skew") words optioned rest a.limit a.form at e a.words_are k in
+    read_judged skew_entry words
     (record {
-      written = (tt, (inr (tt, digits), (left, (tt, right))));
-      allowed = (tt, ((tt, number_sound digits d), (may_be left l, (tt, may_be right k))));
-      spelled = e ∙ ap (λ ws. name ∷ codes "-r" ∷ digits ∷ ws) (lists_spelled sep left right);
+      written = (tt, (a.limit, (a.form, (outer, (tt, inner)))));
+      allowed = (tt, (a.allowed, (a.form_allowed, (may_be outer l.first_numbers, (tt, may_be inner l.second_numbers)))));
+      spelled =
+          e
+          ∙ ap (λ ws. codes "skew" ∷ ws)
+          (a.words_are
+          ∙ ap (λ ws. words_of (optional rows_words) a.limit ++ (words_of (optional form_words) a.form ++ ws))
+          (l.words_are ∙ lists_spelled (codes "/") outer inner));
     })
-    (λ s. says s.rows s.first s.second) (AreShapes (Some (decimal_value digits)) (partition left) (partition right))
-    (says_same says (Some (decimal_value digits)) (partition left) (partition right)) r h
+    skew_of (AreSkewShapes (row_limit a.limit) o.one_line (partition outer) (partition inner))
+    (λ s j. skew_same (row_limit a.limit) o.one_line (partition outer) (partition inner) s j ∙ ap (λ b. skew (row_limit a.limit) b (partition outer) (partition inner)) a.form_is)
+    r
+    (subst (λ n. IsJudged (AreSkewShapes (row_limit a.limit) o.one_line (partition outer) (partition inner)) (first_offence (row_limit_offences 1 a.limit ++ two_partitions n outer inner)) r)
+    at_is (h a.limit a.limit_is (omega (arith, at_is))))
 
 -- two partitions of which the first has no offence
 pub second_judged : {B : Type 0} (Q : B → Type 0) (k m : ℕ) (left right : Words) (r : Result B WordsFault) → m ≡ k + length left + 1
@@ -259,57 +284,3 @@ coef_read words outer left right r e o l k h =
     })
     coefficient_of (AreThree (partition outer) (partition left) (partition right))
     (λ s j. ap (λ x. coef x s.left s.right) j.0 ∙ ap (λ x. coef (partition outer) x s.right) j.1 ∙ ap (coef (partition outer) (partition left)) j.2) r h
-
--- the words of `tab`
-pub tab_read : (words left right : Words) (r : Result TwoShapes WordsFault)
-    → words ≡ codes "tab" ∷ (left ++ codes "/" ∷ right) → EachOf IsNumber left → EachOf IsNumber right
-    → IsJudged (AreShapes None (partition left) (partition right)) (first_offence (two_partitions 1 left right)) r
-    → IsRead (whole_tab_entry ∷ []) tableaux_of words r
-tab_read words left right r e l k h =
-    read_judged whole_tab_entry words
-    (record {
-      written = (tt, (left, (tt, right)));
-      allowed = (tt, (may_be left l, (tt, may_be right k)));
-      spelled = e ∙ ap (λ ws. codes "tab" ∷ ws) (lists_spelled (codes "/") left right);
-    })
-    tableaux_of (AreShapes None (partition left) (partition right))
-    (λ s j. ap (λ x. tab x s.second None) j.1 ∙ ap (λ x. tab (partition left) x None) j.2) r h
-
--- the words of a reduction
-pub reduction_read : (name rows bound : List ℕ) (says : ℕ → ℕ → List ℕ → List ℕ → Command) (words left right : Words) (r : Result Reduction WordsFault)
-    → words ≡ name ∷ rows ∷ bound ∷ (left ++ codes "-" ∷ right) → IsNumber rows → IsNumber bound → EachOf IsNumber left → EachOf IsNumber right
-    → IsJudged (IsReduction (decimal_value rows) (decimal_value bound) (partition left) (partition right))
-    (first_offence (offences_by rows_rule 1 (decimal_value rows ∷ [])
-    ++ (offences_by rows_rule 2 (decimal_value bound ∷ []) ++ two_partitions 3 left right))) r
-    → IsRead (reduction_entry name says ∷ []) (λ x. says x.rows x.bound x.left x.right) words r
-reduction_read name rows bound says words left right r e d f l k h =
-    read_judged (reduction_entry name says) words
-    (record {
-      written = (tt, (rows, (bound, (left, (tt, right)))));
-      allowed = (tt, (number_sound rows d, (number_sound bound f, (may_be left l, (tt, may_be right k)))));
-      spelled = e ∙ ap (λ ws. name ∷ rows ∷ bound ∷ ws) (lists_spelled (codes "-") left right);
-    })
-    (λ x. says x.rows x.bound x.left x.right) (IsReduction (decimal_value rows) (decimal_value bound) (partition left) (partition right))
-    (λ x j.
-    ap (λ a. says a x.bound x.left x.right) j.0
-    ∙ ap (λ a. says (decimal_value rows) a x.left x.right) j.1
-    ∙ ap (λ a. says (decimal_value rows) (decimal_value bound) a x.right) j.2
-    ∙ ap (says (decimal_value rows) (decimal_value bound) (partition left)) j.3)
-    r (regrouped h)
-  where
-    regrouped : IsJudged (IsReduction (decimal_value rows) (decimal_value bound) (partition left) (partition right))
-        (first_offence (offences_by rows_rule 1 (decimal_value rows ∷ [])
-        ++ (offences_by rows_rule 2 (decimal_value bound ∷ []) ++ two_partitions 3 left right))) r
-        → IsJudged (IsReduction (decimal_value rows) (decimal_value bound) (partition left) (partition right))
-        (first_offence (reduction_offends name (tt, (rows, (bound, (left, (tt, right))))))) r
-    regrouped x =
-        subst (λ os. IsJudged (IsReduction (decimal_value rows) (decimal_value bound) (partition left) (partition right)) (first_offence os) r)
-        (sym (append_assoc (offences_by rows_rule 1 (decimal_value rows ∷ [])) (offences_by rows_rule 2 (decimal_value bound ∷ [])) (two_partitions 3 left right))) x
-
--- the two numbers of a reduction
-pub bound_after : (b : ℕ) (left right : Words) (p : Offence) → Among p (offences_by rows_rule 2 (b ∷ []) ++ two_partitions 3 left right) → 2 ≤ p.0
-bound_after b left right p m = by (Among_from_append p (offences_by rows_rule 2 (b ∷ [])) (two_partitions 3 left right) m)
-  where
-    by : Among p (offences_by rows_rule 2 (b ∷ [])) ⊎ Among p (two_partitions 3 left right) → 2 ≤ p.0
-    by (inl a) = (within rows_rule [] 2 (b ∷ []) p a).0
-    by (inr a) = let x = two_within 3 left right p a in omega (arith, x)

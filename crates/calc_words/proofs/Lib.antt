@@ -26,3 +26,4 @@ pub mod SkewJudging
 pub mod FaultlessRows
 pub mod SkewTableaux
 pub mod FaultlessPairs
+pub mod OptionWords

@@ -7,14 +7,14 @@ use Rattle.sym_model.proofs.Exponents.{same_true, same_refl}
 use Rattle.sym_model.specs.Form.{Form, empty, word, sequence, number, EachOf, is_number_word, is_skippable, derivatives, awaits_next, can_be}
 use Rattle.sym_model.specs.Entry.{Entry}
 use Rattle.sym_model.specs.SyntaxPlace.{IsSyntaxPlace}
-use Rattle.sym_model.specs.WordForms.{the, optional, partition_words, rows_words}
+use Rattle.sym_model.specs.WordForms.{the, optional, partition_words, rows_words, form_words}
 use Rattle.word_laws.specs.Reading.{is_expression}
 use Rattle.word_laws.proofs.Stands.{stands_next, wrong_word, ends_early}
 use Rattle.word_laws.proofs.NumberLists.{behind_numbers, IsListed, after_number, after_numbers}
 use Rattle.calc_words.specs.NumberRuns.{IsNumber, BeginsOtherwise}
 use Rattle.calc_words.specs.declared.splitting.RowsWord.{RowsWord}
 use Rattle.calc_words.specs.declared.splitting.RowsWord.TheVariants.{Absent, Given}
-use Rattle.calc_words.specs.Rows.{RowsAre}
+use Rattle.calc_words.specs.Rows.{RowsAre, FormIs, behind_options}
 use Rattle.calc_words.specs.Standing.{GoesAs, At, WrongAt}
 
 abbrev Words : Type 0
@@ -184,6 +184,48 @@ with_rows g words left e w entries all before c n s =
     (step entries all before (codes "-r") words (sequence (optional rows_words) g) (sequence (sequence empty (word number)) g) (sequence (word number) g) s
     (rows_next g e) (number_goes g words) refl)
 
+-- a number of rows as it is written, and what stands behind it
+pub rows_then : (rows : RowsWord) (words rest : Words) (g : Form) (left : ℕ) → RowsAre rows words rest → derivatives is_expression g (codes "-r") ≡ []
+    → WrongAt g rest left → WrongAt (sequence (optional rows_words) g) words left
+rows_then Absent words rest g left r e w =
+    without_rows g words left r.1 (subst (λ ws. WrongAt g ws left) (sym r.0) w)
+rows_then (Given value) words rest g left r e w =
+    subst (λ ws. WrongAt (sequence (optional rows_words) g) ws left) (sym r.1)
+    (with_rows g (r.0 ∷ rest) left e (behind_number r.0 g rest left r.2 w))
+
+-- the word for the one-line form, where it is there
+no_form : (g : Form) (t : List ℕ) → (t ≡ codes "-m" → ⊥)
+    → derivatives is_expression (sequence (optional form_words) g) t ≡ derivatives is_expression g t
+no_form g t b =
+    ap (λ x. map (λ h. sequence h g) (cond x (empty ∷ []) []) ++ derivatives is_expression g t) (not_same (codes "-m") t b)
+
+form_goes : (h g : Form) (words : Words) → BeginsOtherwise (λ t. t ≡ codes "-m") words → GoesAs h (sequence (optional form_words) g) words → GoesAs h g words
+form_goes h g [] b s = s
+form_goes h g (t ∷ rest) b s = s ∙ no_form g t b
+
+form_next : (g : Form) → derivatives is_expression g (codes "-m") ≡ []
+    → derivatives is_expression (sequence (optional form_words) g) (codes "-m") ≡ sequence empty g ∷ []
+form_next g e = ap (λ fs. sequence empty g ∷ fs) e
+
+pub form_then : (one_line : Bool) (words rest : Words) (g : Form) (left : ℕ) → FormIs one_line words rest → derivatives is_expression g (codes "-m") ≡ []
+    → WrongAt g rest left → WrongAt (sequence (optional form_words) g) words left
+form_then true words rest g left f e w =
+    subst (λ ws. WrongAt (sequence (optional form_words) g) ws left) (sym f)
+    (λ entries all before c n s.
+    w entries all (before ++ codes "-m" ∷ []) c n
+    (step entries all before (codes "-m") rest (sequence (optional form_words) g) (sequence empty g) g s (form_next g e) (behind_empty g rest) refl))
+form_then false words rest g left f e w =
+    λ entries all before c n s.
+    subst (λ ws. WrongAt g ws left) (sym f.0) w entries all before c n
+    (record { h = s.h; stands = s.stands; goes = form_goes s.h g words f.1 s.goes; awaits = s.awaits })
+
+-- the options in front of the shapes
+pub options_then : (rows : RowsWord) (one_line : Bool) (words between rest : Words) (g : Form) (left : ℕ) → RowsAre rows words between → FormIs one_line between rest
+    → derivatives is_expression g (codes "-r") ≡ [] → derivatives is_expression g (codes "-m") ≡ [] → WrongAt g rest left
+    → WrongAt (behind_options g) words left
+options_then rows one_line words between rest g left r f d e w =
+    rows_then rows words between (sequence (optional form_words) g) left r d (form_then one_line between rest g left f e w)
+
 -- words of one command alone
 own_goes : (f : Form) (words : Words) → GoesAs f f words
 own_goes f [] = refl
@@ -224,19 +266,13 @@ behind_separator text g words ns rest more left h e n b d w =
     (behind_list ns (sequence (the text) g) rest left (no_number_before text g h) n b
     (subst (λ ws. WrongAt (sequence (the text) g) ws left) (sym d) (behind_the text g more left w)))
 
--- a number of rows as it is written, and what stands behind it
-pub rows_then : (rows : RowsWord) (words rest : Words) (g : Form) (left : ℕ) → RowsAre rows words rest → derivatives is_expression g (codes "-r") ≡ []
-    → WrongAt g rest left → WrongAt (sequence (optional rows_words) g) words left
-rows_then Absent words rest g left r e w =
-    without_rows g words left r.1 (subst (λ ws. WrongAt g ws left) (sym r.0) w)
-rows_then (Given value) words rest g left r e w =
-    subst (λ ws. WrongAt (sequence (optional rows_words) g) ws left) (sym r.1)
-    (with_rows g (r.0 ∷ rest) left e (behind_number r.0 g rest left r.2 w))
-
--- two lists with a word between them do not begin with the word of the rows
-pub lists_no_rows : (text : List ℕ) → same text (codes "-r") ≡ false
-    → derivatives is_expression (sequence partition_words (sequence (the text) partition_words)) (codes "-r") ≡ []
-lists_no_rows text h = ap (λ x. map (λ h. sequence h partition_words) (cond x (empty ∷ []) []) ++ []) h
+-- two lists with a word between them begin with no other word
+pub lists_begin_otherwise : (text other : List ℕ) → same text other ≡ false → is_number_word other ≡ false
+    → derivatives is_expression (sequence partition_words (sequence (the text) partition_words)) other ≡ []
+lists_begin_otherwise text other h n =
+    ap (λ x. map (λ h. sequence h (sequence (the text) partition_words)) (map (λ h. sequence h partition_words) (cond x (empty ∷ []) []))
+    ++ (map (λ h. sequence h partition_words) (cond (same text other) (empty ∷ []) []) ++ [])) n
+    ∙ ap (λ x. map (λ h. sequence h partition_words) (cond x (empty ∷ []) []) ++ []) h
 
 -- the word of the rows with no number behind it
 pub rows_wrong : {A : Type 0} (f : A → List ℕ) (words : Words) (rest : List A) (g : Form) → words ≡ codes "-r" ∷ map f rest → BeginsOtherwise IsNumber (map f rest)

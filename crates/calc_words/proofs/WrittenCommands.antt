@@ -1,21 +1,27 @@
 -- Words without an offence keep the limits of their command.
-use Rattle.std.proofs.Common.{◌≡◌, ℕ, ◌+◌, List, [], ◌∷◌, ◌++◌, length, sym, subst, arith, inl, inr, None}
+use Rattle.std.proofs.Common.{◌≡◌, ℕ, ◌+◌, ◌-◌, ◌≤◌, ◌==◌, Bool, true, false, cond, List, [], ◌∷◌, ◌++◌, map, length, refl, sym, ap, subst, ◌∙◌, arith, inl, inr, None}
+use Rattle.std.proofs.lemmas.Bool.{and_parts, eqb-false}
+use Rattle.std.proofs.lemmas.List.{length-map}
+use Rattle.sym_model.specs.Partition.{without_last_zeros}
 use Rattle.sym_model.specs.Expansion.{Basis}
 use Rattle.sym_model.specs.PrintedBlock.{decimal_value}
 use Rattle.sym_model.specs.Form.{Written, words_of, EachOf}
 use Rattle.sym_model.specs.Command.{Command, quantum}
-use Rattle.sym_model.specs.CommandOffence.{first_offence, part_offences, permutation_offences, offences_by, rows_rule, lines_rule, seed_rule, judged_against, expression_offences}
-use Rattle.sym_model.specs.ExpressionOffence.{WordOffence, offences}
+use Rattle.sym_model.specs.CommandOffence.{Offence, first_offence, most_factors, part_offences, factor_offences, permutation_offences, offences_by, rows_rule, lines_rule, seed_rule, judged_against, rows_in, is_lattice_tableau, expression_offences}
+use Rattle.sym_model.specs.ExpressionOffence.{WordOffence, range, shape, offences}
+use Rattle.sym_model.specs.GoodTableau.{column_reading, is_among, lattice_readings}
+use Rattle.sym_model.specs.Polynomial.{same}
+use Rattle.sym_model.specs.Schur.{row_lengths}
 use Rattle.sym_model.specs.Entry.{Entry, SpellsFreely, SpellsWithoutOffence}
-use Rattle.sym_model.specs.WordForms.{optional, rows_words, numbers, row_limit, row_limit_offences, partition}
-use Rattle.sym_model.specs.Grammar.{entries_of, two_partitions, mult_entry, skew_entry, coef_entry, coprod_entry, tab_entry, not_listed, from_entries, quantum_entry, fusion_entry, schubert_entry, schubmult_entry, expand_entry, work_entry, rsk_entry}
+use Rattle.sym_model.specs.WordForms.{optional, rows_words, form_words, factors_words, from_words, tableau_rows, numbers, factors, factor_numbers, row_limit, row_limit_offences, partition}
+use Rattle.sym_model.specs.Grammar.{entries_of, two_partitions, option_words, mult_entry, skew_entry, coef_entry, coprod_entry, tab_entry, last_reading, not_listed, from_entries, quantum_entry, fusion_entry, schubert_entry, schubmult_entry, expand_entry, work_entry, rsk_entry}
 use Rattle.word_laws.proofs.CommandFacts.{within_degree}
 use Rattle.word_laws.proofs.FirstOffences.{empty-none}
-use Rattle.calc_words.specs.Entries.{whole_tab_entry}
-use Rattle.calc_words.specs.WrittenLimits.{KeepsLimits, IsRowLimit}
+use Rattle.calc_words.specs.WrittenLimits.{IsWritten, KeepsLimits, IsInList, IsRowLimit, AreWrittenFactors}
+use Rattle.calc_words.proofs.PairJudging.{none_judged}
 use Rattle.calc_words.proofs.WrittenLetters.{written_letters}
 use Rattle.calc_words.proofs.WordJudging.{written_word}
-use Rattle.calc_words.proofs.WrittenLists.{none_first, none_map, written, two_written, row_number, lines_number, seed_number}
+use Rattle.calc_words.proofs.WrittenLists.{none_append, none_first, none_map, written, two_written, row_number, lines_number, seed_number}
 
 abbrev Words : Type 0
 Words = List (List ℕ)
@@ -31,16 +37,40 @@ limit_kept : (k : ℕ) (x : Written (optional rows_words)) → first_offence (ro
 limit_kept k (inl x) h = tt
 limit_kept k (inr x) h = row_number (k + 1) (decimal_value x.1) h
 
+-- the offence in front of the ninth factor
+not_ninth : (ninth : Bool) (o : Offence) → cond ninth (o ∷ []) [] ≡ [] → ninth ≡ false
+not_ninth true o h = cc
+not_ninth false o h = refl
+
+-- factors after so many others
+factors_keep : (count k : ℕ) (ns : List (List ℕ)) → count ≤ 8 → factor_offences count k ns ≡ []
+    → (count + length ns ≤ 8) × EachOf IsWritten (map without_last_zeros ns)
+factors_keep count k [] c h = (omega arith, tt)
+factors_keep count k (n ∷ ns) c h =
+    let ninth : List Offence = cond (count == most_factors) ((k - 1, 0, range) ∷ []) [] in
+    let p = none_append (ninth ++ part_offences k n) (factor_offences (count + 1) (k + length n + 1) ns) h in
+    let q = none_append ninth (part_offences k n) p.0 in
+    let e = eqb-false count 8 (not_ninth (count == most_factors) (k - 1, 0, range) q.0) in
+    let r = factors_keep (count + 1) (k + length n + 1) ns (omega (arith, c, e)) p.1 in
+    let l = r.0 in
+    (omega (arith, l), (written k n (ap first_offence q.1), r.1))
+
+factors_written : (k : ℕ) (x : Written factors_words) → first_offence (factor_offences 0 k (factor_numbers x)) ≡ None → AreWrittenFactors (factors x)
+factors_written k (first, (second, others)) h =
+    let ns = factor_numbers (first, (second, others)) in
+    let r = factors_keep 0 k ns (omega arith) (empty-none (factor_offences 0 k ns) h) in
+    let l = length-map ns without_last_zeros in
+    let few = r.0 in
+    record { some = omega arith; few = omega (arith, few, l); written = r.1 }
+
 mult_keeps : Keeps mult_entry
-mult_keeps (name, (limit, (left, (minus, right)))) h =
-    let k = 1 + length (words_of (optional rows_words) limit) in
-    let p = none_first (row_limit_offences 1 limit) (two_partitions k left right) h in
-    let w = two_written k left right p.1 in
-    (limit_kept 1 limit p.0, w.0, w.1)
+mult_keeps (name, (limit, (form, x))) h =
+    let p = none_first (row_limit_offences 1 limit) (factor_offences 0 (1 + option_words limit form) (factor_numbers x)) h in
+    (limit_kept 1 limit p.0, factors_written (1 + option_words limit form) x p.1)
 
 skew_keeps : Keeps skew_entry
-skew_keeps (name, (limit, (outer, (slash, inner)))) h =
-    let k = 1 + length (words_of (optional rows_words) limit) in
+skew_keeps (name, (limit, (form, (outer, (slash, inner))))) h =
+    let k = 1 + option_words limit form in
     let p = none_first (row_limit_offences 1 limit) (two_partitions k outer inner) h in
     let w = two_written k outer inner p.1 in
     (limit_kept 1 limit p.0, w.0, w.1)
@@ -54,38 +84,48 @@ coef_keeps (name, (outer, (minus, (left, (again, right))))) h =
 coprod_keeps : Keeps coprod_entry
 coprod_keeps (name, parts) h = written 1 (numbers parts) h
 
-reduction_keeps : (rows bound : List ℕ) (left right : Words)
-    → first_offence ((offences_by rows_rule 1 (decimal_value rows ∷ []) ++ offences_by rows_rule 2 (decimal_value bound ∷ [])) ++ two_partitions 3 left right) ≡ None
-    → KeepsLimits (quantum (decimal_value rows) (decimal_value bound) (partition left) (partition right))
-reduction_keeps rows bound left right h =
-    let p = none_first (offences_by rows_rule 1 (decimal_value rows ∷ []) ++ offences_by rows_rule 2 (decimal_value bound ∷ [])) (two_partitions 3 left right) h in
+reduction_keeps : (rows bound : List ℕ) (x : Written factors_words)
+    → first_offence ((offences_by rows_rule 1 (decimal_value rows ∷ []) ++ offences_by rows_rule 2 (decimal_value bound ∷ [])) ++ factor_offences 0 3 (factor_numbers x)) ≡ None
+    → KeepsLimits (quantum (decimal_value rows) (decimal_value bound) (factors x))
+reduction_keeps rows bound x h =
+    let p = none_first (offences_by rows_rule 1 (decimal_value rows ∷ []) ++ offences_by rows_rule 2 (decimal_value bound ∷ [])) (factor_offences 0 3 (factor_numbers x)) h in
     let q = none_first (offences_by rows_rule 1 (decimal_value rows ∷ [])) (offences_by rows_rule 2 (decimal_value bound ∷ [])) p.0 in
-    let w = two_written 3 left right p.1 in
-    (row_number 1 (decimal_value rows) q.0, row_number 2 (decimal_value bound) q.1, w.0, w.1)
+    (row_number 1 (decimal_value rows) q.0, row_number 2 (decimal_value bound) q.1, factors_written 3 x p.1)
 
 quantum_keeps : Keeps quantum_entry
-quantum_keeps (name, (rows, (columns, (left, (minus, right))))) h = reduction_keeps rows columns left right h
+quantum_keeps (name, (rows, (columns, x))) h = reduction_keeps rows columns x h
 
 fusion_keeps : Keeps fusion_entry
-fusion_keeps (name, (rows, (level, (left, (minus, right))))) h = reduction_keeps rows level left right h
+fusion_keeps (name, (rows, (level, x))) h = reduction_keeps rows level x h
+
+-- the tableau behind which a list goes on
+last_kept : (k : ℕ) (outer inner : List ℕ) (after : Written (optional from_words)) → first_offence (not_listed k outer inner after) ≡ None
+    → IsInList outer inner (last_reading outer inner after)
+last_kept k outer inner (inl x) h = tt
+last_kept k outer inner (inr (name, x)) h =
+    let rows = rows_in outer (tableau_rows x) in
+    (and_parts (same (map length rows) (row_lengths outer inner)) (is_among (column_reading outer inner rows) (lattice_readings outer inner))
+    (by (is_lattice_tableau outer inner (rows_in outer (tableau_rows x))) h)).1
+  where
+    by : (b : Bool) → first_offence (cond b [] ((k, 0, shape) ∷ [])) ≡ None → b ≡ true
+    by true h = refl
+    by false h = cc
 
 tab_keeps : Keeps tab_entry
 tab_keeps (name, (outer, (slash, (inner, after)))) h =
     let lists = two_partitions 1 outer inner in
     let k = 2 + length outer + length inner in
-    let judged = judged_against lists (not_listed k (partition outer) (partition inner) after) in
-    let p = none_first (lists ++ judged) (from_entries k after) h in
-    let q = none_first lists judged p.0 in
+    let last = not_listed k (partition outer) (partition inner) after in
+    let p = none_first (lists ++ judged_against lists last) (from_entries k after) h in
+    let q = none_first lists (judged_against lists last) p.0 in
     let w = two_written 1 outer inner q.0 in
-    (w.0, w.1)
-
-pub whole_tab_keeps : Keeps whole_tab_entry
-whole_tab_keeps (name, (outer, (slash, inner))) h = two_written 1 outer inner h
+    (w.0, w.1, last_kept k (partition outer) (partition inner) after (ap first_offence (sym (none_judged lists last q.0)) ∙ q.1))
 
 expand_keeps : (bases : List Basis) → Keeps (expand_entry bases)
-expand_keeps bases (name, (basis, phrase)) h =
+expand_keeps bases (name, (form, (basis, phrase))) h =
+    let k = 2 + length (words_of (optional form_words) form) in
     within_degree basis phrase
-    (none_map (λ (o : WordOffence). (2, o.0, o.1)) (offences basis phrase) (empty-none (expression_offences 2 basis phrase) h))
+    (none_map (λ (o : WordOffence). (k, o.0, o.1)) (offences basis phrase) (empty-none (expression_offences k basis phrase) h))
 
 schubert_keeps : Keeps schubert_entry
 schubert_keeps (name, (t, ts)) h = written_letters 1 (numbers (t ∷ ts)) (omega arith) h

@@ -4,7 +4,6 @@ pub mod Faults
 pub mod PartRules
 pub mod Standing
 pub mod Rows
-pub mod Entries
 pub mod ReadShapes
 pub mod Joined
 pub mod WrittenLimits

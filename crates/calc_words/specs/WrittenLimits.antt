@@ -1,12 +1,14 @@
 -- The limits that the words of a command keep where they have no offence (this project's own).
-use Rattle.std.specs.Prelude.{◌≤◌, ℕ, List, length, Option, Some, None}
+use Rattle.std.specs.Prelude.{◌≡◌, ◌≤◌, ℕ, true, List, length, Option, Some, None}
 use Rattle.sym_model.specs.Partition.{IsPartition, size, rows}
+use Rattle.sym_model.specs.GoodTableau.{is_among, lattice_readings}
 use Rattle.sym_model.specs.Permutation.{IsKept}
 use Rattle.sym_model.specs.Sum.{Among}
 use Rattle.sym_model.specs.Expression.{degree}
 use Rattle.sym_model.specs.ExpressionOffence.{degree_limit}
+use Rattle.sym_model.specs.Form.{EachOf}
 use Rattle.sym_model.specs.Command.{Command, mult, skew, coef, coprod, tab, quantum, fusion, schubert, schubmult, expand, rsk, work}
-use Rattle.sym_model.specs.CommandOffence.{most_parts, most_cells, most_permuted, most_letters, greatest_letter, most_rows, most_lines, greatest_seed}
+use Rattle.sym_model.specs.CommandOffence.{most_parts, most_cells, most_factors, most_permuted, most_letters, greatest_letter, most_rows, most_lines, greatest_seed}
 
 -- a partition of at most 64 parts and at most 512 cells
 pub record IsWritten (parts : List ℕ) : Type 0 where
@@ -34,20 +36,29 @@ abbrev pub IsRowLimit : Option ℕ → Type 0
 IsRowLimit None = Unit {0}
 IsRowLimit (Some n) = IsRowNumber n
 
+-- the tableau behind which a list goes on is one of the list, where there is one
+abbrev pub IsInList : List ℕ → List ℕ → Option (List ℕ) → Type 0
+IsInList outer inner None = Unit {0}
+IsInList outer inner (Some w) = is_among w (lattice_readings outer inner) ≡ true
+
+-- two to eight partitions of at most 64 parts and at most 512 cells each
+pub record AreWrittenFactors (factors : List (List ℕ)) : Type 0 where
+  pub some : 2 ≤ length factors
+  pub few : length factors ≤ most_factors
+  pub written : EachOf IsWritten factors
+
 -- what a command names is within the limits of words
 abbrev pub KeepsLimits : Command → Type 0
-KeepsLimits (mult limit left right) = IsRowLimit limit × IsWritten left × IsWritten right
-KeepsLimits (skew limit outer inner) = IsRowLimit limit × IsWritten outer × IsWritten inner
+KeepsLimits (mult limit one_line factors) = IsRowLimit limit × AreWrittenFactors factors
+KeepsLimits (skew limit one_line outer inner) = IsRowLimit limit × IsWritten outer × IsWritten inner
 KeepsLimits (coef outer left right) = IsWritten outer × IsWritten left × IsWritten right
 KeepsLimits (coprod shape) = IsWritten shape
-KeepsLimits (tab outer inner after) = IsWritten outer × IsWritten inner
-KeepsLimits (quantum limit columns left right) =
-    IsRowNumber limit × IsRowNumber columns × IsWritten left × IsWritten right
-KeepsLimits (fusion limit level left right) =
-    IsRowNumber limit × IsRowNumber level × IsWritten left × IsWritten right
+KeepsLimits (tab outer inner after) = IsWritten outer × IsWritten inner × IsInList outer inner after
+KeepsLimits (quantum limit columns factors) = IsRowNumber limit × IsRowNumber columns × AreWrittenFactors factors
+KeepsLimits (fusion limit level factors) = IsRowNumber limit × IsRowNumber level × AreWrittenFactors factors
 KeepsLimits (schubert w) = IsWrittenPermutation w
 KeepsLimits (schubmult left right) = IsWrittenPermutation left × IsWrittenPermutation right
-KeepsLimits (expand target e) = degree e ≤ degree_limit target
+KeepsLimits (expand target one_line e) = degree e ≤ degree_limit target
 KeepsLimits (rsk word) = IsWrittenWord word
 KeepsLimits (work lines seed) = (1 ≤ lines) × (lines ≤ most_lines) × (seed ≤ greatest_seed)
 KeepsLimits _ = Unit {0}

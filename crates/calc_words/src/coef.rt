@@ -26,7 +26,7 @@ pub struct ThreeShapes {
     pub right: Partition,
 }
 
-/// Reads the words of `coef`: that word and three partitions with `-` between them. Words are refused as `read_mult` says.
+/// Reads the words of `coef`: that word and three partitions with `-` between them. Words are refused as `read_skew` says.
 pub fn read_coef(alloc: Global, words: &[String]) -> Result<ThreeShapes, WordsFault>
     ensures read { IsRead (coef_entry ∷ []) coefficient_of (map string_bytes words.now) result }
     ensures accepts { (command : Command) → SpellsWithoutOffence (coef_entry ∷ []) (map string_bytes words.now) command

@@ -15,7 +15,7 @@ fn is_digit_byte(byte: u8) -> bool
 }
 
 /// Whether the word is a number: one or more ASCII digits.
-pub(crate) fn is_number(word: &[u8]) -> bool
+pub fn is_number(word: &[u8]) -> bool
     ensures { result ≡ is_number_word word.now }
 {
     for byte in word {
@@ -27,7 +27,7 @@ pub(crate) fn is_number(word: &[u8]) -> bool
 }
 
 /// The value of a number word, where it is no more than 2^127 - 1.
-pub(crate) fn value_of(word: &[u8]) -> Option<u128>
+pub fn value_of(word: &[u8]) -> Option<u128>
     ensures { result ≡ narrow (decimal_value word.now) }
 {
     let mut value: u128 = 0;

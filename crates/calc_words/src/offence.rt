@@ -6,14 +6,14 @@ use calc_base::{Place, WordsFault};
 
 /// What a number offends by.
 #[derive(Clone, Copy, Debug)]
-pub(crate) enum Kind {
+pub enum Kind {
     Literal,
     Range,
     Shape,
 }
 
 /// Words that are no command, at this word.
-pub(crate) fn syntax(word: u64) -> WordsFault
+pub fn syntax(word: u64) -> WordsFault
     ensures { result ≡ WordsFault.Syntax (record { word = word; byte = 0 }) }
 {
     WordsFault::Syntax {
@@ -22,7 +22,7 @@ pub(crate) fn syntax(word: u64) -> WordsFault
 }
 
 /// The refusal of the number that is this word.
-pub(crate) fn offence(word: u64, kind: Kind) -> WordsFault
+pub fn offence(word: u64, kind: Kind) -> WordsFault
     ensures { result ≡ fault_of word kind }
 {
     let at = Place { word, byte: 0 };

@@ -135,7 +135,7 @@ fn unrsk_words(alloc: Global, words: &[String]) -> Result<TwoFillings, WordsFaul
 }
 
 /// The refusal of so many words whose rows were not cut out.
-pub(crate) fn rows_refusal(words: usize, fault: RowsFault) -> WordsFault
+pub fn rows_refusal(words: usize, fault: RowsFault) -> WordsFault
     ensures { result ≡ refusal_of words fault }
 {
     match fault {

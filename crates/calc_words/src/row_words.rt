@@ -12,7 +12,7 @@ use std::alloc::Global;
 
 /// Why no rows were cut out of words: they go wrong where so many are left, or memory is wanting.
 #[derive(Clone, Copy, Debug)]
-pub(crate) enum RowsFault {
+pub enum RowsFault {
     Wrong { left: usize },
     NoMemory,
 }
@@ -66,7 +66,7 @@ pub(crate) fn rows_first(
 }
 
 /// The rows of a tableau that stands last.
-pub(crate) fn last_rows(alloc: Global, words: &[String]) -> Result<Vec<&[String]>, RowsFault>
+pub fn last_rows(alloc: Global, words: &[String]) -> Result<Vec<&[String]>, RowsFault>
     ensures ok { IfOk result (λ v. AreRows (map (λ r. map string_bytes r.now) v.items) (map string_bytes words.now)) }
     ensures wrong { IfErr result (λ fault. IsWrongFor tableau_words fault (map string_bytes words.now)) }
 {

@@ -53,7 +53,7 @@ fn skew_lengths(alloc: Global, outer: &[u16], inner: &[u16]) -> Result<Vec<usize
 }
 
 /// The rows of a tableau of a shape: one row without numbers is no row of the empty shape.
-fn rows_of_shape(
+pub fn rows_of_shape(
     alloc: Global,
     outer: &[u16],
     rows: &[&[String]],
@@ -131,7 +131,7 @@ fn judge_skew(
 /// the first over the second, whose rows stand between words `/`; `.` is a row without numbers.
 ///
 /// Words that are no such command are refused as `Syntax`, at the word where they go wrong. Otherwise the first offence is
-/// refused: those of the partitions as `read_mult` says, and as `Shape` an inner number greater than the outer part of its
+/// refused: those of the partitions as `read_skew` says, and as `Shape` an inner number greater than the outer part of its
 /// row; an entry past 2^127 - 1 as `Literal`, one that is 0 or past 65,535 as `Range`; as `Shape` the word at which the tableau
 /// leaves the shape, an entry smaller than its left neighbour, and one not greater than the entry above it.
 pub fn read_rect(alloc: Global, words: &[String]) -> Result<SkewRows, WordsFault>

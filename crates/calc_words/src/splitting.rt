@@ -11,7 +11,7 @@ ghost use Rattle.calc_words.specs.Rows.{RowsAre};
 use crate::numbers::{is_number, value_of};
 
 /// The words behind the first, where that is this one.
-pub(crate) fn behind<'a>(words: &'a [String], text: &str) -> Option<&'a [String]>
+pub fn behind<'a>(words: &'a [String], text: &str) -> Option<&'a [String]>
     ensures { MatchOption result (BeginsOtherwise (λ t. t ≡ text.now) (map string_bytes words.now))
         (λ rest. map string_bytes words.now ≡ text.now ∷ map string_bytes rest.now) }
 {
@@ -25,7 +25,7 @@ pub(crate) fn behind<'a>(words: &'a [String], text: &str) -> Option<&'a [String]
 }
 
 /// The first word and those behind it, where it is a number.
-pub(crate) fn first_number(words: &[String]) -> Option<(&String, &[String])>
+pub fn first_number(words: &[String]) -> Option<(&String, &[String])>
     ensures { MatchOption result (BeginsOtherwise IsNumber (map string_bytes words.now))
         (λ p. (map string_bytes words.now ≡ string_bytes p.0.now ∷ map string_bytes p.1.now) × IsNumber (string_bytes p.0.now)) }
 {
@@ -39,7 +39,7 @@ pub(crate) fn first_number(words: &[String]) -> Option<(&String, &[String])>
 }
 
 /// The numbers at the front, and the words behind them.
-pub(crate) fn numbers(words: &[String]) -> (&[String], &[String])
+pub fn numbers(words: &[String]) -> (&[String], &[String])
     ensures parts { map string_bytes words.now ≡ map string_bytes result.0.now ++ map string_bytes result.1.now }
     ensures numbers { EachOf IsNumber (map string_bytes result.0.now) }
     ensures rest { BeginsOtherwise IsNumber (map string_bytes result.1.now) }
@@ -126,8 +126,8 @@ pub(crate) fn two_letter_lists<'a>(
 }
 
 /// The number of rows as it is written, where it is there; its value is kept where it is no more than 2^127 - 1.
-#[derive(Clone, Copy)]
-pub(crate) enum RowsWord {
+#[derive(Clone, Copy, Debug)]
+pub enum RowsWord {
     Absent,
     Given { value: Option<u128> },
 }

@@ -1,6 +1,4 @@
-use Rattle.std.proofs.Common.{◌≡◌, ◌≤◌, ℕ, List, [], map, length, sym, ap, subst, ◌∙◌, arith}
-use Rattle.sym_model.specs.CommandOffence.{most_letters}
-use Rattle.sym_model.specs.Schur.{letters_of}
+use Rattle.std.proofs.Common.{map, arith}
 use Rattle.calc_language.proofs.ReadTableaux.{letters_as_shape}
 use Rattle.calc_language.proofs.pairs.pair_of.Goals as goal
 

@@ -1,5 +1,5 @@
 -- The lengths of the rows so far were put.
-use Rattle.std.proofs.Common.{◌≡◌, ℕ, map, length, take}
+use Rattle.std.proofs.Common.{◌≡◌, map, length, take}
 use Rattle.calc_language.proofs.pairs.straight.Given as goal
 
 abbrev pub invariant-loop-row : goal.invariant-loop-row

@@ -1,0 +1,5 @@
+pub mod FactorStanding
+pub mod FactorCuts
+pub mod FactorJudging
+pub mod FactorLimits
+pub mod FactorCommands

@@ -1,0 +1,2 @@
+pub mod FactorWords
+pub mod ReadProducts

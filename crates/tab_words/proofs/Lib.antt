@@ -1,0 +1,2 @@
+pub mod TabStanding
+pub mod TabJudging
