@@ -44,7 +44,7 @@ long_text : (outcome : Outcome) → RefusesLong outcome → HasText outcome
 long_text outcome r = subst HasText (sym r.is) (λ none. subst (IsFaultOf too_long_offence) none r.names)
 
 words_text : (words : List (List ℕ)) (outcome : Outcome) → ComesOfLine (spoken words) (Some outcome) → HasText outcome
-words_text words (Answered answer) comes = tt
+words_text words (Answered answer form) comes = tt
 words_text words (Refused reason) comes = comes.1
 words_text words Large comes = tt
 words_text words (Told lines) comes = tt

@@ -24,7 +24,7 @@ use Rattle.calc_app.proofs.Outcomes.{leaves_whole, leaves_prefix, answers_say, n
 -- ---- an outcome was put
 
 no_fault_status : (outcome : Outcome) → (status_for outcome ≡ status.SinkFault → ⊥) × (status_for outcome ≡ status.SourceFault → ⊥)
-no_fault_status (Answered answer) = ((λ e. cc), (λ e. cc))
+no_fault_status (Answered answer form) = ((λ e. cc), (λ e. cc))
 no_fault_status (Refused (fault.Syntax at)) = ((λ e. cc), (λ e. cc))
 no_fault_status (Refused (fault.Literal at)) = ((λ e. cc), (λ e. cc))
 no_fault_status (Refused (fault.Range at)) = ((λ e. cc), (λ e. cc))

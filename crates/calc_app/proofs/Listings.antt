@@ -1,12 +1,13 @@
 -- The lines of the tableaux that are listed.
-use Rattle.std.proofs.Common.{◌≡◌, ℕ, List, [], ◌∷◌, ◌++◌, Bool, true, false, cond, refl, sym, ◌∙◌, ap, subst}
+use Rattle.std.proofs.Common.{◌≡◌, ℕ, List, [], ◌∷◌, ◌++◌, Bool, true, false, cond, refl, sym, ◌∙◌, ap, Option, Some, None}
 use Rattle.std.specs.Prelude.{map, length, nat_le}
 use Rattle.std.specs.List.{flat_map}
 use Rattle.sym_model.specs.Sum.{each, select}
 use Rattle.sym_model.specs.Schur.{contains, words}
 use Rattle.sym_model.specs.Partition.{cells, rows}
 use Rattle.sym_model.specs.GoodTableau.{good_readings, lattice_readings, column_reading, is_among, is_good}
-use Rattle.sym_model.specs.TableauList.{filling_of}
+use Rattle.sym_model.specs.Outcome.{readings_after}
+use Rattle.sym_model.specs.TableauList.{filling_of, later_than}
 use Rattle.sym_model.specs.TableauText.{tableau_line, readings_text}
 
 -- the line of a tableau of outer/inner with this column reading
@@ -38,14 +39,23 @@ none_outside outer inner h =
     (none_chosen (nat_le (rows []) (rows outer)) (column_reading outer inner) (is_good (rows outer) [] outer inner)
     (words (rows outer) (length (cells outer inner))))
 
--- the lines of a lister of good tableaux with an empty start and as many letters as the outer shape has rows
-pub listed-lines : (outer inner : List ℕ) (shape : List ℕ × List ℕ) (k : ℕ) (start : List ℕ) (rest : List (List ℕ))
-    → shape ≡ (outer, inner) → k ≡ rows outer → start ≡ [] → rest ≡ good_readings k start shape.0 shape.1
-    → readings_text shape.0 shape.1 rest ≡ readings_text outer inner (lattice_readings outer inner)
-listed-lines outer inner shape k start rest is letters empty readings =
-    let P : List ℕ × List ℕ → Type 0 = λ s.
-    readings_text s.0 s.1 (good_readings k start s.0 s.1) ≡ readings_text outer inner (lattice_readings outer inner) in
-    ap (readings_text shape.0 shape.1) readings
-    ∙ subst P (sym is)
-    (ap (λ j. readings_text outer inner (good_readings j start outer inner)) letters
-    ∙ ap (λ s. readings_text outer inner (good_readings (rows outer) s outer inner)) empty)
+pub none_after : (outer inner : List ℕ) (after : Option (List ℕ)) → contains outer inner ≡ false → readings_after outer inner after ≡ []
+none_after outer inner None h = none_outside outer inner h
+none_after outer inner (Some last) h = ap (later_than last) (none_outside outer inner h)
+
+-- the lists of a lister of good tableaux with an empty start and as many letters as the outer shape has rows
+pub all_listed : (outer inner start : List ℕ) (k : ℕ) (rest : List (List ℕ)) → k ≡ rows outer → start ≡ [] → rest ≡ good_readings k start outer inner
+    → rest ≡ lattice_readings outer inner
+all_listed outer inner start k rest l e is = is ∙ ap (λ j. good_readings j start outer inner) l ∙ ap (λ s. good_readings (rows outer) s outer inner) e
+
+pub later_listed : (outer inner start last w : List ℕ) (k : ℕ) (rest : List (List ℕ)) → k ≡ rows outer → start ≡ [] → last ≡ w
+    → rest ≡ later_than last (good_readings k start outer inner) → rest ≡ later_than w (lattice_readings outer inner)
+later_listed outer inner start last w k rest l e s is =
+    is ∙ ap (later_than last) (all_listed outer inner start k (good_readings k start outer inner) l e refl) ∙ ap (λ v. later_than v (lattice_readings outer inner)) s
+
+-- the lines of what is listed
+pub listed-lines : (outer inner : List ℕ) (shape : List ℕ × List ℕ) (after : Option (List ℕ)) (rest : List (List ℕ))
+    → shape ≡ (outer, inner) → rest ≡ readings_after shape.0 shape.1 after
+    → readings_text shape.0 shape.1 rest ≡ readings_text outer inner (readings_after outer inner after)
+listed-lines outer inner shape after rest is readings =
+    ap (readings_text shape.0 shape.1) readings ∙ ap (λ (s : List ℕ × List ℕ). readings_text s.0 s.1 (readings_after s.0 s.1 after)) is

@@ -11,19 +11,20 @@ use Rattle.calc_language.specs.Reading.{IsFaultOf}
 use Rattle.expansion_printer.specs.declared.answer.Answer.{Answer}
 use Rattle.expansion_printer.specs.Answers.{plain_answer}
 use Rattle.expansion_printer.specs.Refusal.{refusal_text}
-use Rattle.printing_laws.proofs.Blocks.{read_by-block}
-use Rattle.printing_laws.proofs.LegibleKinds.{legible}
-use Rattle.sym_model.specs.Answer.{Answer as PlainAnswer, answer as listed, answer_text, IsPrintable}
+use Rattle.one_line_laws.proofs.PrintedForms.{read_in-text}
+use Rattle.sym_model.specs.Answer.{Answer as PlainAnswer, answer as listed, IsPrintable}
+use Rattle.sym_model.specs.PrintedForm.{PrintedForm, printed_form, answer_text_in}
+use Rattle.calc_app.specs.declared.form.Form.{Form}
+use Rattle.calc_app.specs.Forms.{plain_form}
 use Rattle.sym_model.specs.Command.{Command, mult, skew, coef, coprod, tab, quantum, fusion, schubert, schubmult, expand, rsk, unrsk, rect, batch, work}
 use Rattle.sym_model.specs.CommandOffence.{Offence}
 use Rattle.sym_model.specs.Ending.{Ending, done, some_refused, syntax, range, past}
 use Rattle.sym_model.specs.ExpressionOffence as offences
 use Rattle.sym_model.specs.Headline.{ReadsBack}
-use Rattle.sym_model.specs.Kind.{label_rules}
 use Rattle.sym_model.specs.BatchLine.{lines_of}
 use Rattle.sym_model.specs.BatchOutcome.{AnswersWith}
 use Rattle.sym_model.specs.Entry.{Entry}
-use Rattle.sym_model.specs.Outcome.{Answers, Expands, IsLineOutcome, MustBeLarge, MayBeLarge, ending_of}
+use Rattle.sym_model.specs.Outcome.{Answers, Expands, PrintsAnswer, IsLineOutcome, MustBeLarge, MayBeLarge, ending_of}
 use Rattle.sym_model.specs.RefusalText.{refusal_line, offence_line, large_line}
 use Rattle.sym_model.specs.Target.{Meets}
 use Rattle.calc_app.specs.declared.outcome.Outcome.{Outcome}
@@ -33,43 +34,44 @@ use Rattle.calc_app.specs.Top.{IsOutcome, IsInput, IsFrontOf, RunsLines, Says, s
 
 -- ---- what comes of a command
 
-answers_block : (command : Command) (answer : Answer) → (MustBeLarge command → ⊥) → Meets command (plain_answer answer)
-    → IsPrintable (plain_answer answer) → Answers command (answer_text (plain_answer answer)) done
-answers_block (mult variables left right) answer small meets printable =
-    inl (small, record { answer = plain_answer answer; printable = printable; meets = meets; printed = refl }, refl)
-answers_block (skew variables outer inner) answer small meets printable =
-    inl (small, record { answer = plain_answer answer; printable = printable; meets = meets; printed = refl }, refl)
-answers_block (coef outer left right) answer small meets printable =
-    inl (small, record { answer = plain_answer answer; printable = printable; meets = meets; printed = refl }, refl)
-answers_block (coprod shape) answer small meets printable =
-    inl (small, record { answer = plain_answer answer; printable = printable; meets = meets; printed = refl }, refl)
-answers_block (quantum k columns left right) answer small meets printable =
-    inl (small, record { answer = plain_answer answer; printable = printable; meets = meets; printed = refl }, refl)
-answers_block (fusion k level left right) answer small meets printable =
-    inl (small, record { answer = plain_answer answer; printable = printable; meets = meets; printed = refl }, refl)
-answers_block (schubert w) answer small meets printable =
-    inl (small, record { answer = plain_answer answer; printable = printable; meets = meets; printed = refl }, refl)
-answers_block (schubmult u v) answer small meets printable =
-    inl (small, record { answer = plain_answer answer; printable = printable; meets = meets; printed = refl }, refl)
-answers_block (expand target e) answer small meets printable =
-    inl (small, record { answer = plain_answer answer; printable = printable; meets = meets; printed = refl }, refl)
-answers_block (tab outer inner last) answer small meets printable = absurd meets
-answers_block (rsk w) answer small meets printable = absurd meets
-answers_block (unrsk p q) answer small meets printable = absurd meets
-answers_block (rect outer inner rows) answer small meets printable = absurd meets
-answers_block batch answer small meets printable = absurd meets
-answers_block (work lines seed) answer small meets printable = absurd meets
+-- an answer in the form that its command asks for
+prints : (command : Command) (answer : Answer) (form : Form) → Meets command (plain_answer answer) → plain_form form ≡ printed_form command
+    → IsPrintable (plain_answer answer) → PrintsAnswer command (answer_text_in (plain_form form) (plain_answer answer))
+prints command answer form meets asked printable = record {
+  answer = plain_answer answer;
+  printable = printable;
+  meets = meets;
+  printed = ap (λ (f : PrintedForm). answer_text_in f (plain_answer answer)) asked;
+}
+
+answers_block : (command : Command) (answer : Answer) (form : Form) → (MustBeLarge command → ⊥) → Meets command (plain_answer answer)
+    → plain_form form ≡ printed_form command → IsPrintable (plain_answer answer) → Answers command (answer_text_in (plain_form form) (plain_answer answer)) done
+answers_block (mult variables one_line factors) answer form small meets asked printable = inl (small, prints (mult variables one_line factors) answer form meets asked printable, refl)
+answers_block (skew variables one_line outer inner) answer form small meets asked printable = inl (small, prints (skew variables one_line outer inner) answer form meets asked printable, refl)
+answers_block (coef outer left right) answer form small meets asked printable = inl (small, prints (coef outer left right) answer form meets asked printable, refl)
+answers_block (coprod shape) answer form small meets asked printable = inl (small, prints (coprod shape) answer form meets asked printable, refl)
+answers_block (quantum k columns factors) answer form small meets asked printable = inl (small, prints (quantum k columns factors) answer form meets asked printable, refl)
+answers_block (fusion k level factors) answer form small meets asked printable = inl (small, prints (fusion k level factors) answer form meets asked printable, refl)
+answers_block (schubert w) answer form small meets asked printable = inl (small, prints (schubert w) answer form meets asked printable, refl)
+answers_block (schubmult u v) answer form small meets asked printable = inl (small, prints (schubmult u v) answer form meets asked printable, refl)
+answers_block (expand target one_line e) answer form small meets asked printable = inl (small, prints (expand target one_line e) answer form meets asked printable, refl)
+answers_block (tab outer inner last) answer form small meets asked printable = absurd meets
+answers_block (rsk w) answer form small meets asked printable = absurd meets
+answers_block (unrsk p q) answer form small meets asked printable = absurd meets
+answers_block (rect outer inner rows) answer form small meets asked printable = absurd meets
+answers_block batch answer form small meets asked printable = absurd meets
+answers_block (work lines seed) answer form small meets asked printable = absurd meets
 
 answers_large : (command : Command) → MayBeLarge command → Answers command large_line past
-answers_large (mult variables left right) large = inr (large, refl, refl)
-answers_large (skew variables outer inner) large = inr (large, refl, refl)
+answers_large (mult variables one_line factors) large = inr (large, refl, refl)
+answers_large (skew variables one_line outer inner) large = inr (large, refl, refl)
 answers_large (coef outer left right) large = inr (large, refl, refl)
 answers_large (coprod shape) large = inr (large, refl, refl)
-answers_large (quantum k columns left right) large = inr (large, refl, refl)
-answers_large (fusion k level left right) large = inr (large, refl, refl)
+answers_large (quantum k columns factors) large = inr (large, refl, refl)
+answers_large (fusion k level factors) large = inr (large, refl, refl)
 answers_large (schubert w) large = inr (large, refl, refl)
 answers_large (schubmult u v) large = inr (large, refl, refl)
-answers_large (expand target e) large = inr (large, refl, refl)
+answers_large (expand target one_line e) large = inr (large, refl, refl)
 answers_large (tab outer inner last) (inl h) = absurd h.1
 answers_large (tab outer inner last) (inr h) = absurd h.1
 answers_large (rsk w) (inl h) = absurd h.1
@@ -88,15 +90,15 @@ tells_answer (tab outer inner last) text tells = (tells, refl)
 tells_answer (rsk w) text tells = (tells, refl)
 tells_answer (unrsk p q) text tells = (tells, refl)
 tells_answer (rect outer inner rows) text tells = (tells, refl)
-tells_answer (mult variables left right) text tells = absurd tells
-tells_answer (skew variables outer inner) text tells = absurd tells
+tells_answer (mult variables one_line factors) text tells = absurd tells
+tells_answer (skew variables one_line outer inner) text tells = absurd tells
 tells_answer (coef outer left right) text tells = absurd tells
 tells_answer (coprod shape) text tells = absurd tells
-tells_answer (quantum k columns left right) text tells = absurd tells
-tells_answer (fusion k level left right) text tells = absurd tells
+tells_answer (quantum k columns factors) text tells = absurd tells
+tells_answer (fusion k level factors) text tells = absurd tells
 tells_answer (schubert w) text tells = absurd tells
 tells_answer (schubmult u v) text tells = absurd tells
-tells_answer (expand target e) text tells = absurd tells
+tells_answer (expand target one_line e) text tells = absurd tells
 tells_answer batch text tells = absurd tells
 tells_answer (work lines seed) text tells = absurd tells
 
@@ -134,12 +136,12 @@ offending entries words fault.NoMemory are = absurd (are.1 refl)
 
 pub has_outcome : (entries : List Entry) (words : List (List ℕ)) (outcome : Outcome) → Computes entries words (Ok outcome)
     → HasBlock outcome → HasOutcome entries words (text_of outcome) (status_for outcome)
-has_outcome entries words (Answered answer) computes block = record {
+has_outcome entries words (Answered answer form) computes block = record {
   ending = done;
   outcome = inr (inr (
     computes.command,
     computes.spelled,
-    answers_block computes.command answer computes.reply.0 computes.reply.1 block,
+    answers_block computes.command answer form computes.reply.0 computes.reply.1 computes.reply.2 block,
   ));
   same = refl;
 }
@@ -158,15 +160,15 @@ has_outcome entries words (Told lines) computes block = record {
 -- what comes of a command that runs no other ones comes of it over every input
 answers_alone : (input : List ℕ) (command : Command) (text : List ℕ) (ending : Ending) → Answers command text ending
     → AnswersWith batch_entries input command text ending
-answers_alone input (mult variables left right) text ending answers = answers
-answers_alone input (skew variables outer inner) text ending answers = answers
+answers_alone input (mult variables one_line factors) text ending answers = answers
+answers_alone input (skew variables one_line outer inner) text ending answers = answers
 answers_alone input (coef outer left right) text ending answers = answers
 answers_alone input (coprod shape) text ending answers = answers
-answers_alone input (quantum k columns left right) text ending answers = answers
-answers_alone input (fusion k level left right) text ending answers = answers
+answers_alone input (quantum k columns factors) text ending answers = answers
+answers_alone input (fusion k level factors) text ending answers = answers
 answers_alone input (schubert w) text ending answers = answers
 answers_alone input (schubmult u v) text ending answers = answers
-answers_alone input (expand target e) text ending answers = answers
+answers_alone input (expand target one_line e) text ending answers = answers
 answers_alone input (tab outer inner last) text ending answers = answers
 answers_alone input (rsk w) text ending answers = answers
 answers_alone input (unrsk p q) text ending answers = answers
@@ -183,7 +185,7 @@ alone words input text ending (inr (inr comes)) = inr (inr (comes.0, comes.1, an
 -- ---- what a command leaves in the sink
 
 no_some_refused : (outcome : Outcome) → status_for outcome ≡ status.SomeRefused → ⊥
-no_some_refused (Answered answer) is = cc
+no_some_refused (Answered answer form) is = cc
 no_some_refused (Refused (fault.Syntax at)) is = cc
 no_some_refused (Refused (fault.Literal at)) is = cc
 no_some_refused (Refused (fault.Range at)) is = cc
@@ -251,12 +253,12 @@ leaves_prefix written count old new left words outcome computes block appended =
 
 -- ---- the headline
 
-says_block : (command : Command) (answer : PlainAnswer) → Meets command answer → IsPrintable answer
-    → ReadsBack command (answer_text answer)
-says_block command (listed kind terms) meets printable = record {
+says_text : (command : Command) (answer : PlainAnswer) → Meets command answer → IsPrintable answer
+    → ReadsBack command (answer_text_in (printed_form command) answer)
+says_text command (listed kind terms) meets printable = record {
   kind = kind;
   terms = terms;
-  reads = read_by-block (label_rules kind) (legible kind) terms printable.0 printable.1;
+  reads = read_in-text (printed_form command) kind terms printable.0 printable.1;
   canonical = printable.0;
   meets = meets;
 }
@@ -264,20 +266,20 @@ says_block command (listed kind terms) meets printable = record {
 expands_say : (command : Command) (text : List ℕ) → Expands command text done → ReadsBack command text
 expands_say command text (inl expands) =
     let prints = expands.1 in
-    subst (ReadsBack command) (sym prints.printed) (says_block command prints.answer prints.meets prints.printable)
+    subst (ReadsBack command) (sym prints.printed) (says_text command prints.answer prints.meets prints.printable)
 expands_say command text (inr refused) = let clash : done ≡ past = refused.2 in cc
 
 -- the text of a command that was answered says what the command names
 pub answers_say : (command : Command) (text : List ℕ) → Answers command text done → Says command text
-answers_say (mult variables left right) text answers = expands_say (mult variables left right) text answers
-answers_say (skew variables outer inner) text answers = expands_say (skew variables outer inner) text answers
+answers_say (mult variables one_line factors) text answers = expands_say (mult variables one_line factors) text answers
+answers_say (skew variables one_line outer inner) text answers = expands_say (skew variables one_line outer inner) text answers
 answers_say (coef outer left right) text answers = expands_say (coef outer left right) text answers
 answers_say (coprod shape) text answers = expands_say (coprod shape) text answers
-answers_say (quantum k columns left right) text answers = expands_say (quantum k columns left right) text answers
-answers_say (fusion k level left right) text answers = expands_say (fusion k level left right) text answers
+answers_say (quantum k columns factors) text answers = expands_say (quantum k columns factors) text answers
+answers_say (fusion k level factors) text answers = expands_say (fusion k level factors) text answers
 answers_say (schubert w) text answers = expands_say (schubert w) text answers
 answers_say (schubmult u v) text answers = expands_say (schubmult u v) text answers
-answers_say (expand target e) text answers = expands_say (expand target e) text answers
+answers_say (expand target one_line e) text answers = expands_say (expand target one_line e) text answers
 answers_say (tab outer inner last) text answers = answers
 answers_say (rsk w) text answers = answers
 answers_say (unrsk p q) text answers = answers
@@ -287,15 +289,15 @@ answers_say (work lines seed) text answers = absurd answers
 
 answers_with_say : (input : List ℕ) (command : Command) (text : List ℕ) → AnswersWith batch_entries input command text done
     → Says command text
-answers_with_say input (mult variables left right) text answers = answers_say (mult variables left right) text answers
-answers_with_say input (skew variables outer inner) text answers = answers_say (skew variables outer inner) text answers
+answers_with_say input (mult variables one_line factors) text answers = answers_say (mult variables one_line factors) text answers
+answers_with_say input (skew variables one_line outer inner) text answers = answers_say (skew variables one_line outer inner) text answers
 answers_with_say input (coef outer left right) text answers = answers_say (coef outer left right) text answers
 answers_with_say input (coprod shape) text answers = answers_say (coprod shape) text answers
-answers_with_say input (quantum k columns left right) text answers = answers_say (quantum k columns left right) text answers
-answers_with_say input (fusion k level left right) text answers = answers_say (fusion k level left right) text answers
+answers_with_say input (quantum k columns factors) text answers = answers_say (quantum k columns factors) text answers
+answers_with_say input (fusion k level factors) text answers = answers_say (fusion k level factors) text answers
 answers_with_say input (schubert w) text answers = answers_say (schubert w) text answers
 answers_with_say input (schubmult u v) text answers = answers_say (schubmult u v) text answers
-answers_with_say input (expand target e) text answers = answers_say (expand target e) text answers
+answers_with_say input (expand target one_line e) text answers = answers_say (expand target one_line e) text answers
 answers_with_say input (tab outer inner last) text answers = answers
 answers_with_say input (rsk w) text answers = answers
 answers_with_say input (unrsk p q) text answers = answers
@@ -332,7 +334,7 @@ headline {S = S} written count settled old new left now_left words answer leaves
 -- ---- each refusal by its own line
 
 pub accepted : (command : Command) (outcome : Outcome) → Accepts command (Ok outcome) → IsAccepted command (status_for outcome)
-accepted command (Answered answer) accepts = inl refl
+accepted command (Answered answer form) accepts = inl refl
 accepted command (Refused reason) accepts = absurd accepts
 accepted command Large accepts = inr (inl (refl, accepts))
 accepted command (Told lines) accepts = inl refl
@@ -352,7 +354,7 @@ names offence fault.NoMemory is = absurd is
 pub refuses_offence : {S : Type 0} (written : S → Option (List ℕ)) (count : S → Option ℕ) (old new : S) (offence : Offence)
     (outcome : Outcome) → Refuses offence (Ok outcome) → Appends written count old new (text_of outcome)
     → IsRefused written count old new (ending_of offence.2) (offence_line offence) (status_for outcome)
-refuses_offence written count old new offence (Answered answer) refuses appended = absurd refuses
+refuses_offence written count old new offence (Answered answer form) refuses appended = absurd refuses
 refuses_offence written count old new offence (Refused reason) refuses appended =
     let both = names offence reason refuses in
     let P : List ℕ → Type 0 = λ t. Appends written count old new t in
@@ -363,7 +365,7 @@ refuses_offence written count old new offence (Told lines) refuses appended = ab
 pub refuses_place : {S : Type 0} (written : S → Option (List ℕ)) (count : S → Option ℕ) (old new : S) (word byte : ℕ)
     (outcome : Outcome) → GoesWrong word byte (Ok outcome) → Appends written count old new (text_of outcome)
     → IsRefused written count old new syntax (refusal_line (codes "Syntax") word byte) (status_for outcome)
-refuses_place written count old new word byte (Answered answer) wrong appended = absurd wrong
+refuses_place written count old new word byte (Answered answer form) wrong appended = absurd wrong
 refuses_place written count old new word byte (Refused reason) wrong appended =
     let P : List ℕ → Type 0 = λ t. Appends written count old new t in
     record { ends = inl (ap refusal_status wrong); puts = λ ended. subst P (ap refusal_text wrong) appended }

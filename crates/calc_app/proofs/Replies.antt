@@ -23,7 +23,7 @@ use Rattle.calc_app.specs.Computed.{IsReplyTo, Computes, Accepts, RunsNoOther, I
 
 pub computes_reply : (entries : List Entry) (words : List (List ℕ)) (command : Command) (result : Result Outcome NoMemory)
     → SpellsWithoutOffence entries words command → IsReplyTo command result → Computes entries words result
-computes_reply entries words command (Ok (Answered block)) spelled reply = record { command = command; spelled = spelled; reply = reply }
+computes_reply entries words command (Ok (Answered block form)) spelled reply = record { command = command; spelled = spelled; reply = reply }
 computes_reply entries words command (Ok (Refused reason)) spelled reply = absurd reply
 computes_reply entries words command (Ok Large) spelled reply = record { command = command; spelled = spelled; reply = reply }
 computes_reply entries words command (Ok (Told lines)) spelled reply = record { command = command; spelled = spelled; reply = reply }
@@ -31,7 +31,7 @@ computes_reply entries words command (Err e) spelled reply = tt
 
 pub accepts_reply : (command : Command) (result : Result Outcome NoMemory) (other : Command) → IsReplyTo command result
     → command ≡ other → Accepts other result
-accepts_reply command (Ok (Answered block)) other reply same = tt
+accepts_reply command (Ok (Answered block form)) other reply same = tt
 accepts_reply command (Ok (Refused reason)) other reply same = reply
 accepts_reply command (Ok Large) other reply same = subst MayBeLarge same reply
 accepts_reply command (Ok (Told lines)) other reply same = tt
@@ -47,7 +47,7 @@ task_reply words command (Err e) spelled task = tt
 
 -- nothing that is put comes of the command that runs lines
 no_reply : (outcome : Outcome) → IsReplyTo batch (Ok outcome) → ⊥
-no_reply (Answered answer) reply = reply.1
+no_reply (Answered answer form) reply = reply.1
 no_reply (Refused reason) reply = reply
 no_reply Large (inl large) = large.1
 no_reply Large (inr large) = large.1

@@ -11,7 +11,8 @@ use Rattle.calc_language.specs.declared.words.Command.{Command}
 use Rattle.calc_words.specs.Reading.{IsRead as IsReadBy}
 use Rattle.expansion_printer.specs.Answers.{plain_answer}
 use Rattle.expansion_printer.specs.Refusal.{refusal_text}
-use Rattle.sym_model.specs.Answer.{answer_text, IsPrintable}
+use Rattle.sym_model.specs.Answer.{IsPrintable}
+use Rattle.sym_model.specs.PrintedForm.{printed_form, answer_text_in}
 use Rattle.sym_model.specs.Command.{Command as PlainCommand, rsk, unrsk, rect, tab, batch, work}
 use Rattle.sym_model.specs.CommandOffence.{Offence}
 use Rattle.sym_model.specs.Entry.{Entry, SpellsWithoutOffence}
@@ -20,6 +21,7 @@ use Rattle.sym_model.specs.Outcome.{MustBeLarge, MayBeLarge, readings_after, Pri
 use Rattle.sym_model.specs.TableauText.{tableau_line, pair_text, word_line, readings_text}
 use Rattle.sym_model.specs.RefusalText.{large_line}
 use Rattle.sym_model.specs.Target.{Meets}
+use Rattle.calc_app.specs.Forms.{plain_form}
 use Rattle.calc_app.specs.declared.tableau_answer.TableauAnswer.{TableauAnswer}
 use Rattle.calc_app.specs.declared.tableau_answer.TableauAnswer.TheVariants.{Listed, Paired, Spelled, Straight}
 use Rattle.calc_app.specs.declared.listing.Listing.{Listing}
@@ -51,10 +53,11 @@ Tells (unrsk p q) text = PrintsWord p q text
 Tells (rect outer inner rows) text = PrintsRectified (record { outer = outer; inner = inner; rows = rows }) text
 Tells _ text = ⊥
 
--- what comes of a command: an answer that is what it names, where it need not be refused as too large, or that it can be
--- refused so; want of memory says nothing
+-- what comes of a command: an answer that is what it names, in the form that it asks for, where it need not be refused as too
+-- large, or that it can be refused so; want of memory says nothing
 abbrev pub IsReplyTo : PlainCommand → Result Outcome NoMemory → Type 0
-IsReplyTo command (Ok (Answered answer)) = (MustBeLarge command → ⊥) × Meets command (plain_answer answer)
+IsReplyTo command (Ok (Answered answer form)) =
+    (MustBeLarge command → ⊥) × Meets command (plain_answer answer) × (plain_form form ≡ printed_form command)
 IsReplyTo command (Ok (Refused fault)) = ⊥
 IsReplyTo command (Ok Large) = MayBeLarge command
 IsReplyTo command (Ok (Told lines)) = Tells command (lines_text lines)
@@ -72,7 +75,7 @@ AreRefused entries words reason = IsReadBy {A = Command} entries command_of word
 
 -- what comes of the words: what comes of the command of the list that they spell, or their refusal; want of memory says nothing
 abbrev pub Computes : List Entry → List (List ℕ) → Result Outcome NoMemory → Type 0
-Computes entries words (Ok (Answered answer)) = RepliesTo entries words (Ok (Answered answer))
+Computes entries words (Ok (Answered answer form)) = RepliesTo entries words (Ok (Answered answer form))
 Computes entries words (Ok (Refused reason)) = AreRefused entries words reason
 Computes entries words (Ok Large) = RepliesTo entries words (Ok Large)
 Computes entries words (Ok (Told lines)) = RepliesTo entries words (Ok (Told lines))
@@ -80,7 +83,7 @@ Computes entries words (Err e) = Unit {0}
 
 -- words of the command without an offence are not refused by their words, and by their answer only where it can be too large
 abbrev pub Accepts : PlainCommand → Result Outcome NoMemory → Type 0
-Accepts command (Ok (Answered answer)) = Unit {0}
+Accepts command (Ok (Answered answer form)) = Unit {0}
 Accepts command (Ok (Refused reason)) = ⊥
 Accepts command (Ok Large) = MayBeLarge command
 Accepts command (Ok (Told lines)) = Unit {0}
@@ -88,7 +91,7 @@ Accepts command (Err e) = Unit {0}
 
 -- words with this first offence are refused by it
 abbrev pub Refuses : Offence → Result Outcome NoMemory → Type 0
-Refuses offence (Ok (Answered answer)) = ⊥
+Refuses offence (Ok (Answered answer form)) = ⊥
 Refuses offence (Ok (Refused reason)) = IsFaultOf offence reason
 Refuses offence (Ok Large) = ⊥
 Refuses offence (Ok (Told lines)) = ⊥
@@ -96,7 +99,7 @@ Refuses offence (Err e) = Unit {0}
 
 -- words that go wrong at this place are refused there
 abbrev pub GoesWrong : ℕ → ℕ → Result Outcome NoMemory → Type 0
-GoesWrong word byte (Ok (Answered answer)) = ⊥
+GoesWrong word byte (Ok (Answered answer form)) = ⊥
 GoesWrong word byte (Ok (Refused reason)) = reason ≡ fault.Syntax (record { word = word; byte = byte })
 GoesWrong word byte (Ok Large) = ⊥
 GoesWrong word byte (Ok (Told lines)) = ⊥
@@ -153,23 +156,23 @@ TaskGoesWrong word byte (Err e) = Unit {0}
 
 -- ---- what is put
 
--- what is put: the block of the answer, or the line of the refusal
+-- what is put: the answer in its form, or the line of the refusal
 abbrev pub text_of : Outcome → List ℕ
-text_of (Answered answer) = answer_text (plain_answer answer)
+text_of (Answered answer form) = answer_text_in (plain_form form) (plain_answer answer)
 text_of (Refused reason) = refusal_text reason
 text_of Large = large_line
 text_of (Told lines) = lines_text lines
 
 -- what is put is a line: a refusal is no want of memory
 abbrev pub HasText : Outcome → Type 0
-HasText (Answered answer) = Unit {0}
+HasText (Answered answer form) = Unit {0}
 HasText (Refused reason) = reason ≢ fault.NoMemory
 HasText Large = Unit {0}
 HasText (Told lines) = Unit {0}
 
 -- an answer is printable
 abbrev pub HasBlock : Outcome → Type 0
-HasBlock (Answered answer) = IsPrintable (plain_answer answer)
+HasBlock (Answered answer form) = IsPrintable (plain_answer answer)
 HasBlock (Refused reason) = Unit {0}
 HasBlock Large = Unit {0}
 HasBlock (Told lines) = Unit {0}
@@ -184,7 +187,7 @@ refusal_status fault.NoMemory = status.NoMemory
 
 -- the status at the end, where the sink does not fail
 abbrev pub status_for : Outcome → Status
-status_for (Answered answer) = status.Done
+status_for (Answered answer form) = status.Done
 status_for (Refused reason) = refusal_status reason
 status_for Large = status.Past
 status_for (Told lines) = status.Done

@@ -1,4 +1,5 @@
 -- The definitions that the contracts cite.
+pub mod Forms
 pub mod Computed
 pub mod Top
 pub mod Batch

@@ -8,14 +8,18 @@ ghost use Rattle.calc_app.specs.Batch.{ComesOfLine, TakesTurn, CutsTurn, CountsT
 ghost use Rattle.calc_app.specs.Computed.{text_of, HasText, HasBlock, status_for};
 
 use crate::block::{put_text, status_if_put};
-use crate::outcome::{Outcome, reply_to};
+use crate::outcome::{Outcome, reply_by};
 use batch_lines::{LineFault, LineReader, Next};
 use calc_base::{CountSink, NoMemory, Place, Sink, Source, Status, WordsFault, finish_if};
 use calc_language::read_line;
+use schubert_memo::Memo;
 use std::alloc::Global;
 
 /// The most bytes of a line before its line feed.
 const MOST_BYTES: u64 = 4096;
+
+/// How many Schubert polynomials are kept for later lines.
+const KEPT: usize = 64;
 
 /// What comes of what is read next.
 #[derive(Drop)]
@@ -47,7 +51,7 @@ impl Progress {
 
 /// Runs the lines of the source and puts their blocks, with the line `--` between two of them.
 ///
-/// A block is put when its line is read, and nothing of it is kept. A fault of the source ends the run after the lines that
+/// A block is put when its line is read, and nothing of it is kept but Schubert polynomials for later lines. A fault of the source ends the run after the lines that
 /// were wholly read, and the sink is finished. Want of memory ends the run.
 pub(crate) fn batch<S: Source, K: Sink>(alloc: Global, source: &mut S, sink: &mut K) -> Status
     ensures { EndsBatch K.written K.length K.faults K.settled sink.old sink.new (S.left source.old) (S.left source.new)
@@ -56,12 +60,15 @@ pub(crate) fn batch<S: Source, K: Sink>(alloc: Global, source: &mut S, sink: &mu
     let Ok(mut reader) = LineReader::new(alloc) else {
         return Status::NoMemory;
     };
+    let Ok(mut memo) = new_memo(alloc) else {
+        return Status::NoMemory;
+    };
     let mut progress = Progress {
         is_first: true,
         is_done: true,
     };
     loop {
-        match next_turn(alloc, &mut reader, source) {
+        match next_turn(alloc, &mut memo, &mut reader, source) {
             Ok(Turn::Passed) => {}
             Ok(Turn::Block { outcome }) => {
                 if !put_block(&mut progress, outcome, sink) {
@@ -75,9 +82,15 @@ pub(crate) fn batch<S: Source, K: Sink>(alloc: Global, source: &mut S, sink: &mu
     }
 }
 
+/// A store for the Schubert polynomials of lines.
+pub(crate) fn new_memo(alloc: Global) -> Result<Memo, NoMemory> {
+    Memo::new(alloc, KEPT)
+}
+
 /// Reads the next line, and computes what comes of it.
 fn next_turn<S: Source>(
     alloc: Global,
+    memo: &mut Memo,
     reader: &mut LineReader,
     source: &mut S,
 ) -> Result<Turn, LineFault>
@@ -88,7 +101,7 @@ fn next_turn<S: Source>(
     ensures later { S.faults source.old ≤ S.faults source.new }
 {
     match reader.next(source) {
-        Ok(Next::Line) => match line_outcome(alloc, reader.line()) {
+        Ok(Next::Line) => match line_outcome(alloc, memo, reader.line()) {
             Ok(None) => Ok(Turn::Passed),
             Ok(Some(outcome)) => Ok(Turn::Block { outcome }),
             Err(NoMemory) => Err(LineFault::NoMemory),
@@ -103,11 +116,15 @@ fn next_turn<S: Source>(
 }
 
 /// Computes what comes of a line.
-pub(crate) fn line_outcome(alloc: Global, line: &[u8]) -> Result<Option<Outcome>, NoMemory>
+pub(crate) fn line_outcome(
+    alloc: Global,
+    memo: &mut Memo,
+    line: &[u8],
+) -> Result<Option<Outcome>, NoMemory>
     ensures { IfOk result (ComesOfLine (batch_line line.now)) }
 {
     match read_line(alloc, line) {
-        Ok(Some(command)) => match reply_to(alloc, &command) {
+        Ok(Some(command)) => match reply_by(alloc, memo, &command) {
             Ok(outcome) => Ok(Some(outcome)),
             Err(NoMemory) => Err(NoMemory),
         },

@@ -4,10 +4,11 @@ ghost use Rattle.std.specs.Prelude.{◌≡◌, true};
 ghost use Rattle.calc_base.specs.Puts.{Puts};
 ghost use Rattle.calc_app.specs.Computed.{text_of, HasText, HasBlock, refusal_status, status_for};
 
+use crate::form::put_answer;
 use crate::outcome::Outcome;
 use crate::tableau_answer::put_told;
 use calc_base::{Sink, Status, WordsFault};
-use expansion_printer::{print, print_large, print_refusal};
+use expansion_printer::{print_large, print_refusal};
 
 /// Puts the block of the answer, or the line of the refusal, and answers whether all went well.
 pub(crate) fn put_text<K: Sink>(outcome: &mut Outcome, sink: &mut K) -> bool
@@ -16,7 +17,7 @@ pub(crate) fn put_text<K: Sink>(outcome: &mut Outcome, sink: &mut K) -> bool
     ensures printable { HasBlock outcome.old }
 {
     match outcome {
-        Outcome::Answered { answer } => print(answer, sink).is_ok(),
+        Outcome::Answered { answer, form } => put_answer(answer, *form, sink),
         Outcome::Refused { fault } => print_refusal(fault, sink).is_ok(),
         Outcome::Large => print_large(sink).is_ok(),
         Outcome::Told { lines } => put_told(lines, sink),

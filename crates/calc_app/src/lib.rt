@@ -5,6 +5,7 @@
 mod batch;
 mod block;
 mod expanding;
+mod form;
 mod insertion;
 mod listing;
 mod outcome;
@@ -18,6 +19,3 @@ mod workload;
 pub use top::run;
 pub use work_lines::{LineBuf, work_line};
 pub use workload::work;
-
-#[cfg(test)]
-mod tests;

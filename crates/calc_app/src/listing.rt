@@ -1,21 +1,23 @@
 //! The list of `tab`, which is put as it is listed.
-ghost use Rattle.std.specs.Prelude.{◌≡◌, true};
+ghost use Rattle.std.specs.Prelude.{◌≡◌, ◌≤◌, true, length, IfOk};
 ghost use Rattle.std.specs.List.{flat_map};
 ghost use Rattle.calc_base.specs.Puts.{Puts};
 ghost use Rattle.sym_model.specs.Command as commands;
+ghost use Rattle.sym_model.specs.Outcome.{readings_after};
+ghost use Rattle.sym_model.specs.Partition.{size};
 ghost use Rattle.sym_model.specs.TableauList.{filling_of};
 ghost use Rattle.sym_model.specs.TableauText.{tableau_line, readings_text};
-ghost use Rattle.calc_words.specs.WrittenLimits.{KeepsLimits};
+ghost use Rattle.calc_words.specs.WrittenLimits.{IsInList, KeepsLimits};
 ghost use Rattle.calc_app.specs.Computed.{IsReplyTo, listing_text};
 
 use crate::outcome::Outcome;
 use crate::tableau_answer::{TableauAnswer, told};
-use calc_base::{Lister, NoMemory, Sink, put_if};
+use calc_base::{Lister, NoMemory, Sink, Word, put_if};
 use expansion_printer::print_reading;
 use partitions::Partition;
 use skew_shapes::Skew;
 use std::alloc::Global;
-use tableau_iter::Lattice;
+use tableau_iter::{Lattice, ResumeFault};
 
 /// The lattice tableaux of a skew shape.
 #[derive(Drop)]
@@ -24,18 +26,42 @@ pub(crate) struct Listing {
     pub(crate) lattice: Lattice,
 }
 
-/// The lattice tableaux of a shape over another one. Where that is not contained in it there are none.
-pub(crate) fn tab(alloc: Global, outer: &Partition, inner: &Partition) -> Result<Outcome, NoMemory>
-    requires { KeepsLimits (commands.tab outer.now inner.now None) }
-    ensures { IsReplyTo (commands.tab outer.now inner.now None) result }
+/// A lister of the lattice tableaux of a shape, whose outer one has so many rows: of all of them, or of those behind the one
+/// with this column reading, which is one of them.
+fn listed(alloc: Global, shape: &Skew, rows: u16, after: &Option<Word>) -> Result<Lattice, NoMemory>
+    requires rows { rows ≡ length shape.now.0 }
+    requires small { size shape.now.0 ≤ 512 }
+    requires listed { IsInList shape.now.0 shape.now.1 after.now }
+    ensures { IfOk result (λ l. l.rest ≡ readings_after shape.now.0 shape.now.1 after.now) }
+{
+    // This tells the proof that the shape has no more cells than the outer one.
+    shape.cells();
+    let start = Partition::from_valid_parts(alloc, &[])?;
+    let Some(last) = after else {
+        return Lattice::new(alloc, shape, &start, rows);
+    };
+    match Lattice::resume(alloc, shape, &start, rows, last.as_slice()) {
+        Ok(lattice) => Ok(lattice),
+        Err(ResumeFault::NotInList) => unreachable!(),
+        Err(ResumeFault::NoMemory) => Err(NoMemory),
+    }
+}
+
+/// The lattice tableaux of a shape over another one, from behind the one with this column reading where one is given, which
+/// is one of them. Where the second shape is not contained in the first there are none.
+pub(crate) fn tab(
+    alloc: Global,
+    outer: &Partition,
+    inner: &Partition,
+    after: &Option<Word>,
+) -> Result<Outcome, NoMemory>
+    requires { KeepsLimits (commands.tab outer.now inner.now after.now) }
+    ensures { IsReplyTo (commands.tab outer.now inner.now after.now) result }
 {
     let Some(shape) = Skew::new(outer.copy()?, inner.copy()?) else {
         return Ok(told(TableauAnswer::Listed { list: None }));
     };
-    // This tells the proof that the shape has no more cells than the outer one.
-    shape.cells();
-    let start = Partition::from_valid_parts(alloc, &[])?;
-    let lattice = Lattice::new(alloc, &shape, &start, outer.rows())?;
+    let lattice = listed(alloc, &shape, outer.rows(), after)?;
     Ok(told(TableauAnswer::Listed {
         list: Some(Listing { shape, lattice }),
     }))

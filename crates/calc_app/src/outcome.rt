@@ -1,5 +1,5 @@
 //! What comes of the words of a command, before anything is put.
-ghost use Rattle.std.specs.Prelude.{ℕ, Some, map, string_bytes};
+ghost use Rattle.std.specs.Prelude.{◌≡◌, ℕ, Some, map, string_bytes};
 ghost use Rattle.sym_model.specs.Command.{Command as PlainCommand};
 ghost use Rattle.sym_model.specs.CommandOffence.{Offence};
 ghost use Rattle.sym_model.specs.Entry.{SpellsWithoutOffence, HasFirstOffence};
@@ -9,18 +9,20 @@ ghost use Rattle.calc_language.specs.Reading.{command_of, IsWithinItsLimits};
 ghost use Rattle.calc_app.specs.Computed.{IsReplyTo, RunsNoOther, IsKind, IsTaskOf, IsTaskFor, AcceptsTask, RefusesTask, TaskGoesWrong};
 
 use crate::expanding::expanded;
+use crate::form::Form;
 use crate::tableau_answer::TableauAnswer;
 use crate::{insertion, listing, permutations, products, reductions};
 use calc_base::{NoMemory, WordsFault};
 use calc_language::{Command, read_words};
 use expansion_printer::Answer;
+use schubert_memo::Memo;
 use std::alloc::Global;
 
 /// What comes of the words of a command.
 #[derive(Drop)]
 pub(crate) enum Outcome {
-    /// The whole answer.
-    Answered { answer: Answer },
+    /// The whole answer, and the form in which it is printed.
+    Answered { answer: Answer, form: Form },
     /// The words are no command that can be run. The fault is no want of memory.
     Refused { fault: WordsFault },
     /// The answer is too large.
@@ -38,6 +40,16 @@ pub(crate) enum Task {
     Workload { lines: u16, seed: u32 },
     /// What comes of the words is to be put.
     Put { outcome: Outcome },
+}
+
+/// The outcome that this answer is printed as a block.
+pub(crate) fn as_block(answer: Answer) -> Outcome
+    ensures { result ≡ Outcome.Answered answer Form.Block }
+{
+    Outcome::Answered {
+        answer,
+        form: Form::Block,
+    }
 }
 
 /// What is to be done for the words: the whole answer is there, or why there is none, or lines are to be run.
@@ -99,6 +111,22 @@ fn kind_of(command: &Command) -> Kind
     }
 }
 
+/// What comes of a command of a line, of which Schubert polynomials are kept.
+pub(crate) fn reply_by(
+    alloc: Global,
+    memo: &mut Memo,
+    command: &Command,
+) -> Result<Outcome, NoMemory>
+    requires limits { IsWithinItsLimits command.now }
+    requires alone { RunsNoOther (command_of command.now) }
+    ensures { IsReplyTo (command_of command.now) result }
+{
+    match command {
+        Command::Schubert { perm } => permutations::schubert_by(memo, perm),
+        _ => reply_to(alloc, command),
+    }
+}
+
 /// What comes of a command: its answer, or that this is too large.
 pub(crate) fn reply_to(alloc: Global, command: &Command) -> Result<Outcome, NoMemory>
     requires limits { IsWithinItsLimits command.now }
@@ -106,26 +134,41 @@ pub(crate) fn reply_to(alloc: Global, command: &Command) -> Result<Outcome, NoMe
     ensures { IsReplyTo (command_of command.now) result }
 {
     match command {
-        Command::Mult { rows, left, right } => products::mult(alloc, *rows, left, right),
-        Command::Skew { rows, outer, inner } => products::skew(alloc, *rows, outer, inner),
+        Command::Mult {
+            rows,
+            one_line,
+            factors,
+        } => products::mult(alloc, *rows, *one_line, factors),
+        Command::Skew {
+            rows,
+            one_line,
+            outer,
+            inner,
+        } => products::skew(alloc, *rows, *one_line, outer, inner),
         Command::Coef { outer, left, right } => products::coef(alloc, outer, left, right),
         Command::Coprod { shape } => products::coprod(alloc, shape),
         Command::Quantum {
             rows,
             cols,
-            left,
-            right,
-        } => reductions::quantum(alloc, *rows, *cols, left, right),
+            factors,
+        } => reductions::quantum(alloc, *rows, *cols, factors),
         Command::Fusion {
             rows,
             level,
-            left,
-            right,
-        } => reductions::fusion(alloc, *rows, *level, left, right),
+            factors,
+        } => reductions::fusion(alloc, *rows, *level, factors),
         Command::Schubert { perm } => permutations::schubert(alloc, perm),
         Command::Schubmult { left, right } => permutations::schubmult(alloc, left, right),
-        Command::Tab { outer, inner } => listing::tab(alloc, outer, inner),
-        Command::Expand { target, formula } => expanded(alloc, *target, formula),
+        Command::Tab {
+            outer,
+            inner,
+            after,
+        } => listing::tab(alloc, outer, inner, after),
+        Command::Expand {
+            target,
+            one_line,
+            formula,
+        } => expanded(alloc, *target, *one_line, formula),
         Command::Rsk { letters } => insertion::rsk(alloc, letters),
         Command::Unrsk { pair } => insertion::unrsk(alloc, pair),
         Command::Rect { tableau } => insertion::rect(tableau),

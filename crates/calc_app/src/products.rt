@@ -1,29 +1,33 @@
 //! The answers to `mult`, `skew` and `coef`.
-ghost use Rattle.std.specs.Prelude.{◌≤◌};
+ghost use Rattle.std.specs.Prelude.{◌≡◌};
 ghost use Rattle.sym_model.specs.Command as commands;
 ghost use Rattle.calc_words.specs.WrittenLimits.{KeepsLimits};
 ghost use Rattle.calc_app.specs.Computed.{IsReplyTo};
+ghost use Rattle.calc_app.specs.Forms.{form_asked};
 
-use crate::outcome::Outcome;
-use calc_base::{NoMemory, SumFault};
+use crate::form::asked_form;
+use crate::outcome::{Outcome, as_block};
+use calc_base::{Basis, NoMemory, SumFault};
+use coeff_rings::Int;
 use expansion_printer::Answer;
+use factor_lists::Factors;
+use factor_products::mult_all;
 use partitions::Partition;
+use sparse_polys::Terms;
 use std::alloc::Global;
 
-/// The product of two Schur functions, in so many variables where a number of rows is there.
+/// The product of Schur functions, in so many variables where a number of rows is there.
 pub(crate) fn mult(
     alloc: Global,
     rows: Option<u16>,
-    left: &Partition,
-    right: &Partition,
+    one_line: bool,
+    factors: &Factors,
 ) -> Result<Outcome, NoMemory>
-    requires { KeepsLimits (commands.mult rows left.now right.now) }
-    ensures { IsReplyTo (commands.mult rows left.now right.now) result }
+    requires { KeepsLimits (commands.mult rows one_line factors.now) }
+    ensures { IsReplyTo (commands.mult rows one_line factors.now) result }
 {
-    match lr_product::mult(alloc, left, right, rows) {
-        Ok(terms) => Ok(Outcome::Answered {
-            answer: Answer::Product { terms },
-        }),
+    match mult_all(alloc, factors, rows) {
+        Ok(terms) => Ok(product(terms, one_line)),
         Err(SumFault::Large) => Ok(Outcome::Large),
         Err(SumFault::NoMemory) => Err(NoMemory),
     }
@@ -33,18 +37,27 @@ pub(crate) fn mult(
 pub(crate) fn skew(
     alloc: Global,
     rows: Option<u16>,
+    one_line: bool,
     outer: &Partition,
     inner: &Partition,
 ) -> Result<Outcome, NoMemory>
-    requires { KeepsLimits (commands.skew rows outer.now inner.now) }
-    ensures { IsReplyTo (commands.skew rows outer.now inner.now) result }
+    requires { KeepsLimits (commands.skew rows one_line outer.now inner.now) }
+    ensures { IsReplyTo (commands.skew rows one_line outer.now inner.now) result }
 {
     match lr_product::skew(alloc, outer, inner, rows) {
-        Ok(terms) => Ok(Outcome::Answered {
-            answer: Answer::Product { terms },
-        }),
+        Ok(terms) => Ok(product(terms, one_line)),
         Err(SumFault::Large) => Ok(Outcome::Large),
         Err(SumFault::NoMemory) => Err(NoMemory),
+    }
+}
+
+/// The outcome that these terms in Schur functions are printed, on one line where that is asked for.
+fn product(terms: Terms<Partition, Int>, one_line: bool) -> Outcome
+    ensures { result ≡ Outcome.Answered (Answer.Product terms) (form_asked one_line Basis.S) }
+{
+    Outcome::Answered {
+        answer: Answer::Product { terms },
+        form: asked_form(one_line, Basis::S),
     }
 }
 
@@ -59,9 +72,7 @@ pub(crate) fn coef(
     ensures { IsReplyTo (commands.coef outer.now left.now right.now) result }
 {
     match lr_product::coef(alloc, outer, left, right) {
-        Ok(value) => Ok(Outcome::Answered {
-            answer: Answer::Number { value },
-        }),
+        Ok(value) => Ok(as_block(Answer::Number { value })),
         Err(SumFault::Large) => Ok(Outcome::Large),
         Err(SumFault::NoMemory) => Err(NoMemory),
     }
@@ -72,9 +83,7 @@ pub(crate) fn coprod(alloc: Global, shape: &Partition) -> Result<Outcome, NoMemo
     ensures { IsReplyTo (commands.coprod shape.now) result }
 {
     match lr_coproduct::coprod(alloc, shape) {
-        Ok(terms) => Ok(Outcome::Answered {
-            answer: Answer::Pairs { terms },
-        }),
+        Ok(terms) => Ok(as_block(Answer::Pairs { terms })),
         Err(SumFault::Large) => Ok(Outcome::Large),
         Err(SumFault::NoMemory) => Err(NoMemory),
     }

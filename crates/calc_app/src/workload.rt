@@ -6,10 +6,11 @@ ghost use Rattle.work_lines.specs.Totals.{sums_with, AreSmall};
 ghost use Rattle.calc_app.specs.Computed.{text_of, HasText, HasBlock};
 ghost use Rattle.calc_app.specs.Work.{AddsLine, AreSumsOf, PutsSums, EndsWork};
 
-use crate::batch::line_outcome;
+use crate::batch::{line_outcome, new_memo};
 use crate::block::put_text;
 use crate::outcome::Outcome;
 use calc_base::{NoMemory, Sink, Status, finish_if};
+use schubert_memo::Memo;
 use std::alloc::Global;
 use work_lines::{BlockText, LineBuf, Sums, put_summary, work_line};
 
@@ -47,9 +48,10 @@ fn sums_of(alloc: Global, lines: u16, seed: u32) -> Result<Sums, NoMemory>
     let mut line = LineBuf::new();
     let mut text = BlockText::new(alloc);
     let mut sums = Sums::new();
+    let mut memo = new_memo(alloc)?;
     for _index in 0..lines {
         work_line(&mut state, &mut line);
-        match add_line(alloc, line.as_bytes(), &mut text, &mut sums) {
+        match add_line(alloc, &mut memo, line.as_bytes(), &mut text, &mut sums) {
             Ok(()) => {}
             Err(NoMemory) => return Err(NoMemory),
         }
@@ -60,6 +62,7 @@ fn sums_of(alloc: Global, lines: u16, seed: u32) -> Result<Sums, NoMemory>
 /// Adds the block of a line.
 fn add_line(
     alloc: Global,
+    memo: &mut Memo,
     line: &[u8],
     text: &mut BlockText,
     sums: &mut Sums,
@@ -68,7 +71,7 @@ fn add_line(
     requires room { sums.old.lines < 65536 }
     ensures { IfOk result (λ _. AddsLine (batch_line line.now) sums.old sums.new) }
 {
-    match line_outcome(alloc, line) {
+    match line_outcome(alloc, memo, line) {
         Ok(Some(outcome)) => add_block(outcome, text, sums),
         Ok(None) => Ok(()),
         Err(NoMemory) => Err(NoMemory),
