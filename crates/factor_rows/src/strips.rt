@@ -1,0 +1,60 @@
+//! Rows of expansions in s times h_k, e_k and p_k.
+ghost use Rattle.std.specs.Prelude.{IfOk};
+ghost use Rattle.strip_rules.specs.Room.{HasRoom};
+
+use anyhow::Result;
+use coeff_rings::Int;
+use partitions::Partition;
+use row_texts::label;
+use sparse_polys::{Lin, Terms};
+use std::alloc::Global;
+use strip_rules::{add_column, add_hook, add_row};
+
+/// An expansion in s.
+type Expansion = Lin<Partition, Int>;
+
+/// Prints the rows of the crate `strip_rules`.
+pub fn print(rt: &(impl Print + Alloc<A = Global>)) -> Result<()> {
+    sum(rt, "h_2 s_(1)", with_row(rt.alloc())?)?;
+    sum(rt, "e_2 s_(1)", with_column(rt.alloc())?)?;
+    sum(rt, "p_2 s_(1)", with_hook(rt.alloc())?)
+}
+
+fn with_row(alloc: Global) -> Result<Expansion> {
+    Ok(add_row(alloc, one_cell(alloc)?, 2)?)
+}
+
+fn with_column(alloc: Global) -> Result<Expansion> {
+    Ok(add_column(alloc, one_cell(alloc)?, 2)?)
+}
+
+fn with_hook(alloc: Global) -> Result<Expansion> {
+    Ok(add_hook(alloc, one_cell(alloc)?, 2)?)
+}
+
+/// s_(1), which has room for two cells more.
+fn one_cell(alloc: Global) -> Result<Expansion>
+    ensures { IfOk result (HasRoom 2) }
+{
+    let mut list = Lin::new(alloc);
+    list.add_term(Partition::from_parts(alloc, &[1])?, Int::new(1))?;
+    Ok(list)
+}
+
+fn sum(rt: &impl Print, what: &str, list: Expansion) -> Result<()> {
+    terms(rt, what, list.sorted_terms()?)
+}
+
+/// Prints the terms in their order.
+pub fn terms(rt: &impl Print, what: &str, list: Terms<Partition, Int>) -> Result<()> {
+    print!(rt; "{what}:")?;
+    for (shape, c) in list.iter() {
+        term(rt, shape, *c)?;
+    }
+    Ok(println!(rt)?)
+}
+
+fn term(rt: &impl Print, shape: &Partition, c: Int) -> Result<()> {
+    print!(rt; "  {} ", c.get())?;
+    label(rt, shape.parts())
+}
