@@ -149,10 +149,52 @@ def permutations(calc, rng):
         yield f"schubmult {u} - {v}", ours, theirs
 
 
+KNOWN = {}
+
+
+def step(kind, rows, bound, shape, factor):
+    """The terms of lrcalc's product of two partitions, by rows where these are asked for, or reduced."""
+    flags = {"mult": [], "rows": ["-r", str(rows)], "quantum": ["-q", f"{rows},{bound}"], "fusion": ["-f", f"{rows},{bound}"]}[kind]
+    key = (*flags, shape, factor)
+    if key not in KNOWN:
+        KNOWN[key] = terms(lines_of(["lrcalc", "mult", *flags, *written_there(shape), "-", *written_there(factor)]))
+    return KNOWN[key]
+
+
+def several_factors(calc, rng):
+    """Products of three to five factors, one factor after another with lrcalc."""
+    for i in range(200):
+        kind = ("mult", "rows", "quantum", "fusion")[i % 4]
+        rows, bound = rng.randint(2, 4), rng.randint(1, 4)
+        factors = [partition(rng, rng.randint(0, 4)) for _ in range(rng.randint(3, 5))]
+        if kind != "mult":
+            factors = [tuple(min(a, bound) for a in factor[:rows]) for factor in factors]
+        words = [word for factor in factors for word in (*written(factor), "-")][:-1]
+        found = Counter({(0, factors[0]): 1})
+        for factor in factors[1:]:
+            next_found = Counter()
+            for (power, before), c in found.items():
+                for shape, d in step(kind, rows, bound, before, factor).items():
+                    fall = (sum(before) + sum(factor) - sum(shape)) // (rows + bound)
+                    next_found[power + fall if kind == "quantum" else 0, shape] += c * d
+            found = Counter({key: c for key, c in next_found.items() if c})
+        name = {"mult": ["mult"], "rows": ["mult", "-r", str(rows)]}.get(kind, [kind, str(rows), str(bound)])
+        ours = lines_of([calc, *name, *words])
+        if kind == "quantum":
+            listed = Counter()
+            for line in ours:
+                if line != "0":
+                    coefficient, power, text = line.split("  ")
+                    listed[int(power[2:]), label(text)] += int(coefficient)
+        else:
+            listed = Counter({(0, shape): c for shape, c in terms(ours).items()})
+        yield f"{' '.join(name)} {factors}", listed, found
+
+
 def main():
     calc = sys.argv[1]
     kinds = {"products": products, "skews": skews, "coproducts": coproducts, "tableaux": tableaux,
-             "reductions": reductions, "permutations": permutations}
+             "reductions": reductions, "permutations": permutations, "several factors": several_factors}
     chosen = sys.argv[2:] or list(kinds)
     wrong = count = 0
     for seed, kind in enumerate(kinds):

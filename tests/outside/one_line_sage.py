@@ -1,0 +1,47 @@
+#!/usr/bin/env python3
+"""Pastes one-line forms into Sage: `sage -python one_line_sage.py PROGRAM`.
+
+For expressions with a fixed seed and each basis the line of `expand -m`, with its atoms read as Sage's symmetric functions, must be
+the sum of the terms of the block. Python itself has no empty index, so that `s[]` is pasted as `s[[]]`, and a fraction as one
+of Sage. Prints a line for each mismatch; the status is 0 where there is none, and 77 where this is no Sage."""
+import random
+import re
+import subprocess
+import sys
+
+try:
+    from sage.all import QQ, SymmetricFunctions
+except ImportError:
+    sys.exit(77)
+
+from one_line import expression
+
+
+def printed(calc, *words):
+    return subprocess.run([calc, *words], capture_output=True, text=True, check=True, timeout=60).stdout
+
+
+def main():
+    calc, rng, wrong, count = sys.argv[1], random.Random(18), 0, 60
+    functions = SymmetricFunctions(QQ)
+    bases = {letter: getattr(functions, letter)() for letter in "mehps"}
+    for _ in range(count):
+        word = expression(rng, rng.randint(0, 6), 3)
+        for letter, basis in bases.items():
+            line = printed(calc, "expand", "-m", letter, word).strip().replace("[]", "[[]]")
+            line = re.sub(r"(\d+)/(\d+)", r"QQ((\1, \2))", line)
+            pasted = basis(eval(line, {"QQ": QQ, **bases}))
+            listed = basis.zero()
+            for row in printed(calc, "expand", letter, word).splitlines():
+                if row != "0":
+                    coefficient, label = row.split("  ")
+                    listed += QQ(coefficient) * basis([int(a) for a in re.findall(r"\d+", label)])
+            if pasted != listed:
+                print(f"expand -m {letter} {word}: {line} is another function in Sage")
+                wrong += 1
+    print(f"{count} expressions, their lines pasted into Sage in five bases: {wrong} differ")
+    return bool(wrong)
+
+
+if __name__ == "__main__":
+    sys.exit(main())
