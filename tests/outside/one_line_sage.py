@@ -6,7 +6,6 @@ the sum of the terms of the block. Python itself has no empty index, so that `s[
 of Sage. Prints a line for each mismatch; the status is 0 where there is none, and 77 where this is no Sage."""
 import random
 import re
-import subprocess
 import sys
 
 try:
@@ -14,11 +13,7 @@ try:
 except ImportError:
     sys.exit(77)
 
-from one_line import expression
-
-
-def printed(calc, *words):
-    return subprocess.run([calc, *words], capture_output=True, text=True, check=True, timeout=60).stdout
+from one_line import expression, printed
 
 
 def main():
