@@ -27,7 +27,7 @@ use Rattle.lr_coproduct.proofs.SortedShapes.{once_listed}
 -- ---- one partition inside
 
 -- a list of whole terms that is a polynomial, as a sum
-sum_of_terms : (P : List ℕ → Poly) (list : Terms (List ℕ)) (f : Poly) → AreWhole list → Represents P list f 1 → Same (combined P (numerators list)) f
+pub sum_of_terms : (P : List ℕ → Poly) (list : Terms (List ℕ)) (f : Poly) → AreWhole list → Represents P list f 1 → Same (combined P (numerators list)) f
 sum_of_terms P list f w r α =
     let one : denominators list ≡ 1 = denominators_of_whole list w in
     let e = r.equal α in

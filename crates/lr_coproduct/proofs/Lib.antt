@@ -1,5 +1,9 @@
-mod Lists
+mod Prefixes
 mod InnerLists
 mod OrderedPairs
 mod SortedShapes
 mod Answering
+mod ExchangedCounts
+mod Lookups
+mod Sizes
+mod Exchanging

@@ -24,7 +24,7 @@ use Rattle.sym_model.proofs.WholeTerms.{coefficient_of_combined}
 use Rattle.sparse_polys.specs.Combination.{terms_of, are_terms, IsCanonicalList}
 use Rattle.sparse_polys.specs.Labels.{printed_order_is_total, pair_order_is_total}
 use Rattle.lr_coproduct.specs.PairTerms.{pair_sum, second_sum, with_first, AreBefore}
-use Rattle.lr_coproduct.proofs.Lists.{IsAt, take_next}
+use Rattle.lr_coproduct.proofs.Prefixes.{IsAt, take_next}
 
 -- ---- their polynomial
 
@@ -47,7 +47,7 @@ sum_added n k first list old new e α =
 
 -- ---- their order
 
-ordered_append : {L : Type 0} (order : L → L → Ordering) (xs ys : Terms L) → IsOrdered order xs → IsOrdered order ys
+pub ordered_append : {L : Type 0} (order : L → L → Ordering) (xs ys : Terms L) → IsOrdered order xs → IsOrdered order ys
     → ((x y : L × Fraction) → Among x xs → Among y ys → order x.0 y.0 ≡ Less) → IsOrdered order (xs ++ ys)
 ordered_append order [] ys p q h = q
 ordered_append {L} order (x ∷ xs) ys p q h =

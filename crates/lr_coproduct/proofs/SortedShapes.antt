@@ -17,7 +17,7 @@ use Rattle.sym_model.proofs.Exponents.{same_apart, same_sym, same_from}
 use Rattle.sym_model.proofs.Orders.{printed_order-equal, printed_order-total}
 use Rattle.lr_coproduct.specs.InnerShapeList.{IsInPrintedOrder, ListsShapesInside}
 use Rattle.lr_coproduct.proofs.InnerLists.{IsPart, partitions_inside, part_among, among_part, once_partitions_inside}
-use Rattle.lr_coproduct.proofs.Lists.{IsAt, at_among}
+use Rattle.lr_coproduct.proofs.Prefixes.{IsAt, at_among}
 
 -- ---- members
 

@@ -1,8 +1,8 @@
 -- The partitions inside a partition in the printed order (this project's own).
-use Rattle.std.specs.Prelude.{◌≡◌, ℕ, List, [], ◌∷◌}
+use Rattle.std.specs.Prelude.{◌≡◌, ℕ, ◌<◌, ◌≤◌, List, [], ◌∷◌, length, get_or}
 use Rattle.std.specs.declared.cmp.Ordering.TheVariants.{Less}
 use Rattle.sym_model.specs.Sum.{Among}
-use Rattle.sym_model.specs.Partition.{IsPartition, Holds}
+use Rattle.sym_model.specs.Partition.{IsPartition, Holds, size}
 use Rattle.sym_model.specs.PrintedOrder.{printed_order}
 
 -- each partition stands in print strictly before all later ones
@@ -16,3 +16,14 @@ pub record ListsShapesInside (shape : List ℕ) (inners : List (List ℕ)) : Typ
   pub partitions : (inner : List ℕ) → Among inner inners → IsPartition inner
   pub inside : (inner : List ℕ) → Among inner inners → Holds shape inner
   pub all : (inner : List ℕ) → IsPartition inner → Holds shape inner → Among inner inners
+
+-- the element at an index
+pub record IsAt {A : Type 0} (xs : List A) (i : ℕ) (x : A) : Type 0 where
+  pub within : i < length xs
+  pub is : x ≡ get_or xs i x
+
+-- the first partitions of a list, as many as count, are those of more than so many cells
+pub record IsCountAbove (inners : List (List ℕ)) (cells count : ℕ) : Type 0 where
+  pub bound : count ≤ length inners
+  pub before : (i : ℕ) (inner : List ℕ) → IsAt inners i inner → i < count → cells < size inner
+  pub after : (i : ℕ) (inner : List ℕ) → IsAt inners i inner → count ≤ i → size inner ≤ cells

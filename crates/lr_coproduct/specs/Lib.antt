@@ -1,2 +1,3 @@
 pub mod PairTerms
 pub mod InnerShapeList
+pub mod SkewLists

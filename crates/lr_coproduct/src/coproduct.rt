@@ -1,5 +1,5 @@
 //! The coproduct of a Schur polynomial.
-ghost use Rattle.std.specs.Prelude.{◌≡◌, ℕ, List, ◌⊎◌, true, false, None, IfOk, OnOk, IsErrOf};
+ghost use Rattle.std.specs.Prelude.{◌≡◌, ℕ, ◌+◌, List, ◌⊎◌, true, false, None, length, IfOk, OnOk, IsErrOf};
 ghost use Rattle.coeff_rings.specs.Fractions.{whole};
 ghost use Rattle.sym_model.specs.Sum.{Among};
 ghost use Rattle.sym_model.specs.LabelLimits.{is_label, is_pair_label};
@@ -13,10 +13,13 @@ ghost use Rattle.sym_model.specs.Command as commands;
 ghost use Rattle.sym_model.specs.Target.{Meets};
 ghost use Rattle.sym_model.specs.LargeAnswer.{HasPastCoefficient};
 ghost use Rattle.sparse_polys.specs.Combination.{terms_of, IsCanonicalList};
+ghost use Rattle.lr_coproduct.specs.InnerShapeList.{ListsShapesInside, IsAt};
+ghost use Rattle.lr_coproduct.specs.SkewLists.{HaveSkewLists};
 ghost use Rattle.lr_coproduct.specs.PairTerms.{pair_sum, AreBefore};
 
+use crate::exchange::exchanged;
 use crate::inner_shapes::inner_shapes;
-use crate::pairs::add_pairs;
+use crate::pairs::{add_list, lies_in_limits};
 use calc_base::{NoMemory, SumFault};
 use coeff_rings::Int;
 use lr_product::skew;
@@ -38,22 +41,29 @@ pub fn coprod(alloc: Global, shape: &Partition) -> Result<Terms<Pair, Int>, SumF
     };
     // The partitions inside and the terms for each of them come in the printed order, and so do the pairs.
     let mut pairs: Vec<(Pair, Int)> = Vec::new(alloc);
+    let mut lists: Vec<Terms<Partition, Int>> = Vec::new(alloc);
     for at in 0..inners.len() {
         let inner = &inners[at];
-        if let Err(fault) = add_inner(alloc, &mut pairs, shape, inner) {
+        if let Err(fault) = add_inner(alloc, &mut pairs, &mut lists, shape, &inners, inner) {
             return Err(fault);
         }
     }
     Ok(Terms::from_pairs(pairs).unwrap())
 }
 
-/// Adds the pairs with one partition inside the shape in front, at the end of pairs whose first partitions stand before it.
+/// Adds the pairs with one partition inside the shape in front, at the end of pairs whose first partitions stand before it, and
+/// the list of its terms behind those of the partitions before it.
 fn add_inner(
     alloc: Global,
     pairs: &mut Vec<(Pair, Int)>,
+    lists: &mut Vec<Terms<Partition, Int>>,
     shape: &Partition,
+    inners: &[Partition],
     inner: &Partition,
 ) -> Result<(), SumFault>
+    requires listed { ListsShapesInside shape.now inners.now }
+    requires here { IsAt inners.now (length lists.old.items) inner.now }
+    requires lists { HaveSkewLists shape.now inners.now lists.old.items }
     ensures adds { OnOk result ((n k : ℕ) → Same (pair_sum n k (terms_of whole pairs.new.items))
         (plus (pair_sum n k (terms_of whole pairs.old.items)) (beside (schur inner.now n) (skew_schur shape.now inner.now k)))) }
     ensures goes_on { OnOk result (AreBefore (terms_of whole pairs.old.items) inner.now
@@ -61,23 +71,43 @@ fn add_inner(
         → IsCanonicalList pair_order is_pair_label (terms_of whole pairs.new.items)) }
     ensures firsts { OnOk result ((t : (List ℕ × List ℕ) × Fraction) → Among t (terms_of whole pairs.new.items)
         → Among t (terms_of whole pairs.old.items) ⊎ (t.0.0 ≡ inner.now)) }
+    ensures count { OnOk result (length lists.new.items ≡ length lists.old.items + 1) }
+    ensures lists { OnOk result (HaveSkewLists shape.now inners.now lists.new.items) }
     ensures fits { OnOk result (HasPastCoefficient (commands.skew None false shape.now inner.now) → ⊥) }
     ensures large { IsErrOf result SumFault.Large → HasPastCoefficient (commands.skew None false shape.now inner.now) }
 {
     lies_in_limits(inner);
-    let list = match skew(alloc, shape, inner, None) {
+    let list = match list_of(alloc, shape, inners, lists, inner) {
         Ok(list) => list,
         Err(fault) => return Err(fault),
     };
-    match add_pairs(pairs, inner, &list) {
+    match add_list(pairs, lists, inner, list) {
         Ok(()) => Ok(()),
         Err(NoMemory) => Err(SumFault::NoMemory),
     }
 }
 
-/// Does nothing when it runs: it tells a proof that a partition lies in the limits of a label.
-fn lies_in_limits(partition: &Partition)
-    ensures { is_label partition.now ≡ true }
+/// The skew Schur polynomial of the shape by a partition in Schur polynomials: counted where the partition has at least half of
+/// the cells, as that skew shape is a small one, and else taken from the lists of the partitions before it.
+fn list_of(
+    alloc: Global,
+    shape: &Partition,
+    inners: &[Partition],
+    lists: &[Terms<Partition, Int>],
+    inner: &Partition,
+) -> Result<Terms<Partition, Int>, SumFault>
+    requires listed { ListsShapesInside shape.now inners.now }
+    requires here { IsAt inners.now (length lists.now) inner.now }
+    requires lists { HaveSkewLists shape.now inners.now lists.now }
+    ensures meets { IfOk result (λ terms. Meets (commands.skew None false shape.now inner.now) (answer kinds.product terms)) }
+    ensures large { IsErrOf result SumFault.Large → HasPastCoefficient (commands.skew None false shape.now inner.now) }
+    ensures fits { OnOk result (HasPastCoefficient (commands.skew None false shape.now inner.now) → ⊥) }
 {
-    let _ = partition.size();
+    if shape.size() <= 2 * inner.size() {
+        return skew(alloc, shape, inner, None);
+    }
+    match exchanged(alloc, shape, inners, lists, inner) {
+        Ok(list) => Ok(list),
+        Err(NoMemory) => Err(SumFault::NoMemory),
+    }
 }

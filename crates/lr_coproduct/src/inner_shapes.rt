@@ -4,7 +4,7 @@ ghost use Rattle.std.specs.List.Sorted.{IsPermutation};
 ghost use Rattle.sym_model.specs.Partition.{Falls, IsPartition, columns, size, without_last_zeros};
 ghost use Rattle.sym_model.specs.PrintedOrder.{printed_order};
 ghost use Rattle.coproduct_laws.specs.InnerShapes.{shapes_inside};
-ghost use Rattle.lr_coproduct.specs.InnerShapeList.{ListsShapesInside};
+ghost use Rattle.lr_coproduct.specs.InnerShapeList.{IsInPrintedOrder, ListsShapesInside, IsCountAbove};
 
 use calc_base::NoMemory;
 use partitions::Partition;
@@ -27,6 +27,14 @@ fn sort_shapes(shapes: &mut Vec<Partition>)
     ensures sorted { IsSorted printed_order shapes.new.items }
 {
     shapes.sort_unstable_by(|a, b| a.cmp_printed(b));
+}
+
+/// How many partitions have more than so many cells. They stand first in the printed order.
+pub(crate) fn count_above(inners: &[Partition], cells: u16) -> usize
+    requires { IsInPrintedOrder inners.now }
+    ensures { IsCountAbove inners.now cells result }
+{
+    inners.partition_point(|inner| cells < inner.size())
 }
 
 /// Adds the partitions that begin with these numbers, go on with one that is at most `most`, and stay inside these rows.

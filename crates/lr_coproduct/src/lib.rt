@@ -2,6 +2,7 @@
 #![tactic(auto)]
 
 mod coproduct;
+mod exchange;
 mod inner_shapes;
 mod pairs;
 

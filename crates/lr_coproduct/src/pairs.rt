@@ -1,5 +1,5 @@
 //! Terms labelled by pairs of partitions.
-ghost use Rattle.std.specs.Prelude.{◌≡◌, ℕ, ℤ, List, [], ◌∷◌, ◌++◌, Some, slice_get, OnOk};
+ghost use Rattle.std.specs.Prelude.{◌≡◌, ℕ, ℤ, List, [], ◌∷◌, ◌++◌, true, Some, slice_get, OnOk};
 ghost use Rattle.coeff_rings.specs.Fractions.{whole};
 ghost use Rattle.sym_model.specs.LabelLimits.{is_label};
 ghost use Rattle.sym_model.specs.PrintedOrder.{printed_order};
@@ -12,8 +12,26 @@ use coeff_rings::Int;
 use partitions::Partition;
 use sparse_polys::{Pair, Terms};
 
+/// Adds the terms of a list at the end of pairs, each with the label that has `first` in front of its own, and the list at the end
+/// of the lists.
+pub(crate) fn add_list(
+    pairs: &mut Vec<(Pair, Int)>,
+    lists: &mut Vec<Terms<Partition, Int>>,
+    first: &Partition,
+    list: Terms<Partition, Int>,
+) -> Result<(), NoMemory>
+    ensures adds { OnOk result (terms_of whole pairs.new.items ≡ terms_of whole pairs.old.items ++ with_first first.now list) }
+    ensures kept { OnOk result (lists.new.items ≡ lists.old.items ++ list ∷ []) }
+    ensures canonical { IsCanonicalList printed_order is_label list }
+    ensures whole { AreWhole list }
+{
+    add_pairs(pairs, first, &list)?;
+    lists.push(list)?;
+    Ok(())
+}
+
 /// Adds the terms of a list at the end, each with the label that has `first` in front of its own.
-pub(crate) fn add_pairs(
+fn add_pairs(
     pairs: &mut Vec<(Pair, Int)>,
     first: &Partition,
     list: &Terms<Partition, Int>,
@@ -61,8 +79,15 @@ fn coefficient_at(list: &Terms<Partition, Int>, at: usize) -> Int
 }
 
 /// Does nothing when it runs: it tells a proof that whole numbers are coefficients with the denominator 1.
-fn are_whole(list: &Terms<Partition, Int>)
+pub(crate) fn are_whole(list: &Terms<Partition, Int>)
     ensures { AreWhole list.now }
 {
     let _ = list.iter();
+}
+
+/// Does nothing when it runs: it tells a proof that a partition lies in the limits of a label.
+pub(crate) fn lies_in_limits(partition: &Partition)
+    ensures { is_label partition.now ≡ true }
+{
+    let _ = partition.size();
 }

@@ -1,4 +1,4 @@
-use Rattle.std.proofs.Common.{◌≡◌, ℕ, List, ◌+◌, take, sym, subst, inl, inr, arith}
+use Rattle.std.proofs.Common.{◌≡◌, ℕ, List, ◌+◌, length, take, sym, subst, inl, inr, arith}
 use Rattle.std.specs.Prelude.{None, false}
 use Rattle.coeff_rings.specs.Fractions.{whole}
 use Rattle.sym_model.specs.Sum.{Among, each}
@@ -15,7 +15,8 @@ use Rattle.sym_model.specs.LabelLimits.{is_pair_label}
 use Rattle.sym_model.specs.PrintedOrder.{pair_order}
 use Rattle.sparse_polys.specs.Combination.{terms_of, IsCanonicalList}
 use Rattle.lr_coproduct.specs.PairTerms.{pair_sum}
-use Rattle.lr_coproduct.proofs.Lists.{IsAt, at_among, take_next, take_past, either_at}
+use Rattle.lr_coproduct.specs.SkewLists.{HaveSkewLists}
+use Rattle.lr_coproduct.proofs.Prefixes.{IsAt, at_among, take_next, take_past, either_at}
 use Rattle.lr_product.proofs.Results.{error_of}
 use Rattle.lr_coproduct.proofs.SortedShapes.{earlier_before}
 use Rattle.lr_coproduct.proofs.Answering.{sum_next, coproduct_meets, past_of_inner, none_past}
@@ -29,6 +30,13 @@ returns-in-Err-add_inner-clause-large c = λ e.
     past_of_inner c.args.shape.now c.index-inner.result.now items c.in-Ok.ensures.listed (at_among items c.loop-at.at c.index-inner.result.now here)
     (c.in-Err-add_inner.ensures.large (error_of c.in-Err-add_inner.fault _ e))
 
+pub add_inner-requires-clause-here : goal.add_inner-requires-clause-here
+add_inner-requires-clause-here c =
+    let items = c.in-Ok.inners.items in
+    let count = c.loop-at.invariant.count in
+    subst (λ (l : List (List ℕ)). IsAt l (length c.loop-at.lists.items) c.index-inner.result.now) (sym c.deref.ensures.value)
+    (subst (λ (i : ℕ). IsAt items i c.index-inner.result.now) (sym count) (record { within = omega (arith, c.loop-at-test.true, c.loop-at.invariant.end); is = c.index-inner.ensures }))
+
 pub loop-at-preserved : goal.loop-at-preserved
 loop-at-preserved c =
     let items = c.in-Ok.inners.items in
@@ -40,6 +48,8 @@ loop-at-preserved c =
     let next = take_next items at inner here in
     record {
       end = c.loop-at.invariant.end;
+      count = let n = c.in_default.ensures.count in let m = c.loop-at.invariant.count in omega arith;
+      lists = subst (λ (l : List (List ℕ)). HaveSkewLists shape l c.add_inner.new.lists.items) c.deref.ensures.value c.in_default.ensures.lists;
       adds = λ n k. sum_next (λ i. beside (schur i n) (skew_schur shape i k)) (take at items) (take (at + 1) items) inner (pair_sum n k old) (pair_sum n k (terms_of whole c.add_inner.new.pairs.items))
           next (c.loop-at.invariant.adds n k) (c.in_default.ensures.adds n k);
       canonical = c.in_default.ensures.goes_on (λ t m. earlier_before items at inner t.0.0 c.in-Ok.ensures.listed.ordered here (c.loop-at.invariant.firsts t m)) c.loop-at.invariant.canonical;

@@ -11,11 +11,14 @@ use Rattle.sym_model.specs.LargeAnswer.{HasPastCoefficient}
 use Rattle.sym_model.specs.PrintedOrder.{pair_order}
 use Rattle.sparse_polys.specs.Combination.{terms_of, IsCanonicalList}
 use Rattle.lr_coproduct.specs.PairTerms.{pair_sum}
+use Rattle.lr_coproduct.specs.SkewLists.{HaveSkewLists}
 use Rattle.lr_coproduct.proofs.coproduct.coprod.Given as goal
 
 abbrev pub invariant-loop-at : goal.invariant-loop-at
 invariant-loop-at l = record {
   end : l.at-end ≡ length l.inners.items;
+  count : length l.lists.items ≡ l.at;
+  lists : HaveSkewLists l.shape l.inners.items l.lists.items;
   adds : (n k : ℕ) → Same (pair_sum n k (terms_of whole l.pairs.items)) (each (λ inner. beside (schur inner n) (skew_schur l.shape inner k)) (take l.at l.inners.items));
   canonical : IsCanonicalList pair_order is_pair_label (terms_of whole l.pairs.items);
   firsts : (t : (List ℕ × List ℕ) × Fraction) → Among t (terms_of whole l.pairs.items) → Among t.0.0 (take l.at l.inners.items);

@@ -4,7 +4,7 @@ use Rattle.sym_model.specs.Expansion.{Terms}
 use Rattle.std.proofs.Common.{ℕ, List}
 use Rattle.sparse_polys.specs.Combination.{terms_of}
 use Rattle.lr_coproduct.specs.PairTerms.{with_first}
-use Rattle.lr_coproduct.proofs.Lists.{IsAt, at_from_get, take_past}
+use Rattle.lr_coproduct.proofs.Prefixes.{IsAt, at_from_get, take_past}
 use Rattle.lr_coproduct.proofs.OrderedPairs.{found_at, next_added}
 use Rattle.lr_coproduct.proofs.pairs.add_pairs.Goals as goal
 

@@ -1,5 +1,5 @@
 use Rattle.sym_model.proofs.Orders.{is_label-from}
-use Rattle.lr_coproduct.proofs.coproduct.lies_in_limits.Goals as goal
+use Rattle.lr_coproduct.proofs.pairs.lies_in_limits.Goals as goal
 
 pub returns : goal.returns
 returns c =

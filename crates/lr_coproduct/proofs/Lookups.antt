@@ -1,0 +1,136 @@
+-- Look-ups in a canonical list of terms.
+use Rattle.std.proofs.Common.{◌≡◌, ℕ, zero, suc, ◌<◌, ◌≤◌, ◌⊎◌, Bool, cond, ◌&&◌, List, [], ◌∷◌, length, get_or, refl, sym, ap, ap₂, ◌∙◌, subst, inl, inr, arith, ℤ, pos, ◌+ℤ◌}
+use Rattle.std.specs.Prelude.{Err}
+use Rattle.std.specs.List.Sorted.{IsNonDecreasingBy, IsBinarySearchResult}
+use Rattle.std.specs.Ordering.{ordering_index}
+use Rattle.std.specs.declared.cmp.Ordering.{Ordering}
+use Rattle.std.specs.declared.cmp.Ordering.TheVariants.{Less, Equal, Greater}
+use Rattle.std.proofs.lemmas.Bool.{and_parts, cases_lt}
+use Rattle.std.proofs.lemmas.Cmp.{tied_itself}
+use Rattle.coeff_rings.specs.Fractions.{whole}
+use Rattle.sym_model.specs.Sum.{Among}
+use Rattle.sym_model.specs.Partition.{IsPartition}
+use Rattle.sym_model.specs.Polynomial.{Term, same, coefficient}
+use Rattle.sym_model.specs.Canonical.{is_ordered, is_reduced}
+use Rattle.sym_model.specs.LabelLimits.{is_label}
+use Rattle.sym_model.specs.PrintedOrder.{printed_order}
+use Rattle.sym_model.specs.Expansion.{Fraction, Terms}
+use Rattle.sym_model.specs.WholeTerms.{numerators}
+use Rattle.sym_model.proofs.CanonicalLists.{IsOrdered, is_ordered-tells, stands_before-among, each_term-among}
+use Rattle.sym_model.proofs.Exponents.{same_apart, same_from}
+use Rattle.sym_model.proofs.Orders.{printed_order-total, printed_order-equal, is_label-tells}
+use Rattle.sym_model.proofs.Sums.{total_map, total_none, Among-map, Among_from_map}
+use Rattle.sparse_polys.specs.Combination.{terms_of, are_terms, IsCanonicalList}
+use lib.IntN.{+ℤ_idl, +ℤ_idr}
+
+-- no term has this label
+pub no_label : (terms : Terms (List ℕ)) (ν : List ℕ) → ((t : List ℕ × Fraction) → Among t terms → t.0 ≡ ν → ⊥) → coefficient (numerators terms) ν ≡ pos 0
+no_label terms ν h =
+    total_map (λ (t : Term). cond (same t.0 ν) t.1 (pos 0)) (λ (t : List ℕ × Fraction). (t.0, t.1.0)) terms
+    ∙ total_none (λ (t : List ℕ × Fraction). cond (same t.0 ν) t.1.0 (pos 0)) terms (λ t m. ap (λ (b : Bool). cond b t.1.0 (pos 0)) (same_apart t.0 ν (h t m)))
+
+-- the labels are partitions
+pub label_in : (terms : Terms (List ℕ)) → IsCanonicalList printed_order is_label terms → (t : List ℕ × Fraction) → Among t terms → IsPartition t.0
+label_in terms c t m =
+    (is_label-tells t.0 (and_parts (is_reduced t.1) (is_label t.0)
+    (each_term-among (λ (u : List ℕ × Fraction). is_reduced u.1 && is_label u.0) terms (and_parts (is_ordered printed_order terms) (are_terms is_label terms) c).1 t m)).1).partition
+
+pub ordered_in : (terms : Terms (List ℕ)) → IsCanonicalList printed_order is_label terms → IsOrdered printed_order terms
+ordered_in terms c = is_ordered-tells printed_order printed_order-total.trans terms (and_parts (is_ordered printed_order terms) (are_terms is_label terms) c).0
+
+-- a label is not before itself
+pub not_before : (x y : List ℕ) → printed_order x y ≡ Less → x ≡ y → ⊥
+not_before x y h e =
+    let itself = tied_itself printed_order-total y in
+    let less : printed_order y y ≡ Less = subst (λ (z : List ℕ). printed_order z y ≡ Less) e h in
+    cc
+
+-- a term has its coefficient at its label
+coefficient_of_term : (terms : Terms (List ℕ)) → IsOrdered printed_order terms → (t : List ℕ × Fraction) → Among t terms → coefficient (numerators terms) t.0 ≡ t.1.0
+coefficient_of_term [] h t m = absurd m
+coefficient_of_term (u ∷ terms) h t (inl e) =
+    ap₂ ◌+ℤ◌ (ap (λ (b : Bool). cond b u.1.0 (pos 0)) (same_from u.0 t.0 (ap (λ (v : List ℕ × Fraction). v.0) (sym e))))
+    (no_label terms t.0 (λ v k d. not_before u.0 v.0 (stands_before-among printed_order u.0 terms v h.0 k) (ap (λ (w : List ℕ × Fraction). w.0) (sym e) ∙ sym d)))
+    ∙ +ℤ_idr u.1.0 ∙ ap (λ (v : List ℕ × Fraction). v.1.0) (sym e)
+coefficient_of_term (u ∷ terms) h t (inr m) =
+    ap (λ (b : Bool). cond b u.1.0 (pos 0) +ℤ coefficient (numerators terms) t.0) (same_apart u.0 t.0 (not_before u.0 t.0 (stands_before-among printed_order u.0 terms t h.0 m)))
+    ∙ +ℤ_idl (coefficient (numerators terms) t.0) ∙ coefficient_of_term terms h.1 t m
+
+-- ---- a binary search
+
+pub member_at : {A : Type 0} (xs : List A) (i : ℕ) (d : A) → i < length xs → Among (get_or xs i d) xs
+member_at [] i d l = absurd (omega arith)
+member_at (x ∷ xs) zero d l = inl refl
+member_at (x ∷ xs) (suc i) d l = inr (member_at xs i d (omega arith))
+
+member_index : {A : Type 0} (xs : List A) (x : A) → Among x xs → (i : ℕ) × (i < length xs) × ((d : A) → get_or xs i d ≡ x)
+member_index [] x m = absurd m
+member_index (y ∷ xs) x (inl e) = (0, omega arith, λ d. sym e)
+member_index (y ∷ xs) x (inr m) = let r = member_index xs x m in let l = r.1 in (suc r.0, omega arith, r.2)
+
+-- how a term stands to a label
+abbrev pub to_label : List ℕ → List ℕ × ℤ → Ordering
+to_label label term = printed_order term.0 label
+
+rising : (x y label : List ℕ) → printed_order x y ≡ Less → ordering_index (printed_order x label) ≤ ordering_index (printed_order y label)
+rising x y label h = by (printed_order y label) refl
+  where
+    most : (o : Ordering) → ordering_index o ≤ 2
+    most Less = omega arith
+    most Equal = omega arith
+    most Greater = omega arith
+
+    before : printed_order x label ≡ Less → (n : ℕ) → ordering_index (printed_order x label) ≤ n
+    before e n = let z = ap ordering_index e in omega arith
+
+    by : (o : Ordering) → printed_order y label ≡ o → ordering_index (printed_order x label) ≤ ordering_index o
+    by Less e = before (printed_order-total.trans x y label h e) 0
+    by Equal e =
+        let back : printed_order y x ≡ printed_order label x = printed_order-total.congr y label x e in
+        let a = printed_order-total.antisymm x y in
+        let b = printed_order-total.antisymm x label in
+        before (cc) 1
+    by Greater e = most (printed_order x label)
+
+-- the terms of a canonical list do not fall behind a label
+pub terms_rise : (xs : List (List ℕ × ℤ)) (label : List ℕ) → IsOrdered printed_order (terms_of whole xs) → IsNonDecreasingBy (λ (y : List ℕ × ℤ). ordering_index (to_label label y)) xs
+terms_rise [] label h i j d l k = absurd (omega arith)
+terms_rise (x ∷ xs) label h zero zero d l k = omega arith
+terms_rise (x ∷ xs) label h zero (suc j) d l k =
+    let m = Among-map (λ (p : List ℕ × ℤ). (p.0, whole p.1)) (get_or xs j d) xs (member_at xs j d (omega arith)) in
+    rising x.0 (get_or xs j d).0 label (stands_before-among printed_order x.0 (terms_of whole xs) ((get_or xs j d).0, whole (get_or xs j d).1) h.0 m)
+terms_rise (x ∷ xs) label h (suc i) zero d l k = absurd (omega arith)
+terms_rise (x ∷ xs) label h (suc i) (suc j) d l k = terms_rise xs label h.1 i j d (omega arith) (omega arith)
+
+pub found : (xs : List (List ℕ × ℤ)) (label : List ℕ) (i : ℕ) (x : List ℕ × ℤ) → IsCanonicalList printed_order is_label (terms_of whole xs) → IsPartition label
+    → i < length xs → x ≡ get_or xs i x → printed_order x.0 label ≡ Equal → coefficient (numerators (terms_of whole xs)) label ≡ x.1
+found xs label i x c p l is e =
+    let there : Among x xs = subst (λ (y : List ℕ × ℤ). Among y xs) (sym is) (member_at xs i x l) in
+    let m = Among-map (λ (q : List ℕ × ℤ). (q.0, whole q.1)) x xs there in
+    let t : List ℕ × Fraction = (x.0, whole x.1) in
+    let q = label_in (terms_of whole xs) c t m in
+    subst (λ (ν : List ℕ). coefficient (numerators (terms_of whole xs)) ν ≡ x.1) (printed_order-equal x.0 label q.positive p.positive e)
+    (coefficient_of_term (terms_of whole xs) (ordered_in (terms_of whole xs) c) t m)
+
+pub not_found : (xs : List (List ℕ × ℤ)) (label : List ℕ) (i : ℕ) → IsCanonicalList printed_order is_label (terms_of whole xs) → IsBinarySearchResult (to_label label) xs (Err i)
+    → coefficient (numerators (terms_of whole xs)) label ≡ pos 0
+not_found xs label i c r =
+    no_label (terms_of whole xs) label (λ t m e. let s = Among_from_map (λ (q : List ℕ × ℤ). (q.0, whole q.1)) t xs m in nowhere s.0 s.1 (sym (ap (λ (u : List ℕ × Fraction). u.0) s.2) ∙ e))
+  where
+    parted : ((k : ℕ) (d : List ℕ × ℤ) → 0 ≤ k → k < i → to_label label (get_or xs k d) ≡ Less) × ((k : ℕ) (d : List ℕ × ℤ) → i ≤ k → k < length xs → to_label label (get_or xs k d) ≡ Greater)
+    parted = r (terms_rise xs label (ordered_in (terms_of whole xs) c))
+
+    at_place : (k : ℕ) (x : List ℕ × ℤ) → k < length xs → get_or xs k x ≡ x → x.0 ≡ label → (k < i) ⊎ (i ≤ k) → ⊥
+    at_place k x l g e (inl h) =
+        let less = parted.0 k x (omega arith) h in
+        let itself = tied_itself printed_order-total label in
+        let here : to_label label (get_or xs k x) ≡ printed_order label label = ap (to_label label) g ∙ ap (λ (ν : List ℕ). printed_order ν label) e in
+        cc
+    at_place k x l g e (inr h) =
+        let greater = parted.1 k x h l in
+        let itself = tied_itself printed_order-total label in
+        let here : to_label label (get_or xs k x) ≡ printed_order label label = ap (to_label label) g ∙ ap (λ (ν : List ℕ). printed_order ν label) e in
+        cc
+
+    nowhere : (x : List ℕ × ℤ) → Among x xs → x.0 ≡ label → ⊥
+    nowhere x m e = let k = member_index xs x m in at_place k.0 x k.1 (k.2 x) e (cases_lt k.0 i)

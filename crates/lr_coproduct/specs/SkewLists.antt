@@ -1,0 +1,18 @@
+-- Skew Schur polynomials of one shape by partitions inside it, as lists of terms (this project's own).
+use Rattle.std.specs.Prelude.{ℕ, false, List, None}
+use Rattle.sym_model.specs.Expansion.{Terms}
+use Rattle.sym_model.specs.Kind.{product}
+use Rattle.sym_model.specs.Answer.{answer}
+use Rattle.sym_model.specs.Command.{skew}
+use Rattle.sym_model.specs.Target.{Meets}
+use Rattle.sym_model.specs.LargeAnswer.{HasPastCoefficient}
+use Rattle.lr_coproduct.specs.InnerShapeList.{IsAt}
+
+-- the list is the skew Schur polynomial of a shape by a partition, which has no coefficient past the limit
+pub record IsSkewList (shape inner : List ℕ) (list : Terms (List ℕ)) : Type 0 where
+  pub meets : Meets (skew None false shape inner) (answer product list)
+  pub fits : HasPastCoefficient (skew None false shape inner) → ⊥
+
+-- each list is that of the partition at its index
+pub record HaveSkewLists (shape : List ℕ) (inners : List (List ℕ)) (lists : List (Terms (List ℕ))) : Type 0 where
+  pub at_index : (i : ℕ) (inner : List ℕ) (list : Terms (List ℕ)) → IsAt inners i inner → IsAt lists i list → IsSkewList shape inner list

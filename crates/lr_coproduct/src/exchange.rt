@@ -1,0 +1,83 @@
+//! The terms of a skew shape from those of others: the inner partition and a label may change places.
+ghost use Rattle.std.specs.Prelude.{◌≡◌, ℕ, ◌*◌, ◌<◌, ℤ, pos, List, ◌∷◌, [], ◌++◌, true, false, None, length, IfOk, OnOk};
+ghost use Rattle.coeff_rings.specs.Fractions.{whole};
+ghost use Rattle.sym_model.specs.LabelLimits.{is_label};
+ghost use Rattle.sym_model.specs.Partition.{size};
+ghost use Rattle.sym_model.specs.Polynomial.{coefficient};
+ghost use Rattle.sym_model.specs.PrintedOrder.{printed_order};
+ghost use Rattle.sym_model.specs.WholeTerms.{AreWhole, numerators};
+ghost use Rattle.sym_model.specs.Kind as kinds;
+ghost use Rattle.sym_model.specs.Answer.{answer};
+ghost use Rattle.sym_model.specs.Command as commands;
+ghost use Rattle.sym_model.specs.Target.{Meets};
+ghost use Rattle.sym_model.specs.LargeAnswer.{HasPastCoefficient};
+ghost use Rattle.sparse_polys.specs.Combination.{terms_of, IsCanonicalList};
+ghost use Rattle.lr_coproduct.specs.InnerShapeList.{ListsShapesInside, IsAt};
+ghost use Rattle.lr_coproduct.specs.SkewLists.{HaveSkewLists};
+
+use crate::inner_shapes::count_above;
+use crate::pairs::{are_whole, lies_in_limits};
+use calc_base::NoMemory;
+use coeff_rings::Int;
+use partitions::Partition;
+use sparse_polys::Terms;
+use std::alloc::Global;
+
+/// The skew Schur polynomial of a shape by a partition of less than half its size, from those by the partitions that stand
+/// before it: where one of these has the label `inner` with a coefficient, it is a label here with the same one.
+pub(crate) fn exchanged(
+    alloc: Global,
+    shape: &Partition,
+    inners: &[Partition],
+    lists: &[Terms<Partition, Int>],
+    inner: &Partition,
+) -> Result<Terms<Partition, Int>, NoMemory>
+    requires listed { ListsShapesInside shape.now inners.now }
+    requires here { IsAt inners.now (length lists.now) inner.now }
+    requires lists { HaveSkewLists shape.now inners.now lists.now }
+    requires small { 2 * size inner.now < size shape.now }
+    ensures meets { IfOk result (λ terms. Meets (commands.skew None false shape.now inner.now) (answer kinds.product terms)) }
+    ensures fits { OnOk result (HasPastCoefficient (commands.skew None false shape.now inner.now) → ⊥) }
+{
+    // The sizes of the two partitions add up to that of the shape.
+    let rest = shape.size() - inner.size();
+    let first = count_above(inners, rest);
+    let end = count_above(inners, rest - 1).min(lists.len());
+    let mut terms: Vec<(Partition, Int)> = Vec::new(alloc);
+    for at in first..end {
+        let second = &inners[at];
+        let c = coefficient_in(&lists[at], inner);
+        add_term(&mut terms, second, c)?;
+    }
+    Ok(Terms::from_pairs(terms).unwrap())
+}
+
+/// Adds a term at the end, unless its coefficient is 0.
+fn add_term(terms: &mut Vec<(Partition, Int)>, label: &Partition, c: Int) -> Result<(), NoMemory>
+    ensures none { OnOk result (c ≡ pos 0 → terms_of whole terms.new.items ≡ terms_of whole terms.old.items) }
+    ensures one { OnOk result ((c ≡ pos 0 → ⊥) → terms_of whole terms.new.items ≡ terms_of whole terms.old.items ++ (label.now, whole c) ∷ []) }
+    ensures label { is_label label.now ≡ true }
+{
+    lies_in_limits(label);
+    if c.get() == 0 {
+        return Ok(());
+    }
+    terms.push((label.copy()?, c))?;
+    Ok(())
+}
+
+/// The coefficient of a label, 0 where the list does not have it.
+fn coefficient_in(list: &Terms<Partition, Int>, label: &Partition) -> Int
+    ensures value { result ≡ coefficient (numerators list.now) label.now }
+    ensures canonical { IsCanonicalList printed_order is_label list.now }
+    ensures whole { AreWhole list.now }
+{
+    are_whole(list);
+    lies_in_limits(label);
+    let terms = list.iter();
+    let terms = terms.as_slice();
+    match terms.binary_search_by(|term| term.0.cmp_printed(label)) {
+        Ok(at) => terms[at].1,
+        Err(_) => Int::new(0),
+    }
+}
