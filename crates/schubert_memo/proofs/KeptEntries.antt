@@ -1,5 +1,5 @@
 -- What is kept stays kept, by what the store does with its entries.
-use Rattle.std.proofs.Common.{Bor, ◌≡◌, ◌≤◌, ◌⊎◌, ℕ, Bool, List, [], length, Option, Some, None, inl, inr, sym, subst, arith}
+use Rattle.std.proofs.Common.{Bor, ◌≡◌, ◌≤◌, ◌⊎◌, ℕ, Bool, List, length, Option, Some, None, inl, inr, sym, subst, arith}
 use Rattle.std.specs.Prelude.{Contains, nat_eq, IfSome, option_copied, Result, Ok, Err, IfOk, OnOk, OnErr}
 use Rattle.std.specs.Cmp.Lexicographic.{pointwise}
 use Rattle.std.specs.Map.{lookup}
@@ -20,9 +20,6 @@ use Rattle.schubert_memo.specs.Kept.{IsSchubertOf, AreKept}
 -- a test for the permutation
 abbrev is : List ℕ → List ℕ → Bool
 is w = pointwise nat_eq w
-
-pub none_kept : AreKept []
-none_kept = record { each = λ e h. let l = h.1 in absurd (omega arith) }
 
 pub promoted_kept : (w : List ℕ) (entries : List (List ℕ × Terms (List ℕ))) → AreKept entries → AreKept (promoted (is w) entries)
 promoted_kept w entries kept = record { each = λ e h. kept.each e (Contains-promoted (is w) entries e h) }

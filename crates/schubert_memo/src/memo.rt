@@ -8,7 +8,7 @@ ghost use Rattle.sym_model.specs.Kind.{polynomial};
 ghost use Rattle.sym_model.specs.LargeAnswer.{HasPastCoefficient};
 ghost use Rattle.sym_model.specs.Target.{Meets};
 ghost use Rattle.lru.specs.LruCache.{lru_cache};
-ghost use Rattle.schubert_memo.specs.Kept.{IsSchubertOf, AreKept};
+ghost use Rattle.schubert_memo.specs.Kept.{IsSchubertOf, IsSchubertStore};
 
 use calc_base::{NoMemory, SumFault};
 use coeff_rings::Int;
@@ -25,7 +25,7 @@ use std::num::NonZeroUsize;
 const MOST_TERMS: usize = 4096;
 
 /// A bounded store of Schubert polynomials, the least recently asked of which goes when another one comes. A contract sees
-/// the permutations with their polynomials, the most recently asked first, and how many there may be.
+/// the permutations with their polynomials, the most recently asked first, and how many there may be. Never are there more.
 #[derive(Drop)]
 pub struct Memo {
     cache: LruCache<Perm, Poly<Int>>,
@@ -36,13 +36,13 @@ impl Model for Memo {
     ghost use Rattle.std.specs.Prelude.{ℕ, List};
     ghost use Rattle.sym_model.specs.Expansion.{Terms as TermList};
     ghost use Rattle.lru.specs.LruCache.{LruCache as Entries};
-    ghost use Rattle.schubert_memo.specs.Kept.{AreKept};
+    ghost use Rattle.schubert_memo.specs.Kept.{IsSchubertStore};
 
     ghost Value = { Entries (List ℕ) (TermList (List ℕ)) };
 
     ghost view = { λ m. m.cache };
 
-    ghost invariant = { λ m. AreKept m.cache.entries };
+    ghost invariant = { λ m. IsSchubertStore m.cache };
 }
 
 impl Memo {
@@ -66,7 +66,7 @@ impl Memo {
         ensures is { IfOk result (IsSchubertOf w.now) }
         ensures large { IsErrOf result SumFault.Large → HasPastCoefficient (commands.schubert w.now) }
         ensures fits { OnOk result (HasPastCoefficient (commands.schubert w.now) → ⊥) }
-        ensures kept { AreKept self.new.entries }
+        ensures kept { IsSchubertStore self.new }
         ensures capacity { self.new.cap ≡ self.old.cap }
     {
         match self.copy_of(w) {
@@ -83,7 +83,7 @@ impl Memo {
     pub fn kept(&self, w: &Perm) -> Option<&Poly<Int>>
         ensures value { option_copied result ≡ lookup (pointwise nat_eq w.now) self.now.entries }
         ensures is { IfSome result (λ terms. IsSchubertOf w.now terms.now) }
-        ensures all { AreKept self.now.entries }
+        ensures all { IsSchubertStore self.now }
     {
         self.cache.peek(w)
     }
@@ -95,7 +95,7 @@ impl Memo {
         ensures meets { IfOk result (λ terms. Meets (commands.schubert w.now) (answer polynomial terms)) }
         ensures large { IsErrOf result SumFault.Large → HasPastCoefficient (commands.schubert w.now) }
         ensures fits { OnOk result (HasPastCoefficient (commands.schubert w.now) → ⊥) }
-        ensures kept { AreKept self.new.entries }
+        ensures kept { IsSchubertStore self.new }
         ensures capacity { self.new.cap ≡ self.old.cap }
     {
         let terms = self.schubert(w)?;
@@ -110,7 +110,7 @@ impl Memo {
     /// A copy of the polynomial that is kept for a permutation, where one is.
     fn copy_of(&self, w: &Perm) -> Result<Option<Poly<Int>>, NoMemory>
         ensures is { IfOk result (λ kept. IfSome kept (IsSchubertOf w.now)) }
-        ensures kept { AreKept self.now.entries }
+        ensures kept { IsSchubertStore self.now }
     {
         match self.kept(w) {
             Some(kept) => Ok(Some(copy(kept)?)),
@@ -120,10 +120,12 @@ impl Memo {
 
     /// Makes the permutation the most recently asked.
     fn promote(&mut self, w: &Perm)
-        ensures kept { AreKept self.new.entries }
+        ensures kept { IsSchubertStore self.new }
         ensures capacity { self.new.cap ≡ self.old.cap }
     {
         self.cache.promote(w);
+        // This tells the proof that no more are kept than may be.
+        self.cache.len();
     }
 
     /// The Schubert polynomial of a permutation, which is made, and kept where it has at most 4,096 terms.
@@ -131,7 +133,7 @@ impl Memo {
         ensures is { IfOk result (IsSchubertOf w.now) }
         ensures large { IsErrOf result SumFault.Large → HasPastCoefficient (commands.schubert w.now) }
         ensures fits { OnOk result (HasPastCoefficient (commands.schubert w.now) → ⊥) }
-        ensures kept { AreKept self.new.entries }
+        ensures kept { IsSchubertStore self.new }
         ensures capacity { self.new.cap ≡ self.old.cap }
     {
         match self.fresh(w) {
@@ -150,7 +152,7 @@ impl Memo {
         ensures is { IfOk result (IsSchubertOf w.now) }
         ensures large { IsErrOf result SumFault.Large → HasPastCoefficient (commands.schubert w.now) }
         ensures fits { OnOk result (HasPastCoefficient (commands.schubert w.now) → ⊥) }
-        ensures kept { AreKept self.now.entries }
+        ensures kept { IsSchubertStore self.now }
     {
         schubert(self.alloc, w)
     }
@@ -159,7 +161,7 @@ impl Memo {
     fn keep(&mut self, w: &Perm, terms: &Poly<Int>)
         requires is { IsSchubertOf w.now terms.now }
         requires few { length terms.now ≤ 4096 }
-        ensures kept { AreKept self.new.entries }
+        ensures kept { IsSchubertStore self.new }
         ensures capacity { self.new.cap ≡ self.old.cap }
     {
         if let Ok(perm) = w.copy() {
@@ -182,11 +184,13 @@ fn copy(terms: &Poly<Int>) -> Result<Poly<Int>, NoMemory>
 
 /// Puts a polynomial into the store, or finds no memory for that.
 fn put(cache: &mut LruCache<Perm, Poly<Int>>, w: Perm, terms: Poly<Int>)
-    requires held { AreKept cache.old.entries }
+    requires held { IsSchubertStore cache.old }
     requires is { IsSchubertOf w terms }
     requires few { length terms ≤ 4096 }
-    ensures kept { AreKept cache.new.entries }
+    ensures kept { IsSchubertStore cache.new }
     ensures capacity { cache.new.cap ≡ cache.old.cap }
 {
     let _ = cache.put(w, terms);
+    // This tells the proof that no more are kept than may be.
+    cache.len();
 }

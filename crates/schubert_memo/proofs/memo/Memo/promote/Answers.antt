@@ -6,11 +6,17 @@ use Rattle.schubert_memo.proofs.KeptEntries.{promoted_kept}
 use Rattle.schubert_memo.proofs.memo.Memo.promote.Goals as goal
 
 pub invariant_of-self : goal.invariant_of-self
-invariant_of-self c =
-    subst (λ (n : LruCache (List ℕ) (Terms (List ℕ))). AreKept n.entries) (sym c.promote.ensures.entries)
-    (promoted_kept c.args.w.now c.self.inside.cache.entries c.self.invariant)
+invariant_of-self c = record {
+  kept =
+      subst (λ (n : LruCache (List ℕ) (Terms (List ℕ))). AreKept n.entries) (sym c.promote.ensures.entries)
+      (promoted_kept c.args.w.now c.self.inside.cache.entries c.self.invariant.kept);
+  few = c.len.ensures.valid.1;
+}
 
 pub returns-clause-kept : goal.returns-clause-kept
-returns-clause-kept c =
-    subst (λ (n : LruCache (List ℕ) (Terms (List ℕ))). AreKept n.entries) (sym c.promote.ensures.entries)
-    (promoted_kept c.args.w.now c.self.inside.cache.entries c.self.invariant)
+returns-clause-kept c = record {
+  kept =
+      subst (λ (n : LruCache (List ℕ) (Terms (List ℕ))). AreKept n.entries) (sym c.promote.ensures.entries)
+      (promoted_kept c.args.w.now c.self.inside.cache.entries c.self.invariant.kept);
+  few = c.len.ensures.valid.1;
+}
