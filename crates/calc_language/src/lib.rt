@@ -20,5 +20,5 @@ mod words;
 pub use built::built_commands_law;
 pub use calc_expressions::{Basis, Expr, Formula, Weight, degree_limit};
 pub use lines::read_line;
-pub use pairs::Pair;
+pub use pairs::TableauPair;
 pub use words::{Command, read_words};

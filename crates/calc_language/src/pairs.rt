@@ -5,27 +5,27 @@ ghost use Rattle.sym_model.specs.Grammar.{unrsk_entry};
 ghost use Rattle.sym_model.specs.Schur.{letters_of};
 ghost use Rattle.sym_model.specs.Tableau.{IsStraightTableau, shape_of};
 ghost use Rattle.calc_words.specs.Reading.{IsRead as IsReadBy};
-ghost use Rattle.calc_words.specs.WrittenPairs.{IsWrittenPair};
+ghost use Rattle.tableau_words.specs.WrittenPairs.{IsWrittenPair};
 ghost use Rattle.calc_language.specs.Pairs.{IsPair};
 ghost use Rattle.calc_language.specs.Reading.{command_of};
 
 use crate::Command;
 use crate::tableaux::tableau_of;
 use calc_base::{NoMemory, WordsFault};
-use calc_words::{TwoFillings, read_unrsk};
 use partitions::Partition;
 use skew_shapes::{Standard, Tableau};
 use std::alloc::Global;
 use std::marker::Model;
+use tableau_words::{TwoFillings, read_unrsk};
 
 /// A straight tableau and a standard one of its shape, of at most 256 cells.
 #[derive(Debug, Drop)]
-pub struct Pair {
+pub struct TableauPair {
     first: Tableau,
     second: Standard,
 }
 
-impl Model for Pair {
+impl Model for TableauPair {
     ghost use Rattle.sym_model.specs.Tableau.{SkewFilling};
     ghost use Rattle.calc_language.specs.Pairs.{IsPair};
 
@@ -36,7 +36,7 @@ impl Model for Pair {
     ghost invariant = { λ s. IsPair s.first s.second };
 }
 
-impl Pair {
+impl TableauPair {
     /// The first tableau.
     pub fn first(&self) -> &Tableau
         ensures value { result.now ≡ self.now.0 }
@@ -70,7 +70,7 @@ pub(crate) fn unrsk(alloc: Global, words: &[String]) -> Result<Command, WordsFau
 }
 
 /// The pair of the tableaux with these rows.
-fn pair_of(alloc: Global, first: &[Vec<u16>], second: &[Vec<u16>]) -> Result<Pair, NoMemory>
+fn pair_of(alloc: Global, first: &[Vec<u16>], second: &[Vec<u16>]) -> Result<TableauPair, NoMemory>
     requires { IsWrittenPair (map (λ r. r.items) first.now) (map (λ r. r.items) second.now) }
     ensures first { IfOk result (λ c. c.0.rows ≡ map (λ r. r.items) first.now) }
     ensures second { IfOk result (λ c. c.1.rows ≡ map (λ r. r.items) second.now) }
@@ -79,7 +79,7 @@ fn pair_of(alloc: Global, first: &[Vec<u16>], second: &[Vec<u16>]) -> Result<Pai
     let Ok(q) = Standard::new(straight(alloc, second)?) else {
         unreachable!()
     };
-    Ok(Pair {
+    Ok(TableauPair {
         first: p,
         second: q,
     })

@@ -7,8 +7,8 @@ ghost use Rattle.calc_language.specs.Reading.{command_of};
 use crate::Command;
 use crate::tableaux::tableau_of;
 use calc_base::{NoMemory, WordsFault};
-use calc_words::{SkewRows, read_rect};
 use std::alloc::Global;
+use tableau_words::{SkewRows, read_rect};
 
 /// The words of `rect`.
 pub(crate) fn rect(alloc: Global, words: &[String]) -> Result<Command, WordsFault>

@@ -9,7 +9,7 @@ ghost use Rattle.calc_language.specs.Reading.{IsWithinItsLimits, IsRead, Accepts
 
 use crate::by_name::by_name;
 use crate::name::named;
-use crate::pairs::Pair;
+use crate::pairs::TableauPair;
 use crate::refusal::syntax;
 use crate::{Basis, Formula};
 use calc_base::{Word, WordsFault};
@@ -87,7 +87,7 @@ pub enum Command {
     },
     /// The word whose insertion makes the pair of tableaux.
     Unrsk {
-        pair: Pair,
+        pair: TableauPair,
     },
     /// The rectification of a skew tableau.
     Rect {

@@ -15,15 +15,4 @@ pub mod PlainBytes
 pub mod ForeignBytes
 pub mod LineWords
 pub mod WordJudging
-pub mod RowStanding
-pub mod CellJudging
-pub mod RowJudging
-pub mod EmptyRows
-pub mod WrittenTableaux
-pub mod PairJudging
-pub mod InsideJudging
-pub mod SkewJudging
-pub mod FaultlessRows
-pub mod SkewTableaux
-pub mod FaultlessPairs
 pub mod OptionWords

@@ -18,10 +18,9 @@ use Rattle.sym_model.specs.Grammar.{entries_of, two_partitions, option_words, mu
 use Rattle.word_laws.proofs.CommandFacts.{within_degree}
 use Rattle.word_laws.proofs.FirstOffences.{empty-none}
 use Rattle.calc_words.specs.WrittenLimits.{IsWritten, KeepsLimits, IsInList, IsRowLimit, AreWrittenFactors}
-use Rattle.calc_words.proofs.PairJudging.{none_judged}
 use Rattle.calc_words.proofs.WrittenLetters.{written_letters}
 use Rattle.calc_words.proofs.WordJudging.{written_word}
-use Rattle.calc_words.proofs.WrittenLists.{none_append, none_first, none_map, written, two_written, row_number, lines_number, seed_number}
+use Rattle.calc_words.proofs.WrittenLists.{none_append, none_first, none_map, none_judged, written, two_written, row_number, lines_number, seed_number}
 
 abbrev Words : Type 0
 Words = List (List ℕ)

@@ -4,7 +4,7 @@ use Rattle.std.proofs.lemmas.Bool.{le-leb, ltb-false, eqb-false}
 use Rattle.sym_model.specs.Partition.{Falls, size, in_front, without_last_zeros}
 use Rattle.sym_model.proofs.SortedParts.{IsPartition-without_last_zeros, size-without_last_zeros}
 use Rattle.sym_model.specs.ExpressionOffence.{OffenceKind, is_wide, rises, literal, range, shape}
-use Rattle.sym_model.specs.CommandOffence.{Offence, Rule, first_offence, part_offences, part_rule, rows_rule, lines_rule, seed_rule, offences_by, offences_after, left_of, when, is_outside, most_parts, most_cells, most_rows, most_lines, greatest_seed}
+use Rattle.sym_model.specs.CommandOffence.{Offence, Rule, first_offence, part_offences, part_rule, rows_rule, lines_rule, seed_rule, offences_by, offences_after, left_of, judged_against, when, is_outside, most_parts, most_cells, most_rows, most_lines, greatest_seed}
 use Rattle.sym_model.specs.Grammar.{two_partitions}
 use Rattle.sym_model.specs.WordForms.{numbers, partition}
 use Rattle.word_laws.proofs.FirstOffences.{empty-none}
@@ -23,6 +23,9 @@ none_append (x ∷ xs) ys h = cc
 pub none_map : {A B : Type 0} (f : A → B) (xs : List A) → map f xs ≡ [] → xs ≡ []
 none_map f [] h = refl
 none_map f (x ∷ xs) h = cc
+
+pub none_judged : (xs ys : List Offence) → first_offence xs ≡ None → judged_against xs ys ≡ ys
+none_judged xs ys h = ap (λ zs. judged_against zs ys) (empty-none xs h)
 
 pub not_when : (test : Bool) (kind : OffenceKind) → when test kind ≡ [] → test ≡ false
 not_when true kind h = cc

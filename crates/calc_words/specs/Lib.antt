@@ -11,13 +11,3 @@ pub mod LetterRules
 pub mod PermutationWords
 pub mod BatchWords
 pub mod LineBytes
-pub mod TableauWords
-pub mod WordRows
-pub mod FoundOffences
-pub mod ReadTableaux
-pub mod PairOffences
-pub mod SkewWords
-pub mod RefusedFirst
-pub mod AskedLengths
-pub mod SkewTotals
-pub mod WrittenPairs

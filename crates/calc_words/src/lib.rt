@@ -1,13 +1,9 @@
-//! The words of the commands on partitions and permutations, of batches and workloads, and how they are read.
+//! The words of the commands on partitions, permutations and words of letters, of batches and workloads, and how they are read.
 #![tactic(auto)]
 
 mod batches;
-mod cells;
 mod coef;
 mod coprod;
-mod earlier;
-mod found;
-mod inner_partition;
 mod joined;
 mod letters;
 mod limits;
@@ -15,16 +11,10 @@ mod line;
 mod numbers;
 mod offence;
 mod options;
-mod pairs;
 mod partition_list;
 mod permutation_list;
 mod permutations;
-mod row_numbers;
-mod row_offences;
-mod row_words;
 mod skew_command;
-mod skew_tableaux;
-mod skew_words;
 mod splitting;
 mod two_shapes;
 
@@ -38,11 +28,8 @@ pub use line::{are_passed_over, line_words, without_return};
 pub use numbers::{is_number, value_of};
 pub use offence::{Kind, offence as refused, syntax};
 pub use options::{Options, options_first, row_limit};
-pub use pairs::{TwoFillings, read_unrsk, rows_refusal};
 pub use partition_list::read_partition;
 pub use permutations::{TwoPermutations, read_schubert, read_schubmult};
-pub use row_words::{RowsFault, last_rows};
 pub use skew_command::{SkewShapes, read_skew};
-pub use skew_tableaux::{SkewRows, read_rect, rows_of_shape};
 pub use splitting::{RowsWord, behind, first_number, numbers as numbers_first};
 pub use two_shapes::{TwoShapes, read_two, rows_number};

@@ -22,14 +22,15 @@ use Rattle.calc_base.specs.declared.words.WordsFault.{WordsFault}
 use Rattle.calc_words.specs.declared.offence.Kind.TheVariants.{Shape as Misshapen}
 use Rattle.tab_words.specs.declared.tab.ShapesAndLast.{ShapesAndLast}
 use Rattle.calc_words.specs.Faults.{fault_of}
-use Rattle.calc_words.specs.FoundOffences.{at_most_entry}
+use Rattle.tableau_words.specs.FoundOffences.{at_most_entry}
 use Rattle.calc_words.specs.NumberRuns.{IsNumber}
 use Rattle.calc_words.specs.Reading.{IsJudged, IsRead}
 use Rattle.tab_words.specs.TabWords.{AreTabWords, AreShapesAndLast, from_text, tableaux_of, last_of, unlisted, from_offences, all_tab_offences}
 use Rattle.calc_words.proofs.Commands.{read_judged, may_be, singles, judged_err, judged_next}
 use Rattle.calc_words.proofs.FirstOffences.{AllBefore, first-append, within}
-use Rattle.calc_words.proofs.PairJudging.{entries_after, none_judged, map_twice}
-use Rattle.calc_words.proofs.WrittenTableaux.{written_words, written_may, written_rows, written_entries}
+use Rattle.calc_words.proofs.WrittenLists.{none_judged}
+use Rattle.tableau_words.proofs.PairJudging.{entries_after, map_twice}
+use Rattle.tableau_words.proofs.WrittenTableaux.{written_words, written_may, written_rows, written_entries}
 
 abbrev Words : Type 0
 Words = List (List ℕ)

@@ -7,9 +7,9 @@ use Rattle.sym_model.specs.WordForms.{optional, partition_words, tableau_words, 
 use Rattle.word_laws.specs.Reading.{is_expression}
 use Rattle.calc_words.specs.NumberRuns.{IsNumber, BeginsOtherwise}
 use Rattle.calc_words.specs.Standing.{GoesAs, WrongAt}
-use Rattle.calc_words.specs.WordRows.{IsWrongFor}
-use Rattle.calc_words.specs.declared.row_words.RowsFault.{RowsFault}
-use Rattle.calc_words.specs.declared.row_words.RowsFault.TheVariants.{Wrong, NoMemory}
+use Rattle.tableau_words.specs.WordRows.{IsWrongFor}
+use Rattle.tableau_words.specs.declared.row_words.RowsFault.{RowsFault}
+use Rattle.tableau_words.specs.declared.row_words.RowsFault.TheVariants.{Wrong, NoMemory}
 use Rattle.calc_words.proofs.Standing.{NoNumber, step, wrong_here, behind_list, no_number_before, not_same}
 
 abbrev Words : Type 0

@@ -3,10 +3,11 @@ ghost use Rattle.std.specs.Prelude.{◌≡◌, map, string_bytes, IfOk, IfErr, c
 ghost use Rattle.sym_model.specs.Form.{sequence};
 ghost use Rattle.sym_model.specs.WordForms.{the, optional, partition_words, from_words};
 ghost use Rattle.tab_words.specs.TabWords.{AreFrom, IsListAndFrom, AreTabWords};
-ghost use Rattle.calc_words.specs.WordRows.{IsWrongFor};
+ghost use Rattle.tableau_words.specs.WordRows.{IsWrongFor};
 
-use calc_words::{RowsFault, behind, last_rows, numbers_first as numbers};
+use calc_words::{behind, numbers_first as numbers};
 use std::alloc::Global;
+use tableau_words::{RowsFault, last_rows};
 
 /// The rows of a tableau behind `-from`; none where there is no word.
 fn rows_from(alloc: Global, words: &[String]) -> Result<Vec<&[String]>, RowsFault>

@@ -13,10 +13,11 @@ ghost use Rattle.tab_words.specs.TabWords.{AreShapesAndLast, last_of, from_offen
 
 use crate::parts::tab_parts;
 use calc_base::{NoMemory, Word, WordsFault};
-use calc_words::{Kind, behind, read_two, refused, rows_of_shape, rows_refusal, syntax};
+use calc_words::{Kind, behind, read_two, refused, syntax};
 use lattice_tableaux::lattice_reading;
 use partitions::Partition;
 use std::alloc::Global;
+use tableau_words::{rows_of_shape, rows_refusal};
 
 /// Two shapes, and the column reading of the tableau behind which a list goes on, where one is given.
 #[derive(Debug, Drop)]

@@ -3,7 +3,7 @@ use Rattle.std.specs.Prelude.{string_bytes, codes}
 use Rattle.sym_model.specs.Form.{sequence}
 use Rattle.sym_model.specs.WordForms.{optional, from_words, partition_words}
 use Rattle.calc_words.proofs.Standing.{separator_wrong}
-use Rattle.calc_words.proofs.RowStanding.{separator_faulty}
+use Rattle.tableau_words.proofs.RowStanding.{separator_faulty}
 use Rattle.tab_words.proofs.parts.tab_parts.Goals as goal
 
 pub returns-in-None-clause-wrong : goal.returns-in-None-clause-wrong

@@ -3,7 +3,7 @@ use Rattle.std.specs.Prelude.{string_bytes, MatchOption}
 use Rattle.sym_model.specs.CommandOffence.{rows_in, is_lattice_tableau}
 use Rattle.sym_model.specs.GoodTableau.{column_reading}
 use Rattle.sym_model.specs.WordForms.{numbers}
-use Rattle.calc_words.specs.FoundOffences.{at_most_entry}
+use Rattle.tableau_words.specs.FoundOffences.{at_most_entry}
 use Rattle.tab_words.specs.TabWords.{AreShapesAndLast, last_of}
 use Rattle.tab_words.proofs.TabJudging.{some_rows, unlisted_last, listed_last, read_listed, read_same}
 use Rattle.tab_words.proofs.tab.judge_last.Goals as goal

@@ -6,12 +6,12 @@ use Rattle.sym_model.specs.Grammar.{tab_words, tab_entry}
 use Rattle.sym_model.specs.WordForms.{the, optional, partition_words, from_words}
 use Rattle.calc_base.specs.declared.words.WordsFault.{WordsFault}
 use Rattle.tab_words.specs.declared.tab.ShapesAndLast.{ShapesAndLast}
-use Rattle.calc_words.specs.declared.row_words.RowsFault.{RowsFault}
-use Rattle.calc_words.specs.declared.row_words.RowsFault.TheVariants.{Wrong, NoMemory}
+use Rattle.tableau_words.specs.declared.row_words.RowsFault.{RowsFault}
+use Rattle.tableau_words.specs.declared.row_words.RowsFault.TheVariants.{Wrong, NoMemory}
 use Rattle.calc_words.specs.Reading.{IsRead}
 use Rattle.calc_words.specs.Standing.{WrongAt}
 use Rattle.tab_words.specs.TabWords.{AreTabWords, tableaux_of}
-use Rattle.calc_words.specs.WordRows.{IsWrongFor, refusal_of}
+use Rattle.tableau_words.specs.WordRows.{IsWrongFor, refusal_of}
 use Rattle.calc_words.proofs.Standing.{wrong_the, behind_the}
 use Rattle.calc_words.proofs.Commands.{syntax_read}
 use Rattle.tab_words.proofs.TabJudging.{tab_read_rows}

@@ -1,0 +1,11 @@
+pub mod RowStanding
+pub mod CellJudging
+pub mod RowJudging
+pub mod EmptyRows
+pub mod WrittenTableaux
+pub mod PairJudging
+pub mod InsideJudging
+pub mod SkewJudging
+pub mod FaultlessRows
+pub mod SkewTableaux
+pub mod FaultlessPairs

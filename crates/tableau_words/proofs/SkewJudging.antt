@@ -1,0 +1,263 @@
+-- The first offence of two shapes and a tableau.
+use Rattle.std.proofs.Common.{◌≡◌, ℕ, zero, suc, ◌+◌, ◌-◌, ◌<◌, ◌≤◌, ◌||◌, nat_lt, get_or, ◌⊎◌, inl, inr, List, [], ◌∷◌, ◌++◌, map, length, drop, refl, sym, ap, ◌∙◌, subst, arith, Option, Some, None, Result, Err}
+use Rattle.std.specs.Prelude.{codes}
+use Rattle.std.proofs.lemmas.List.{length-map, append-nil}
+use Rattle.sym_model.specs.Sum.{each, Among}
+use Rattle.sym_model.proofs.Sums.{Among_from_append}
+use Rattle.sym_model.specs.Partition.{part, in_front, without_last_zeros}
+use Rattle.sym_model.specs.PrintedBlock.{decimal_value}
+use Rattle.sym_model.specs.Schur.{row_lengths}
+use Rattle.sym_model.specs.ExpressionOffence.{shape, literal, range}
+use Rattle.sym_model.specs.Form.{EachOf, words_of}
+use Rattle.sym_model.specs.Command.{rect}
+use Rattle.sym_model.specs.CommandOffence.{Offence, PlacedRow, first_offence, offences_by, offences_after, part_offences, part_rule, inside_rule, judged_against, entry_rule, row_offences, order_offences, when, falls, stays, left_of, entry_above, rows_in}
+use Rattle.sym_model.specs.Grammar.{rect_entry, rect_offends, inner_offences}
+use Rattle.sym_model.specs.WordForms.{tableau_words, numbers, partition, placed_rows, shape_offences}
+use Rattle.word_laws.proofs.FirstOffences.{first-among, empty-none}
+use Rattle.written_tableau_laws.specs.WrittenRows.{rows_text, tableau_written, rows_at, left_at}
+use Rattle.written_tableau_laws.specs.JudgedRows.{earlier, skewed}
+use Rattle.written_tableau_laws.proofs.EarlierOffences.{first_of_both, tally_append, first_alike}
+use Rattle.written_tableau_laws.proofs.JudgedRows.{skewed_first}
+use Rattle.calc_base.specs.declared.words.WordsFault.{WordsFault}
+use Rattle.calc_base.specs.declared.words.WordsFault.TheVariants.{Syntax, Literal, Range, Shape, NoMemory}
+use Rattle.tableau_words.specs.AskedLengths.{asked_lengths}
+use Rattle.calc_words.specs.NumberRuns.{IsNumber}
+use Rattle.calc_words.specs.Reading.{IsJudged, IsRead}
+use Rattle.tableau_words.specs.SkewTotals.{offences_of_skew, all_skew_offences}
+use Rattle.tableau_words.specs.SkewWords.{AreSkewRows, AreSkewWords, skew_offences, rectified, rows_of}
+use Rattle.tableau_words.specs.declared.skew_tableaux.SkewRows.{SkewRows}
+use Rattle.calc_words.proofs.Commands.{read_judged, may_be, singles}
+use Rattle.calc_words.proofs.FirstOffences.{within}
+use Rattle.calc_words.proofs.WrittenLists.{none_append, none_judged}
+use Rattle.tableau_words.proofs.PairJudging.{After, entries_after, earlier_word, some_judged, left_shape_of, map_twice}
+use Rattle.tableau_words.proofs.WrittenTableaux.{written_words, written_may, written_rows, written_entries}
+
+abbrev Words : Type 0
+Words = List (List ℕ)
+
+-- ---- the rows
+
+pub asked_some : (outer inner : List ℕ) → 0 < length (asked_lengths outer inner)
+asked_some [] inner = omega arith
+asked_some (a ∷ outer) [] = omega arith
+asked_some (a ∷ outer) (b ∷ inner) = omega arith
+
+pub asked_shape : (k : ℕ) (outer inner : List ℕ) (words : Words) → shape_offences k (row_lengths outer inner) words ≡ shape_offences k (asked_lengths outer inner) words
+asked_shape k [] inner words = refl
+asked_shape k (a ∷ outer) inner words = refl
+
+pub rows_first_offence : (k : ℕ) (outer inner : List ℕ) (rows : List Words) → 0 < length rows → EachOf (EachOf IsNumber) rows
+    → first_offence (skew_offences k outer inner rows)
+    ≡ earlier (first_offence (skewed 0 [] inner (rows_at k rows))) (first_offence (left_at k (asked_lengths outer inner) rows))
+rows_first_offence k outer inner rows s e =
+    let fills = row_offences entry_rule (rows_at k rows) in
+    let orders = order_offences 0 [] inner (rows_at k rows) in
+    let lefts = left_at k (asked_lengths outer inner) rows in
+    ap (λ os. first_offence (fills ++ (os ++ orders))) (asked_shape k outer inner (rows_text rows) ∙ left_shape_of k (asked_lengths outer inner) rows (asked_some outer inner) s e)
+    ∙ first_alike (fills ++ (lefts ++ orders)) ((fills ++ orders) ++ lefts)
+    (λ f.
+    let a = tally_append f fills (lefts ++ orders) in
+    let b = tally_append f lefts orders in
+    let c = tally_append f (fills ++ orders) lefts in
+    let d = tally_append f fills orders in
+    omega (arith, a, b, c, d))
+    ∙ first_of_both (fills ++ orders) lefts
+    ∙ ap (λ x. earlier x (first_offence lefts)) (skewed_first inner (rows_at k rows))
+
+pub no_entry_skew : (k : ℕ) (outer inner : List ℕ) (rows : List Words) → first_offence (skew_offences k outer inner rows) ≡ None
+    → row_offences entry_rule (rows_at k rows) ≡ []
+no_entry_skew k outer inner rows h =
+    (none_append (row_offences entry_rule (rows_at k rows))
+    (shape_offences k (row_lengths outer inner) (rows_text rows) ++ order_offences 0 [] inner (rows_at k rows))
+    (empty-none (skew_offences k outer inner rows) h)).0
+
+-- ---- zeros at the end of a partition as it is written
+
+first_part : (a : ℕ) (xs : List ℕ) → part (in_front a xs) 1 ≡ a
+first_part zero [] = refl
+first_part zero (x ∷ xs) = refl
+first_part (suc a) xs = refl
+
+other_parts : (a : ℕ) (xs : List ℕ) → drop 1 (in_front a xs) ≡ xs
+other_parts zero [] = refl
+other_parts zero (x ∷ xs) = refl
+other_parts (suc a) xs = refl
+
+order_same : (c : ℕ) (upper xs : List ℕ) (rows : List PlacedRow) → order_offences c upper (without_last_zeros xs) rows ≡ order_offences c upper xs rows
+order_same c upper xs [] = refl
+order_same c upper [] (row ∷ rows) = refl
+order_same c upper (a ∷ xs) (row ∷ rows) =
+    let more = λ (p : ℕ) (ys : List ℕ).
+    offences_by (λ before b. when (falls (left_of before) b || stays (entry_above upper c (p + length before)) b) shape) row.0 row.1
+    ++ order_offences p row.1 ys rows in
+    ap (λ p. more p (drop 1 (in_front a (without_last_zeros xs)))) (first_part a (without_last_zeros xs))
+    ∙ ap (more a) (other_parts a (without_last_zeros xs))
+    ∙ ap (λ os. offences_by (λ before b. when (falls (left_of before) b || stays (entry_above upper c (a + length before)) b) shape) row.0 row.1 ++ os)
+    (order_same a row.1 xs rows)
+
+front_get : (a : ℕ) (xs : List ℕ) (j : ℕ) → get_or (in_front a xs) j 0 ≡ get_or (a ∷ xs) j 0
+front_get zero [] zero = refl
+front_get zero [] (suc j) = refl
+front_get zero (x ∷ xs) j = refl
+front_get (suc a) xs j = refl
+
+pub get_same : (xs : List ℕ) (j : ℕ) → get_or (without_last_zeros xs) j 0 ≡ get_or xs j 0
+get_same [] j = refl
+get_same (a ∷ xs) zero = front_get a (without_last_zeros xs) zero
+get_same (a ∷ xs) (suc j) = front_get a (without_last_zeros xs) (suc j) ∙ get_same xs j
+
+part_same : (xs : List ℕ) (j : ℕ) → part (without_last_zeros xs) (j + 1) ≡ part xs (j + 1)
+part_same xs j = get_same xs (j + 1 - 1)
+
+inside_same : (xs before : List ℕ) (k : ℕ) (ns : List ℕ) → offences_after (inside_rule (without_last_zeros xs)) before k ns ≡ offences_after (inside_rule xs) before k ns
+inside_same xs before k [] = refl
+inside_same xs before k (a ∷ ns) =
+    ap (λ p. map (λ kind. (k, 0, kind)) (when (nat_lt p a) shape) ++ offences_after (inside_rule (without_last_zeros xs)) (a ∷ before) (k + 1) ns) (part_same xs (length before))
+    ∙ ap (λ os. map (λ kind. (k, 0, kind)) (when (nat_lt (part xs (length before + 1)) a) shape) ++ os) (inside_same xs (a ∷ before) (k + 1) ns)
+
+-- ---- all of them
+
+pub judged_on : {A B : Type 0} (P : A → Type 0) (Q : B → Type 0) (x y : Option Offence) (fault : WordsFault) → ((o : Offence) → x ≡ Some o → y ≡ Some o)
+    → IsJudged P x (Err fault) → IsJudged Q y (Err fault)
+judged_on P Q x y (Syntax at) f h = h
+judged_on P Q x y (Literal at) f h = f (at.word, at.byte, literal) h
+judged_on P Q x y (Range at) f h = f (at.word, at.byte, range) h
+judged_on P Q x y (Shape at) f h = f (at.word, at.byte, shape) h
+judged_on P Q x y NoMemory f h = h
+
+some_before : (found fills later : List Offence) (o : Offence) → first_offence found ≡ Some o → ((q : Offence) → Among q fills → o.0 < q.0)
+    → first_offence (found ++ fills ++ judged_against found later) ≡ Some o
+some_before found fills later o h a =
+    ap (λ os. first_offence ((found ++ fills) ++ os)) (some_judged found later o h)
+    ∙ ap first_offence (append-nil (found ++ fills))
+    ∙ first_of_both found fills
+    ∙ ap (λ x. earlier x (first_offence fills)) h
+    ∙ earlier_word o (first_offence fills) (λ q e. a q (first-among fills q e))
+
+after_judged : (k : ℕ) (found ys : List Offence) → After k ys → After k (judged_against found ys)
+after_judged k [] ys a = a
+after_judged k (o ∷ found) ys a = λ p m. absurd m
+
+after_both : (k : ℕ) (xs ys : List Offence) → After k xs → After k ys → After k (xs ++ ys)
+after_both k xs ys a b p m = by (Among_from_append p xs ys m)
+  where
+    by : Among p xs ⊎ Among p ys → k ≤ p.0
+    by (inl h) = a p h
+    by (inr h) = b p h
+
+before_both : (k : ℕ) (xs ys : List Offence) (p : Offence) → (Among p xs → p.0 < k) → (Among p ys → p.0 < k) → Among p (xs ++ ys) → p.0 < k
+before_both k xs ys p a b m = by (Among_from_append p xs ys m)
+  where
+    by : Among p xs ⊎ Among p ys → p.0 < k
+    by (inl h) = a h
+    by (inr h) = b h
+
+-- the offences of the inner shape, where the outer one has none
+abbrev pub inner_alone : ℕ → List ℕ → Words → List Offence
+inner_alone k parts inner = part_offences k (numbers inner) ++ offences_by (inside_rule parts) k (numbers inner)
+
+inner_is : (k : ℕ) (parts : List ℕ) (outer inner : Words) → parts ≡ partition outer → first_offence (part_offences 1 (numbers outer)) ≡ None
+    → inner_alone k parts inner ≡ inner_offences k (part_offences 1 (numbers outer)) (numbers outer) (numbers inner)
+inner_is k parts outer inner e h =
+    ap (λ xs. inner_alone k xs inner) e
+    ∙ ap (λ os. part_offences k (numbers inner) ++ os) (inside_same (numbers outer) [] k (numbers inner))
+    ∙ ap (λ os. part_offences k (numbers inner) ++ os)
+    (sym (none_judged (part_offences 1 (numbers outer)) (offences_by (inside_rule (numbers outer)) k (numbers inner)) h))
+
+pub outer_first : (outer inner : Words) (rows : List Words) (o : Offence) → first_offence (part_offences 1 (numbers outer)) ≡ Some o
+    → first_offence (all_skew_offences outer inner rows) ≡ Some o
+outer_first outer inner rows o h =
+    let k = 3 + length outer + length inner in
+    let outers = part_offences 1 (numbers outer) in
+    let inners = inner_offences (2 + length outer) outers (numbers outer) (numbers inner) in
+    let l = length-map outer decimal_value in
+    let before = (within part_rule [] 1 (numbers outer) o (first-among outers o h)).1 in
+    let after : After (2 + length outer) inners =
+    after_both (2 + length outer) (part_offences (2 + length outer) (numbers inner)) (judged_against outers (offences_by (inside_rule (numbers outer)) (2 + length outer) (numbers inner)))
+    (λ p m. (within part_rule [] (2 + length outer) (numbers inner) p m).0)
+    (after_judged (2 + length outer) outers (offences_by (inside_rule (numbers outer)) (2 + length outer) (numbers inner))
+    (λ p m. (within (inside_rule (numbers outer)) [] (2 + length outer) (numbers inner) p m).0)) in
+    some_before (outers ++ inners) (row_offences entry_rule (rows_at k rows))
+    (shape_offences k (row_lengths (partition outer) (partition inner)) (rows_text rows) ++ order_offences 0 [] (numbers inner) (rows_at k rows)) o
+    (first_of_both outers inners ∙ ap (λ x. earlier x (first_offence inners)) h
+    ∙ earlier_word o (first_offence inners) (λ q e. let z = after q (first-among inners q e) in omega (arith, z, before, l)))
+    (λ q m. let z = entries_after k rows q m in omega (arith, z, before, l))
+
+pub inner_first : (outer inner : Words) (rows : List Words) (parts : List ℕ) (o : Offence) → parts ≡ partition outer → first_offence (part_offences 1 (numbers outer)) ≡ None
+    → first_offence (inner_alone (2 + length outer) parts inner) ≡ Some o → first_offence (all_skew_offences outer inner rows) ≡ Some o
+inner_first outer inner rows parts o e n h =
+    let k = 3 + length outer + length inner in
+    let m = 2 + length outer in
+    let outers = part_offences 1 (numbers outer) in
+    let inners = inner_offences m outers (numbers outer) (numbers inner) in
+    let l = length-map inner decimal_value in
+    let before = before_both (m + length (numbers inner)) (part_offences m (numbers inner)) (offences_by (inside_rule parts) m (numbers inner)) o
+    (λ a. (within part_rule [] m (numbers inner) o a).1) (λ a. (within (inside_rule parts) [] m (numbers inner) o a).1)
+    (first-among (inner_alone m parts inner) o h) in
+    some_before (outers ++ inners) (row_offences entry_rule (rows_at k rows))
+    (shape_offences k (row_lengths (partition outer) (partition inner)) (rows_text rows) ++ order_offences 0 [] (numbers inner) (rows_at k rows)) o
+    (first_of_both outers inners ∙ ap (λ x. earlier x (first_offence inners)) n ∙ ap first_offence (sym (inner_is m parts outer inner e n)) ∙ h)
+    (λ q a. let z = entries_after k rows q a in omega (arith, z, before, l))
+
+pub neither_first : (outer inner : Words) (rows : List Words) (parts : List ℕ) → parts ≡ partition outer → first_offence (part_offences 1 (numbers outer)) ≡ None
+    → first_offence (inner_alone (2 + length outer) parts inner) ≡ None
+    → first_offence (skew_offences (3 + length outer + length inner) (partition outer) (partition inner) rows) ≡ first_offence (all_skew_offences outer inner rows)
+neither_first outer inner rows parts e n h =
+    let k = 3 + length outer + length inner in
+    let m = 2 + length outer in
+    let outers = part_offences 1 (numbers outer) in
+    let inners = inner_offences m outers (numbers outer) (numbers inner) in
+    let fills = row_offences entry_rule (rows_at k rows) in
+    let shapes = shape_offences k (row_lengths (partition outer) (partition inner)) (rows_text rows) in
+    let later = shapes ++ order_offences 0 [] (numbers inner) (rows_at k rows) in
+    let none : first_offence (outers ++ inners) ≡ None =
+    first_of_both outers inners ∙ ap (λ x. earlier x (first_offence inners)) n ∙ ap first_offence (sym (inner_is m parts outer inner e n)) ∙ h in
+    ap (λ os. first_offence (fills ++ (shapes ++ os))) (order_same 0 [] (numbers inner) (rows_at k rows))
+    ∙ ap (λ os. first_offence (fills ++ os)) (sym (none_judged (outers ++ inners) later none))
+    ∙ ap (λ os. first_offence ((os ++ fills) ++ judged_against (outers ++ inners) later)) (sym (empty-none (outers ++ inners) none))
+
+-- ---- the words
+
+lists_spelled : (outer inner more : Words)
+    → ◌≡◌ {A = Words} (outer ++ codes "/" ∷ (inner ++ codes "-" ∷ more)) (each (λ t. t ∷ []) outer ++ (codes "/" ∷ (each (λ t. t ∷ []) inner ++ (codes "-" ∷ more))))
+lists_spelled outer inner more =
+    ap (λ ws. ws ++ codes "/" ∷ (inner ++ codes "-" ∷ more)) (sym (singles outer))
+    ∙ ap (λ ws. each (λ t. t ∷ []) outer ++ (codes "/" ∷ (ws ++ codes "-" ∷ more))) (sym (singles inner))
+
+pub skew_read : (words outer inner : Words) (rows : List Words) (r : Result SkewRows WordsFault)
+    → words ≡ codes "rect" ∷ (outer ++ codes "/" ∷ (inner ++ codes "-" ∷ rows_text rows)) → EachOf IsNumber outer → EachOf IsNumber inner
+    → 0 < length rows → EachOf (EachOf IsNumber) rows
+    → IsJudged (AreSkewRows (partition outer) (partition inner) (rows_in (partition outer) (map numbers rows))) (first_offence (all_skew_offences outer inner rows)) r
+    → IsRead (rect_entry ∷ []) rectified words r
+skew_read words outer inner [] r e o i s a j = absurd (omega (arith, s))
+skew_read words outer inner (row ∷ rows) r e o i s a j =
+    let x = tableau_written row rows in
+    let k = 3 + length outer + length inner in
+    let offends : rect_offends (tt, (outer, (tt, (inner, (tt, x))))) ≡ all_skew_offences outer inner (row ∷ rows) =
+    ap (λ p. offences_of_skew outer inner k p (placed_rows k x)) (written_words row rows)
+    ∙ ap (λ p. offences_of_skew outer inner k (rows_text (row ∷ rows)) p) (written_rows k row rows) in
+    read_judged rect_entry words
+    (record {
+      written = (tt, (outer, (tt, (inner, (tt, x)))));
+      allowed = (tt, (may_be outer o, (tt, (may_be inner i, (tt, written_may row rows a)))));
+      spelled =
+          e
+          ∙ ap (λ ws. codes "rect" ∷ (outer ++ codes "/" ∷ (inner ++ codes "-" ∷ ws))) (sym (written_words row rows))
+          ∙ ap (λ ws. codes "rect" ∷ ws) (lists_spelled outer inner (words_of tableau_words x));
+    })
+    rectified (AreSkewRows (partition outer) (partition inner) (rows_in (partition outer) (map numbers (row ∷ rows))))
+    (λ f q.
+    ap (λ p. rect p f.inner (rows_of f)) q.0
+    ∙ ap (λ p. rect (partition outer) p (rows_of f)) q.1
+    ∙ ap (rect (partition outer) (partition inner)) (q.2 ∙ ap (rows_in (partition outer)) (sym (written_entries row rows))))
+    r
+    (subst (λ os. IsJudged (AreSkewRows (partition outer) (partition inner) (rows_in (partition outer) (map numbers (row ∷ rows)))) (first_offence os) r) (sym offends) j)
+
+pub skew_read_rows : {A : Type 0} (f : A → Words) (words rest outer inner : Words) (xs : List A) (r : Result SkewRows WordsFault) → words ≡ codes "rect" ∷ rest
+    → AreSkewWords outer inner (map f xs) rest
+    → IsJudged (AreSkewRows (partition outer) (partition inner) (rows_in (partition outer) (map (λ r. numbers (f r)) xs))) (first_offence (all_skew_offences outer inner (map f xs))) r
+    → IsRead (rect_entry ∷ []) rectified words r
+skew_read_rows f words rest outer inner xs r e t j =
+    skew_read words outer inner (map f xs) r (e ∙ ap (λ ws. codes "rect" ∷ ws) t.words_are) t.outer_numbers t.inner_numbers t.rows_some t.rows_numbers
+    (subst (λ ns. IsJudged (AreSkewRows (partition outer) (partition inner) (rows_in (partition outer) ns)) (first_offence (all_skew_offences outer inner (map f xs))) r)
+    (sym (map_twice f numbers xs)) j)

@@ -1,0 +1,50 @@
+use Rattle.std.proofs.Common.{◌≡◌, ◌++◌, true, ℕ, List, map, sym, ap, ◌∙◌, subst}
+use Rattle.std.specs.Prelude.{string_bytes}
+use Rattle.sym_model.specs.CommandOffence.{first_offence, offences_by, inside_rule, part_offences}
+use Rattle.sym_model.specs.WordForms.{numbers, partition}
+use Rattle.written_tableau_laws.specs.JudgedRows.{earlier}
+use Rattle.written_tableau_laws.proofs.EarlierOffences.{first_of_both}
+use Rattle.tableau_words.specs.FoundOffences.{found_of}
+use Rattle.tableau_words.specs.RefusedFirst.{IsRefusalOf}
+use Rattle.tableau_words.proofs.InsideJudging.{refusal_judged, judged_refusal}
+use Rattle.sym_model.specs.Schur.{contains}
+use Rattle.tableau_words.proofs.SkewTableaux.{inside_contains}
+use Rattle.tableau_words.proofs.PairJudging.{found_judged}
+use Rattle.tableau_words.proofs.inner_partition.read_inner.Goals as goal
+
+pub returns-in-Err-clause-judged : goal.returns-in-Err-clause-judged
+returns-in-Err-clause-judged c =
+    let ns = numbers (map string_bytes c.args.words.now) in
+    let parts = part_offences c.args.at ns in
+    let inside = offences_by (inside_rule c.args.outer.now) c.args.at ns in
+    let p = λ (x : List ℕ). x ≡ partition (map string_bytes c.args.words.now) in
+    refusal_judged p (first_offence (parts ++ inside)) c.earlier_refusal.result
+    (subst (λ o. IsRefusalOf o c.earlier_refusal.result)
+    (ap (earlier (first_offence parts)) c.outside_offence-outside.ensures ∙ sym (first_of_both parts inside))
+    (c.earlier_refusal.ensures (first_offence parts) (judged_refusal p (first_offence parts) c.in-Err.fault c.in-Err.ensures)))
+
+pub returns-in-Some-clause-judged : goal.returns-in-Some-clause-judged
+returns-in-Some-clause-judged c =
+    let ns = numbers (map string_bytes c.args.words.now) in
+    let parts = part_offences c.args.at ns in
+    let inside = offences_by (inside_rule c.args.outer.now) c.args.at ns in
+    let p = λ (x : List ℕ). x ≡ partition (map string_bytes c.args.words.now) in
+    found_judged p (first_offence (parts ++ inside)) c.in-Some.found c.offence.result
+    (first_of_both parts inside ∙ ap (λ o. earlier o (first_offence inside)) c.in-Ok.ensures.1 ∙ sym c.outside_offence-outside.ensures ∙ ap found_of c.in-Some.is)
+    c.offence.ensures
+
+pub returns-in-None-clause-judged : goal.returns-in-None-clause-judged
+returns-in-None-clause-judged c =
+    let ns = numbers (map string_bytes c.args.words.now) in
+    let parts = part_offences c.args.at ns in
+    let inside = offences_by (inside_rule c.args.outer.now) c.args.at ns in
+    let p = λ (x : List ℕ). x ≡ partition (map string_bytes c.args.words.now) in (
+      c.in-Ok.ensures.0,
+      first_of_both parts inside ∙ ap (λ o. earlier o (first_offence inside)) c.in-Ok.ensures.1 ∙ sym c.outside_offence-outside.ensures ∙ ap found_of c.in-None.is,
+    )
+
+pub returns-in-None-clause-inside : goal.returns-in-None-clause-inside
+returns-in-None-clause-inside c =
+    let ns = numbers (map string_bytes c.args.words.now) in
+    subst (λ q. contains c.args.outer.now q ≡ true) (sym c.in-Ok.ensures.0)
+    (inside_contains c.args.outer.now c.args.at ns (sym c.outside_offence-outside.ensures ∙ ap found_of c.in-None.is))

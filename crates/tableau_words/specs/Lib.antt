@@ -1,0 +1,10 @@
+pub mod TableauWords
+pub mod WordRows
+pub mod FoundOffences
+pub mod ReadTableaux
+pub mod PairOffences
+pub mod SkewWords
+pub mod RefusedFirst
+pub mod AskedLengths
+pub mod SkewTotals
+pub mod WrittenPairs

@@ -1,0 +1,96 @@
+//! An inner partition as it is written, which is to lie inside an outer one.
+ghost use Rattle.std.specs.Prelude.{◌≡◌, ◌<◌, ◌+◌, ◌++◌, ◌^◌, nat_lt, true, IfOk, Option, Some, map, length, string_bytes};
+ghost use Rattle.sym_model.specs.CommandOffence.{Offence, first_offence, offences_by, inside_rule, part_offences};
+ghost use Rattle.sym_model.specs.Partition.{part};
+ghost use Rattle.sym_model.specs.Schur.{contains};
+ghost use Rattle.sym_model.specs.PrintedBlock.{decimal_value};
+ghost use Rattle.sym_model.specs.WordForms.{numbers as numbers_of, partition};
+ghost use Rattle.written_tableau_laws.specs.JudgedRows.{earlier as earlier_of_both};
+ghost use Rattle.tableau_words.specs.FoundOffences.{found_of, kind_of, offence_of};
+ghost use Rattle.calc_words.specs.Reading.{IsJudged};
+ghost use Rattle.tableau_words.specs.RefusedFirst.{IsRefusalOf};
+
+use crate::earlier::stands_first;
+use crate::found::Found;
+use crate::row_offences::part_at;
+use calc_base::{Place, WordsFault};
+use calc_words::{Kind, read_partition, refused as offence, value_of};
+use partitions::Partition;
+use std::alloc::Global;
+
+/// Whether the number is greater than the part at this place, counted from 0.
+fn exceeds(outer: &[u16], place: usize, word: &String) -> bool
+    ensures { result ≡ nat_lt (part outer.now (place + 1)) (decimal_value (string_bytes word.now)) }
+{
+    match value_of(word.as_bytes()) {
+        None => true,
+        Some(value) => value > part_at(outer, place) as u128,
+    }
+}
+
+/// The first number that is greater than the outer part of the same row.
+fn outside_offence(at: u64, outer: &[u16], words: &[String]) -> Option<Found>
+    requires { at + length words.now < 2 ^ 64 }
+    ensures { found_of result ≡ first_offence (offences_by (inside_rule outer.now) at (numbers_of (map string_bytes words.now))) }
+{
+    for place in 0..words.len() {
+        if exceeds(outer, place, &words[place]) {
+            return Some(Found {
+                word: at + place as u64,
+                kind: Kind::Shape,
+            });
+        }
+    }
+    None
+}
+
+/// The refusal of an offence or of the one that was found, which of them comes first.
+fn earlier_refusal(fault: WordsFault, found: Option<Found>) -> WordsFault
+    ensures { (first : Option Offence) → IsRefusalOf first fault → IsRefusalOf (earlier_of_both first (found_of found)) result }
+{
+    let Some(found) = found else {
+        return fault;
+    };
+    match fault {
+        WordsFault::Literal { at } => sooner(at, Kind::Literal, found),
+        WordsFault::Range { at } => sooner(at, Kind::Range, found),
+        WordsFault::Shape { at } => sooner(at, Kind::Shape, found),
+        other => other,
+    }
+}
+
+/// The refusal of an offence at the place, or of the one that was found where it comes first.
+fn sooner(at: Place, kind: Kind, found: Found) -> WordsFault
+    ensures { IsRefusalOf (earlier_of_both (Some (at.word, at.byte, kind_of kind)) (Some (offence_of found))) result }
+{
+    if !stands_first(at, kind, found) {
+        return offence(found.word, found.kind);
+    }
+    match kind {
+        Kind::Literal => WordsFault::Literal { at },
+        Kind::Range => WordsFault::Range { at },
+        Kind::Shape => WordsFault::Shape { at },
+    }
+}
+
+/// The inner partition of the numbers that are these words, the first of which is the word `at`, or their first offence.
+pub(crate) fn read_inner(
+    alloc: Global,
+    at: u64,
+    outer: &[u16],
+    words: &[String],
+) -> Result<Partition, WordsFault>
+    requires { at + length words.now < 2 ^ 64 }
+    ensures judged { IsJudged (λ p. p ≡ partition (map string_bytes words.now))
+        (first_offence (part_offences at (numbers_of (map string_bytes words.now)) ++ offences_by (inside_rule outer.now) at (numbers_of (map string_bytes words.now)))) result }
+    ensures inside { IfOk result (λ p. contains outer.now p ≡ true) }
+{
+    let outside = outside_offence(at, outer, words);
+    match read_partition(alloc, at, words) {
+        Err(fault) => Err(earlier_refusal(fault, outside)),
+        Ok(partition) => match outside {
+            Some(found) => Err(offence(found.word, found.kind)),
+            None => Ok(partition),
+        },
+    }
+}

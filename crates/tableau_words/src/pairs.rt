@@ -1,0 +1,144 @@
+//! The words of `unrsk`.
+ghost use Rattle.std.specs.Prelude.{◌≡◌, ◌<◌, ◌+◌, ◌++◌, ◌^◌, IfOk, ℕ, List, [], ◌∷◌, Some, cond, length, map, string_bytes};
+ghost use Rattle.sym_model.specs.Command.{Command};
+ghost use Rattle.sym_model.specs.CommandOffence.{Offence, first_offence, standard_offences, rows_in};
+ghost use Rattle.sym_model.specs.Entry.{HasFirstOffence, SpellsWithoutOffence};
+ghost use Rattle.sym_model.specs.Form.{EachOf};
+ghost use Rattle.sym_model.specs.Grammar.{unrsk_entry, filled_offences};
+ghost use Rattle.sym_model.specs.Partition.{size};
+ghost use Rattle.sym_model.specs.SyntaxPlace.{IsSyntaxPlace};
+ghost use Rattle.sym_model.specs.WordForms.{numbers as numbers_of};
+ghost use Rattle.written_tableau_laws.specs.WrittenRows.{further_text, rows_text, rows_at, left_at};
+ghost use Rattle.tableau_words.specs.FoundOffences.{found_of, at_most_entry};
+ghost use Rattle.calc_words.specs.NumberRuns.{IsNumber};
+ghost use Rattle.tableau_words.specs.ReadTableaux.{AreFillings, word_of_pair, first_rows_of, second_rows_of};
+ghost use Rattle.tableau_words.specs.WrittenPairs.{IsWrittenPair};
+ghost use Rattle.calc_words.specs.Reading.{IsRead, IsJudged, Accepts, Refuses, GoesWrong};
+ghost use Rattle.tableau_words.specs.WordRows.{refusal_of};
+ghost use Rattle.tableau_words.specs.PairOffences.{pair_offences};
+
+use crate::earlier::earlier;
+use crate::found::Found;
+use crate::row_numbers::rows_numbers;
+use crate::row_offences::{
+    insertion_offence, left_shape, recorded_number, row_lengths, text_length, total,
+};
+use crate::row_words::{RowsFault, two_tableaux};
+use calc_base::{NoMemory, WordsFault};
+use calc_words::{behind, refused as offence, syntax};
+use std::alloc::Global;
+
+/// The rows of two tableaux.
+#[derive(Debug, Drop)]
+pub struct TwoFillings {
+    pub first: Vec<Vec<u16>>,
+    pub second: Vec<Vec<u16>>,
+}
+
+/// The first offence of a tableau that begins at the word and is to record the insertions into a shape with rows of these lengths.
+fn recording_offence(at: u64, lengths: &[usize], rows: &[&[String]]) -> Option<Found>
+    requires some { 0 < length lengths.now }
+    requires few { size lengths.now < 2 ^ 64 }
+    requires room { at + length (further_text (map (λ r. map string_bytes r.now) rows.now)) < 2 ^ 64 }
+    ensures { found_of result ≡ first_offence (filled_offences (rows_at at (map (λ r. map string_bytes r.now) rows.now))
+        ++ (left_at at lengths.now (map (λ r. map string_bytes r.now) rows.now)
+        ++ standard_offences (size lengths.now) [] [] (rows_at at (map (λ r. map string_bytes r.now) rows.now)))) }
+{
+    earlier(
+        recorded_number(at, rows, total(lengths)),
+        left_shape(at, lengths, rows),
+    )
+}
+
+/// The rows, where one row without numbers is no row.
+pub(crate) fn rows_of_tableau(alloc: Global, rows: &[&[String]]) -> Result<Vec<Vec<u16>>, NoMemory>
+    ensures { IfOk result (λ v. map (λ r. r.items) v.items ≡ rows_in [] (map (λ r. map at_most_entry (numbers_of (map string_bytes r.now))) rows.now)) }
+{
+    if let [row] = rows {
+        if row.is_empty() {
+            return Ok(Vec::new(alloc));
+        }
+    }
+    rows_numbers(alloc, rows)
+}
+
+/// The rows of two tableaux of which the first begins at the second word, or the first offence.
+fn judge_pair(
+    alloc: Global,
+    first: &[&[String]],
+    second: &[&[String]],
+) -> Result<TwoFillings, WordsFault>
+    requires first { (0 < length first.now) × EachOf (EachOf IsNumber) (map (λ r. map string_bytes r.now) first.now) }
+    requires second { (0 < length second.now) × EachOf (EachOf IsNumber) (map (λ r. map string_bytes r.now) second.now) }
+    requires room { 2 + length (further_text (map (λ r. map string_bytes r.now) first.now)) + length (further_text (map (λ r. map string_bytes r.now) second.now)) < 2 ^ 64 }
+    ensures judged { IsJudged (AreFillings (rows_in [] (map (λ r. numbers_of (map string_bytes r.now)) first.now)) (rows_in [] (map (λ r. numbers_of (map string_bytes r.now)) second.now)))
+        (first_offence (pair_offences (map (λ r. map string_bytes r.now) first.now) (map (λ r. map string_bytes r.now) second.now))) result }
+    ensures pair { IfOk result (λ s. IsWrittenPair (first_rows_of s) (second_rows_of s)) }
+{
+    if let Some(found) = insertion_offence(1, first) {
+        return Err(offence(found.word, found.kind));
+    }
+    let Ok(lengths) = row_lengths(alloc, first) else {
+        return Err(WordsFault::NoMemory);
+    };
+    let at = 1 + text_length(first);
+    if let Some(found) = recording_offence(at, lengths.as_slice(), second) {
+        return Err(offence(found.word, found.kind));
+    }
+    let Ok(insertion) = rows_of_tableau(alloc, first) else {
+        return Err(WordsFault::NoMemory);
+    };
+    let Ok(recording) = rows_of_tableau(alloc, second) else {
+        return Err(WordsFault::NoMemory);
+    };
+    Ok(TwoFillings {
+        first: insertion,
+        second: recording,
+    })
+}
+
+/// Reads the words of `unrsk`: that word and two tableaux with `-` between them, whose rows are the answer; the rows stand
+/// between words `/`, and `.` is a row without numbers.
+///
+/// Words that are no such command are refused as `Syntax`, at the word where they go wrong. Otherwise the first offence is
+/// refused: a number past 2^127 - 1 as `Literal`; an entry that is 0 or past 65,535, and the 257th of a tableau, as `Range`;
+/// as `Shape` in the first tableau a number that makes its row longer than the row above, a `.` that is not the whole tableau,
+/// a number smaller than its left neighbour or not greater than the entry above it, and in the second one the word at which it
+/// leaves the shape of the first, a number past the number of cells, not greater than its left neighbour or the entry above
+/// it, or that stands earlier in it.
+pub fn read_unrsk(alloc: Global, words: &[String]) -> Result<TwoFillings, WordsFault>
+    ensures read { IsRead (unrsk_entry ∷ []) word_of_pair (map string_bytes words.now) result }
+    ensures accepts { (command : Command) → SpellsWithoutOffence (unrsk_entry ∷ []) (map string_bytes words.now) command
+        → Accepts word_of_pair command result }
+    ensures refuses { (offence : Offence) → HasFirstOffence (unrsk_entry ∷ []) (map string_bytes words.now) (Some offence)
+        → Refuses offence result }
+    ensures goes_wrong { (word byte : ℕ) → IsSyntaxPlace (unrsk_entry ∷ []) (map string_bytes words.now) word byte
+        → GoesWrong word byte result }
+    ensures pair { IfOk result (λ s. IsWrittenPair (first_rows_of s) (second_rows_of s)) }
+{
+    unrsk_words(alloc, words)
+}
+
+/// The words as they are read: what follows for each command and offence, the public call says.
+fn unrsk_words(alloc: Global, words: &[String]) -> Result<TwoFillings, WordsFault>
+    ensures read { IsRead (unrsk_entry ∷ []) word_of_pair (map string_bytes words.now) result }
+    ensures pair { IfOk result (λ s. IsWrittenPair (first_rows_of s) (second_rows_of s)) }
+{
+    let Some(rest) = behind(words, "unrsk") else {
+        return Err(syntax(0));
+    };
+    match two_tableaux(alloc, rest) {
+        Ok((first, second)) => judge_pair(alloc, first.as_slice(), second.as_slice()),
+        Err(fault) => Err(rows_refusal(words.len(), fault)),
+    }
+}
+
+/// The refusal of so many words whose rows were not cut out.
+pub fn rows_refusal(words: usize, fault: RowsFault) -> WordsFault
+    ensures { result ≡ refusal_of words fault }
+{
+    match fault {
+        RowsFault::Wrong { left } => syntax(words.saturating_sub(left) as u64),
+        RowsFault::NoMemory => WordsFault::NoMemory,
+    }
+}

@@ -1,0 +1,160 @@
+//! The words of `rect`.
+ghost use Rattle.std.specs.Prelude.{◌≡◌, ◌<◌, ◌+◌, ◌^◌, IfOk, true, ℕ, List, [], ◌∷◌, Some, length, map, string_bytes};
+ghost use Rattle.sym_model.specs.Schur.{contains};
+ghost use Rattle.sym_model.specs.Tableau.{IsTableau};
+ghost use Rattle.sym_model.specs.Command.{Command};
+ghost use Rattle.sym_model.specs.CommandOffence.{Offence, first_offence, rows_in};
+ghost use Rattle.sym_model.specs.Entry.{HasFirstOffence, SpellsWithoutOffence};
+ghost use Rattle.sym_model.specs.Form.{EachOf};
+ghost use Rattle.sym_model.specs.Grammar.{rect_entry};
+ghost use Rattle.sym_model.specs.SyntaxPlace.{IsSyntaxPlace};
+ghost use Rattle.sym_model.specs.WordForms.{numbers as numbers_of, partition};
+ghost use Rattle.written_tableau_laws.specs.WrittenRows.{further_text};
+ghost use Rattle.tableau_words.specs.AskedLengths.{asked_lengths};
+ghost use Rattle.tableau_words.specs.FoundOffences.{at_most_entry};
+ghost use Rattle.calc_words.specs.NumberRuns.{IsNumber};
+ghost use Rattle.calc_words.specs.Reading.{IsRead, IsJudged, Accepts, Refuses, GoesWrong};
+ghost use Rattle.tableau_words.specs.SkewTotals.{all_skew_offences};
+ghost use Rattle.tableau_words.specs.SkewWords.{AreSkewRows, skew_offences, rectified, rows_of};
+
+use crate::earlier::earlier;
+use crate::inner_partition::read_inner;
+use crate::pairs::{rows_of_tableau, rows_refusal};
+use crate::row_numbers::rows_numbers;
+use crate::row_offences::{left_shape, part_at, skewed_number};
+use crate::skew_words::skew_parts;
+use calc_base::{NoMemory, WordsFault};
+use calc_words::{behind, read_partition, refused as offence, syntax};
+use partitions::Partition;
+use std::alloc::Global;
+
+/// Two shapes, and the rows of a filling of the first over the second.
+#[derive(Debug, Drop)]
+pub struct SkewRows {
+    pub outer: Partition,
+    pub inner: Partition,
+    pub rows: Vec<Vec<u16>>,
+}
+
+/// How many numbers are asked for in each row of a shape over another; one row without numbers where there is none.
+fn skew_lengths(alloc: Global, outer: &[u16], inner: &[u16]) -> Result<Vec<usize>, NoMemory>
+    ensures { IfOk result (λ v. v.items ≡ asked_lengths outer.now inner.now) }
+{
+    let mut lengths = Vec::new(alloc);
+    for row in 0..outer.len() {
+        lengths.push(usize::from(outer[row]).saturating_sub(part_at(inner, row)))?;
+    }
+    if outer.is_empty() {
+        lengths.push(0)?;
+    }
+    Ok(lengths)
+}
+
+/// The rows of a tableau of a shape: one row without numbers is no row of the empty shape.
+pub fn rows_of_shape(
+    alloc: Global,
+    outer: &[u16],
+    rows: &[&[String]],
+) -> Result<Vec<Vec<u16>>, NoMemory>
+    ensures { IfOk result (λ v. map (λ r. r.items) v.items ≡ rows_in outer.now (map (λ r. map at_most_entry (numbers_of (map string_bytes r.now))) rows.now)) }
+{
+    if outer.is_empty() {
+        rows_of_tableau(alloc, rows)
+    } else {
+        rows_numbers(alloc, rows)
+    }
+}
+
+/// The rows of a tableau of outer over inner of which the first begins at the word, or the first offence.
+fn judge_rows(
+    alloc: Global,
+    at: u64,
+    outer: Partition,
+    inner: Partition,
+    rows: &[&[String]],
+) -> Result<SkewRows, WordsFault>
+    requires holds { contains outer inner ≡ true }
+    requires some { (0 < length rows.now) × EachOf (EachOf IsNumber) (map (λ r. map string_bytes r.now) rows.now) }
+    requires room { at + length (further_text (map (λ r. map string_bytes r.now) rows.now)) < 2 ^ 64 }
+    ensures judged { IsJudged (AreSkewRows outer inner (rows_in outer (map (λ r. numbers_of (map string_bytes r.now)) rows.now)))
+        (first_offence (skew_offences at outer inner (map (λ r. map string_bytes r.now) rows.now))) result }
+    ensures tableau { IfOk result (λ s. IsTableau s.outer s.inner (rows_of s)) }
+{
+    let Ok(lengths) = skew_lengths(alloc, outer.parts(), inner.parts()) else {
+        return Err(WordsFault::NoMemory);
+    };
+    let found = earlier(
+        skewed_number(at, rows, inner.parts()),
+        left_shape(at, lengths.as_slice(), rows),
+    );
+    if let Some(found) = found {
+        return Err(offence(found.word, found.kind));
+    }
+    let Ok(filled) = rows_of_shape(alloc, outer.parts(), rows) else {
+        return Err(WordsFault::NoMemory);
+    };
+    Ok(SkewRows {
+        outer,
+        inner,
+        rows: filled,
+    })
+}
+
+/// The two shapes and the rows of a tableau, the first of which begins at the second word, or the first offence.
+fn judge_skew(
+    alloc: Global,
+    outer: &[String],
+    inner: &[String],
+    rows: &[&[String]],
+) -> Result<SkewRows, WordsFault>
+    requires some { (0 < length rows.now) × EachOf (EachOf IsNumber) (map (λ r. map string_bytes r.now) rows.now) }
+    requires room { 3 + length outer.now + length inner.now + length (further_text (map (λ r. map string_bytes r.now) rows.now)) < 2 ^ 64 }
+    ensures judged { IsJudged (AreSkewRows (partition (map string_bytes outer.now)) (partition (map string_bytes inner.now))
+        (rows_in (partition (map string_bytes outer.now)) (map (λ r. numbers_of (map string_bytes r.now)) rows.now)))
+        (first_offence (all_skew_offences (map string_bytes outer.now) (map string_bytes inner.now) (map (λ r. map string_bytes r.now) rows.now))) result }
+    ensures tableau { IfOk result (λ s. IsTableau s.outer s.inner (rows_of s)) }
+{
+    let behind_outer = 2 + outer.len() as u64;
+    let behind_inner = 3 + outer.len() as u64 + inner.len() as u64;
+    match read_partition(alloc, 1, outer) {
+        Err(fault) => Err(fault),
+        Ok(outer_shape) => match read_inner(alloc, behind_outer, outer_shape.parts(), inner) {
+            Err(fault) => Err(fault),
+            Ok(inner_shape) => judge_rows(alloc, behind_inner, outer_shape, inner_shape, rows),
+        },
+    }
+}
+
+/// Reads the words of `rect`: that word, an outer and an inner partition with `/` between them, and, behind `-`, a tableau of
+/// the first over the second, whose rows stand between words `/`; `.` is a row without numbers.
+///
+/// Words that are no such command are refused as `Syntax`, at the word where they go wrong. Otherwise the first offence is
+/// refused: those of the partitions as `read_skew` says, and as `Shape` an inner number greater than the outer part of its
+/// row; an entry past 2^127 - 1 as `Literal`, one that is 0 or past 65,535 as `Range`; as `Shape` the word at which the tableau
+/// leaves the shape, an entry smaller than its left neighbour, and one not greater than the entry above it.
+pub fn read_rect(alloc: Global, words: &[String]) -> Result<SkewRows, WordsFault>
+    ensures read { IsRead (rect_entry ∷ []) rectified (map string_bytes words.now) result }
+    ensures accepts { (command : Command) → SpellsWithoutOffence (rect_entry ∷ []) (map string_bytes words.now) command
+        → Accepts rectified command result }
+    ensures refuses { (offence : Offence) → HasFirstOffence (rect_entry ∷ []) (map string_bytes words.now) (Some offence)
+        → Refuses offence result }
+    ensures goes_wrong { (word byte : ℕ) → IsSyntaxPlace (rect_entry ∷ []) (map string_bytes words.now) word byte
+        → GoesWrong word byte result }
+    ensures tableau { IfOk result (λ s. IsTableau s.outer s.inner (rows_of s)) }
+{
+    rect_words(alloc, words)
+}
+
+/// The words as they are read: what follows for each command and offence, the public call says.
+fn rect_words(alloc: Global, words: &[String]) -> Result<SkewRows, WordsFault>
+    ensures read { IsRead (rect_entry ∷ []) rectified (map string_bytes words.now) result }
+    ensures tableau { IfOk result (λ s. IsTableau s.outer s.inner (rows_of s)) }
+{
+    let Some(rest) = behind(words, "rect") else {
+        return Err(syntax(0));
+    };
+    match skew_parts(alloc, rest) {
+        Ok((outer, inner, rows)) => judge_skew(alloc, outer, inner, rows.as_slice()),
+        Err(fault) => Err(rows_refusal(words.len(), fault)),
+    }
+}
