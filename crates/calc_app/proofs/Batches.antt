@@ -26,17 +26,18 @@ use Rattle.sym_model.specs.CommandOffence.{Offence}
 use Rattle.sym_model.specs.Ending.{Ending, done, some_refused, syntax, range, past}
 use Rattle.sym_model.specs.Outcome.{ending_of}
 use Rattle.sym_model.specs.RefusalText.{offence_line}
-use Rattle.calc_app.specs.declared.batch.Progress.{Progress}
+use Rattle.batch_ends.specs.declared.progress.Progress.{Progress}
 use Rattle.calc_app.specs.declared.batch.Turn.{Turn}
 use Rattle.calc_app.specs.declared.batch.Turn.TheVariants as turn
-use Rattle.calc_app.specs.declared.outcome.Outcome.{Outcome}
-use Rattle.calc_app.specs.declared.outcome.Outcome.TheVariants.{Answered, Refused, Large, Told}
-use Rattle.calc_app.specs.Batch.{RefusesLong, ComesOfLine, IsTurn, TakesTurn, separator, is_done_status, progress_after, end_status, Finishes, EndsBatch}
-use Rattle.calc_app.specs.Computed.{IsReplyTo, text_of, HasText, HasBlock, status_for}
+use Rattle.calc_replies.specs.declared.outcome.Outcome.{Outcome}
+use Rattle.calc_replies.specs.declared.outcome.Outcome.TheVariants.{Answered, Refused, Large, Told}
+use Rattle.batch_ends.specs.Ends.{separator, is_done_status, progress_after, end_status, Finishes}
+use Rattle.calc_app.specs.Batch.{RefusesLong, ComesOfLine, IsTurn, TakesTurn, EndsBatch}
+use Rattle.calc_replies.specs.Computed.{IsReplyTo, text_of, HasText, HasBlock, status_for}
 use Rattle.calc_app.specs.Top.{status_of, IsThrough, Leaves}
 use Rattle.calc_app.proofs.LinesRead.{IsEnded, ReadsTold, EndsLine, begin_read, begin_spelled, spelled_more, read_more, read_whole, Front, read_front, read_part}
 use Rattle.calc_app.proofs.Outcomes.{has_outcome, leaves_ending}
-use Rattle.calc_app.proofs.Replies.{computes_reply}
+use Rattle.calc_replies.proofs.Replies.{computes_reply}
 
 -- ---- what comes of one line
 

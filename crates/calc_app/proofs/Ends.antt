@@ -15,10 +15,10 @@ use Rattle.sym_model.specs.CommandOffence.{Offence}
 use Rattle.sym_model.specs.Ending.{Ending, done, some_refused, syntax, range, past}
 use Rattle.sym_model.specs.Outcome.{IsLineOutcome, ending_of}
 use Rattle.sym_model.specs.RefusalText.{refusal_line, offence_line}
-use Rattle.calc_app.specs.declared.outcome.Outcome.{Outcome}
-use Rattle.calc_app.specs.declared.outcome.Outcome.TheVariants.{Answered, Refused, Large, Told}
-use Rattle.calc_app.specs.Computed.{Computes, Accepts, Refuses, GoesWrong, PutsOutcome, status_for, text_of}
-use Rattle.calc_app.specs.Top.{IsOutcome, IsInput, RunsLines, Leaves, SaysLine, SayLines, PrintsLines, IsThrough, IsAccepted, IsRefused}
+use Rattle.calc_replies.specs.declared.outcome.Outcome.{Outcome}
+use Rattle.calc_replies.specs.declared.outcome.Outcome.TheVariants.{Answered, Refused, Large, Told}
+use Rattle.calc_replies.specs.Computed.{Computes, Accepts, Refuses, GoesWrong, status_for, text_of}
+use Rattle.calc_app.specs.Top.{IsOutcome, IsInput, RunsLines, Leaves, PutsOutcome, SaysLine, SayLines, PrintsLines, IsThrough, IsAccepted, IsRefused}
 use Rattle.calc_app.proofs.Outcomes.{leaves_whole, leaves_prefix, answers_say, not_done, accepted, refuses_offence, refuses_place, was_cut_off}
 
 -- ---- an outcome was put

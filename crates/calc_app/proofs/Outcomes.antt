@@ -14,8 +14,8 @@ use Rattle.expansion_printer.specs.Refusal.{refusal_text}
 use Rattle.one_line_laws.proofs.PrintedForms.{read_in-text}
 use Rattle.sym_model.specs.Answer.{Answer as PlainAnswer, answer as listed, IsPrintable}
 use Rattle.sym_model.specs.PrintedForm.{PrintedForm, printed_form, answer_text_in}
-use Rattle.calc_app.specs.declared.form.Form.{Form}
-use Rattle.calc_app.specs.Forms.{plain_form}
+use Rattle.calc_replies.specs.declared.form.Form.{Form}
+use Rattle.calc_replies.specs.Forms.{plain_form}
 use Rattle.sym_model.specs.Command.{Command, mult, skew, coef, coprod, tab, quantum, fusion, schubert, schubmult, expand, rsk, unrsk, rect, batch, work}
 use Rattle.sym_model.specs.CommandOffence.{Offence}
 use Rattle.sym_model.specs.Ending.{Ending, done, some_refused, syntax, range, past}
@@ -27,9 +27,9 @@ use Rattle.sym_model.specs.Entry.{Entry}
 use Rattle.sym_model.specs.Outcome.{Answers, Expands, PrintsAnswer, IsLineOutcome, MustBeLarge, MayBeLarge, ending_of}
 use Rattle.sym_model.specs.RefusalText.{refusal_line, offence_line, large_line}
 use Rattle.sym_model.specs.Target.{Meets}
-use Rattle.calc_app.specs.declared.outcome.Outcome.{Outcome}
-use Rattle.calc_app.specs.declared.outcome.Outcome.TheVariants.{Answered, Refused, Large, Told}
-use Rattle.calc_app.specs.Computed.{Computes, AreRefused, Accepts, Refuses, GoesWrong, Tells, lines_text, text_of, HasBlock, refusal_status, status_for}
+use Rattle.calc_replies.specs.declared.outcome.Outcome.{Outcome}
+use Rattle.calc_replies.specs.declared.outcome.Outcome.TheVariants.{Answered, Refused, Large, Told}
+use Rattle.calc_replies.specs.Computed.{Computes, AreRefused, Accepts, Refuses, GoesWrong, Tells, lines_text, text_of, HasBlock, refusal_status, status_for}
 use Rattle.calc_app.specs.Top.{IsOutcome, IsInput, IsFrontOf, RunsLines, Says, status_of, PutsPrefix, Leaves, PrintsAnswerTo, WasCutOff, IsAccepted, IsRefused}
 
 -- ---- what comes of a command

@@ -21,9 +21,9 @@ use Rattle.sym_model.specs.Workload.{terms_in, work_line, after_line, work_lines
 use Rattle.work_lines.specs.declared.sums.Sums.{Sums}
 use Rattle.work_lines.specs.Kept.{Kept, kept_bytes, kept_length}
 use Rattle.work_lines.specs.Totals.{sums_over, sums_with, AreSmall, sums_text}
-use Rattle.calc_app.specs.declared.outcome.Outcome.{Outcome}
+use Rattle.calc_replies.specs.declared.outcome.Outcome.{Outcome}
 use Rattle.calc_app.specs.Batch.{ComesOfLine}
-use Rattle.calc_app.specs.Computed.{text_of, HasBlock}
+use Rattle.calc_replies.specs.Computed.{text_of, HasBlock}
 use Rattle.calc_app.specs.Top.{IsOutcome, RunsLines, Leaves, IsAccepted}
 use Rattle.calc_app.specs.Work.{texts_of, sums_more, AddsLine, AreSumsOf, EndsWork}
 use Rattle.calc_app.proofs.Batches.{comes_block, comes_nothing}

@@ -1,5 +1,5 @@
 -- What comes of the lines of a batch, one after another (this project's own).
-use Rattle.std.specs.Prelude.{◌≡◌, ◌≢◌, ℕ, ◌≤◌, List, [], Bool, true, false, ◌&&◌, codes, cond, Option, Some, None, IfSome, Result, Ok, Err}
+use Rattle.std.specs.Prelude.{◌≡◌, ◌≢◌, ℕ, ◌≤◌, List, [], Bool, Option, Some, None, IfSome, Result, Ok, Err}
 use Rattle.batch_lines.specs.declared.next.LineFault.{LineFault}
 use Rattle.batch_lines.specs.declared.next.LineFault.TheVariants as line_fault
 use Rattle.batch_lines.specs.declared.next.Next.{Next}
@@ -9,17 +9,15 @@ use Rattle.calc_base.specs.declared.status.Status.{Status}
 use Rattle.calc_base.specs.declared.status.Status.TheVariants as status
 use Rattle.calc_base.specs.declared.words.WordsFault.{WordsFault}
 use Rattle.calc_base.specs.Fault.{Rose}
-use Rattle.calc_base.specs.Puts.{Puts}
 use Rattle.calc_language.specs.BuiltCommands.{batch_entries}
 use Rattle.calc_language.specs.Reading.{IsFaultOf}
 use Rattle.sym_model.specs.BatchLine.{BatchLine, too_long, passed_over, spoken, batch_line, too_long_offence}
 use Rattle.sym_model.specs.BatchOutcome.{RunsInput}
-use Rattle.calc_app.specs.declared.outcome.Outcome.{Outcome}
-use Rattle.calc_app.specs.declared.outcome.Outcome.TheVariants.{Refused}
+use Rattle.calc_replies.specs.declared.outcome.Outcome.{Outcome}
+use Rattle.calc_replies.specs.declared.outcome.Outcome.TheVariants.{Refused}
 use Rattle.calc_app.specs.declared.batch.Turn.{Turn}
 use Rattle.calc_app.specs.declared.batch.Turn.TheVariants.{Passed, Block, Last}
-use Rattle.calc_app.specs.declared.batch.Progress.{Progress}
-use Rattle.calc_app.specs.Computed.{Computes}
+use Rattle.calc_replies.specs.Computed.{Computes}
 use Rattle.calc_app.specs.Top.{Leaves, IsThrough}
 
 -- ---- what comes of one line
@@ -70,41 +68,7 @@ CountsTurn before now (Ok turn) = now ≡ before
 CountsTurn before now (Err line_fault.SourceFault) = Rose before now
 CountsTurn before now (Err line_fault.NoMemory) = now ≡ before
 
--- ---- what comes of the lines so far
-
--- what stands in front of a block: nothing in front of the first one, and the line `--` in front of the others
-abbrev pub separator : Bool → List ℕ
-separator true = []
-separator false = codes "--\n"
-
--- whether the status says that the line was not refused
-abbrev pub is_done_status : Status → Bool
-is_done_status status.Done = true
-is_done_status status.SomeRefused = false
-is_done_status status.Syntax = false
-is_done_status status.Range = false
-is_done_status status.Past = false
-is_done_status status.SinkFault = false
-is_done_status status.SourceFault = false
-is_done_status status.NoMemory = false
-
--- how far a batch is, after one block more
-abbrev pub progress_after : Progress → Status → Progress
-progress_after progress answer = record { is_first = false; is_done = progress.is_done && is_done_status answer }
-
--- the status at the end, where neither the source nor the sink fails
-abbrev pub end_status : Progress → Status
-end_status progress = cond progress.is_done status.Done status.SomeRefused
-
 -- ---- the end
-
--- The sink is finished, and the answer is the status; or that failed.
-pub record Finishes {K : Type 0} (written : K → Option (List ℕ)) (count : K → Option ℕ) (faults : K → ℕ) (settled : K → Bool)
-    (old new : K) (answer result : Status) : Type 0 where
-  pub well : Bool
-  pub puts : Puts written count faults true old well new []
-  pub settles : well ≡ true → settled new ≡ true
-  pub is : result ≡ cond well answer status.SinkFault
 
 -- how a batch ends: what it leaves in the sink, which faults were counted, and that all was read where the status says so
 pub record EndsBatch {K : Type 0} (written : K → Option (List ℕ)) (count : K → Option ℕ) (faults : K → ℕ) (settled : K → Bool)

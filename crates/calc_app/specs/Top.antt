@@ -1,7 +1,8 @@
 -- What the top call promises, by cases on the status that it answers (this project's own).
-use Rattle.std.specs.Prelude.{◌≡◌, ◌⊎◌, ℕ, List, ◌∷◌, ◌++◌, Bool, true, map, Option, Some, IfSome}
+use Rattle.std.specs.Prelude.{◌≡◌, ◌⊎◌, ℕ, List, ◌∷◌, ◌++◌, Bool, true, cond, map, Option, Some, IfSome}
 use Rattle.calc_base.specs.declared.status.Status.{Status}
 use Rattle.calc_base.specs.declared.status.Status.TheVariants.{Done, SomeRefused, Syntax, Range, Past, SinkFault, SourceFault, NoMemory}
+use Rattle.calc_base.specs.Puts.{Puts}
 use Rattle.calc_base.specs.Sink.{Appends, AppendsPrefix}
 use Rattle.batch_lines.specs.Feeds.{HasNoFeed}
 use Rattle.batch_lines.specs.Reading.{Took}
@@ -11,6 +12,8 @@ use Rattle.sym_model.specs.Command.{Command, tab, rsk, unrsk, rect, batch, work}
 use Rattle.sym_model.specs.Ending.{Ending, done, some_refused, syntax, range, past}
 use Rattle.sym_model.specs.Entry.{SpellsWithoutOffence}
 use Rattle.calc_language.specs.BuiltCommands.{command_entries, batch_entries}
+use Rattle.calc_replies.specs.Computed.{text_of, HasBlock, status_for}
+use Rattle.calc_replies.specs.declared.outcome.Outcome.{Outcome}
 use Rattle.sym_model.specs.Headline.{ReadsBack}
 use Rattle.sym_model.specs.Outcome.{Answers, MayBeLarge}
 
@@ -172,3 +175,15 @@ pub record IsRefused {S : Type 0} (written : S → Option (List ℕ)) (count : S
     (ending : Ending) (line : List ℕ) (status : Status) : Type 0 where
   pub ends : (status ≡ status_of ending) ⊎ WasCutOff status
   pub puts : status ≡ status_of ending → Appends written count old new line
+
+-- ---- an outcome was put
+
+-- The text of the outcome was put and the sink finished, with the status that goes with it; or the sink failed. The block of an
+-- answer is one that can be read back.
+pub record PutsOutcome {K : Type 0} (written : K → Option (List ℕ)) (count : K → Option ℕ) (faults : K → ℕ) (settled : K → Bool)
+    (old new : K) (outcome : Outcome) (result : Status) : Type 0 where
+  pub well : Bool
+  pub puts : Puts written count faults true old well new (text_of outcome)
+  pub settles : well ≡ true → settled new ≡ true
+  pub printable : HasBlock outcome
+  pub is : result ≡ cond well (status_for outcome) SinkFault

@@ -4,14 +4,16 @@ ghost use Rattle.std.specs.Prelude.{◌≡◌, ◌≤◌, ◌++◌, [], Some, tr
 ghost use Rattle.batch_lines.specs.Reading.{ReadsNext};
 ghost use Rattle.calc_base.specs.Puts.{Puts};
 ghost use Rattle.sym_model.specs.BatchLine.{batch_line, too_long};
-ghost use Rattle.calc_app.specs.Batch.{ComesOfLine, TakesTurn, CutsTurn, CountsTurn, separator, is_done_status, progress_after, end_status, Finishes, EndsBatch};
-ghost use Rattle.calc_app.specs.Computed.{text_of, HasText, HasBlock, status_for};
+ghost use Rattle.batch_ends.specs.Ends.{separator, progress_after};
+ghost use Rattle.calc_app.specs.Batch.{ComesOfLine, TakesTurn, CutsTurn, CountsTurn, EndsBatch};
+ghost use Rattle.calc_language.specs.Reading.{IsWithinItsLimits, command_of};
+ghost use Rattle.calc_replies.specs.Computed.{IsReplyTo, RunsNoOther, text_of, HasText, HasBlock, status_for};
 
-use crate::block::{put_text, status_if_put};
-use crate::outcome::{Outcome, reply_by};
+use batch_ends::{Progress, at_end, finished, put_separator};
 use batch_lines::{LineFault, LineReader, Next};
-use calc_base::{CountSink, NoMemory, Place, Sink, Source, Status, WordsFault, finish_if};
-use calc_language::read_line;
+use calc_base::{CountSink, NoMemory, Place, Sink, Source, Status, WordsFault};
+use calc_language::{Command, read_line};
+use calc_replies::{Outcome, put_text, reply_by, status_if_put};
 use schubert_memo::Memo;
 use std::alloc::Global;
 
@@ -32,27 +34,10 @@ enum Turn {
     Last,
 }
 
-/// How far a batch is: whether the next block is the first one, and whether no line was refused.
-#[derive(Clone, Copy, Debug)]
-struct Progress {
-    is_first: bool,
-    is_done: bool,
-}
-
-impl Progress {
-    /// Counts a block more.
-    fn count(&mut self, status: Status)
-        ensures { self.new ≡ progress_after self.old status }
-    {
-        self.is_first = false;
-        self.is_done = self.is_done && is_done(status);
-    }
-}
-
 /// Runs the lines of the source and puts their blocks, with the line `--` between two of them.
 ///
-/// A block is put when its line is read, and nothing of it is kept but Schubert polynomials for later lines. A fault of the source ends the run after the lines that
-/// were wholly read, and the sink is finished. Want of memory ends the run.
+/// A block is put when its line is read, and nothing of it is kept but Schubert polynomials for later lines. A fault of the source
+/// ends the run after the lines that were wholly read, and the sink is finished. Want of memory ends the run.
 pub(crate) fn batch<S: Source, K: Sink>(alloc: Global, source: &mut S, sink: &mut K) -> Status
     ensures { EndsBatch K.written K.length K.faults K.settled sink.old sink.new (S.left source.old) (S.left source.new)
         (S.faults source.old) (S.faults source.new) result }
@@ -124,7 +109,7 @@ pub(crate) fn line_outcome(
     ensures { IfOk result (ComesOfLine (batch_line line.now)) }
 {
     match read_line(alloc, line) {
-        Ok(Some(command)) => match reply_by(alloc, memo, &command) {
+        Ok(Some(command)) => match reply_once(alloc, memo, command) {
             Ok(outcome) => Ok(Some(outcome)),
             Err(NoMemory) => Err(NoMemory),
         },
@@ -132,6 +117,18 @@ pub(crate) fn line_outcome(
         Err(WordsFault::NoMemory) => Err(NoMemory),
         Err(fault) => Ok(Some(Outcome::Refused { fault })),
     }
+}
+
+/// What comes of a command of a line, which is dropped then.
+fn reply_once(alloc: Global, memo: &mut Memo, command: Command) -> Result<Outcome, NoMemory>
+    requires limits { IsWithinItsLimits command }
+    requires alone { RunsNoOther (command_of command) }
+    ensures { IsReplyTo (command_of command) result }
+{
+    let reply = reply_by(alloc, memo, &command);
+    // By a call, so that the proof does not go through all that a command can hold.
+    drop(command);
+    reply
 }
 
 /// What comes of a line that is too long.
@@ -173,40 +170,4 @@ fn put_behind<K: Sink>(is_first: bool, outcome: &mut Outcome, sink: &mut K) -> b
         return false;
     }
     put_text(outcome, sink)
-}
-
-/// Puts the line `--`, but not in front of the first block.
-fn put_separator<K: Sink>(is_first: bool, sink: &mut K) -> bool
-    ensures { Puts K.written K.length K.faults true sink.old result sink.new (separator is_first) }
-{
-    is_first || sink.put(b"--\n").is_ok()
-}
-
-/// Whether the status says that a line was not refused.
-fn is_done(status: Status) -> bool
-    ensures { result ≡ is_done_status status }
-{
-    matches!(status, Status::Done)
-}
-
-/// The status where all lines were read and put.
-fn at_end(progress: Progress) -> Status
-    ensures { result ≡ end_status progress }
-{
-    if progress.is_done {
-        Status::Done
-    } else {
-        Status::SomeRefused
-    }
-}
-
-/// Finishes the sink, and answers the status, or that the sink failed.
-pub(crate) fn finished<K: Sink>(status: Status, sink: &mut K) -> Status
-    ensures { Finishes K.written K.length K.faults K.settled sink.old sink.new status result }
-{
-    if finish_if(true, sink) {
-        status
-    } else {
-        Status::SinkFault
-    }
 }

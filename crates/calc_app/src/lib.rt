@@ -3,16 +3,6 @@
 #![tactic(auto)]
 
 mod batch;
-mod block;
-mod expanding;
-mod form;
-mod insertion;
-mod listing;
-mod outcome;
-mod permutations;
-mod products;
-mod reductions;
-mod tableau_answer;
 mod top;
 mod workload;
 

@@ -11,14 +11,13 @@ ghost use Rattle.calc_language.specs.BuiltCommands.{command_entries};
 ghost use Rattle.sym_model.specs.Outcome.{ending_of};
 ghost use Rattle.sym_model.specs.RefusalText.{refusal_line, offence_line};
 ghost use Rattle.sym_model.specs.SyntaxPlace.{IsSyntaxPlace};
-ghost use Rattle.calc_app.specs.Computed.{text_of, HasText, HasBlock, PutsOutcome};
-ghost use Rattle.calc_app.specs.Top.{Leaves, IsOutcome, RunsLines, PrintsAnswerTo, PrintsLines, IsThrough, IsAccepted, IsRefused};
+ghost use Rattle.calc_replies.specs.Computed.{text_of, HasText, HasBlock};
+ghost use Rattle.calc_app.specs.Top.{Leaves, IsOutcome, RunsLines, PrintsAnswerTo, PrintsLines, IsThrough, IsAccepted, IsRefused, PutsOutcome};
 
 use crate::batch::batch;
-use crate::block::{put_text, status_if_put};
-use crate::outcome::{Outcome, Task, task_of};
 use crate::workload::work;
 use calc_base::{NoMemory, Sink, Source, Status, finish_if};
+use calc_replies::{Outcome, Task, put_text, status_if_put, task_of};
 use std::alloc::Global;
 
 /// Runs the command that the words name, without the program's name, and puts its text to the sink.

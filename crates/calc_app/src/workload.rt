@@ -3,13 +3,12 @@
 ghost use Rattle.std.specs.Prelude.{◌≡◌, ◌<◌, ◌≤◌, IfOk};
 ghost use Rattle.sym_model.specs.BatchLine.{batch_line};
 ghost use Rattle.work_lines.specs.Totals.{sums_with, AreSmall};
-ghost use Rattle.calc_app.specs.Computed.{text_of, HasText, HasBlock};
+ghost use Rattle.calc_replies.specs.Computed.{text_of, HasText, HasBlock};
 ghost use Rattle.calc_app.specs.Work.{AddsLine, AreSumsOf, PutsSums, EndsWork};
 
 use crate::batch::{line_outcome, new_memo};
-use crate::block::put_text;
-use crate::outcome::Outcome;
 use calc_base::{NoMemory, Sink, Status, finish_if};
+use calc_replies::{Outcome, put_text};
 use schubert_memo::Memo;
 use std::alloc::Global;
 use work_lines::{BlockText, LineBuf, Sums, put_summary, work_line};

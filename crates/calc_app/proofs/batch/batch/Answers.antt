@@ -2,10 +2,11 @@ use Rattle.std.proofs.Common.{◌≡◌, Bool, true, false, ◌++◌, refl, sym,
 use Rattle.batch_lines.specs.Reading.{Reading}
 use Rattle.batch_lines.specs.declared.next.LineFault.{LineFault}
 use Rattle.calc_base.specs.Puts.{Puts}
-use Rattle.calc_app.specs.declared.batch.Progress.{Progress}
+use Rattle.batch_ends.specs.declared.progress.Progress.{Progress}
 use Rattle.calc_app.specs.declared.batch.Turn.{Turn}
-use Rattle.calc_app.specs.Batch.{TakesTurn, CutsTurn, CountsTurn, separator}
-use Rattle.calc_app.specs.Computed.{text_of}
+use Rattle.batch_ends.specs.Ends.{separator}
+use Rattle.calc_app.specs.Batch.{TakesTurn, CutsTurn, CountsTurn}
+use Rattle.calc_replies.specs.Computed.{text_of}
 use Rattle.calc_app.proofs.LinesRead.{fewer_left}
 use Rattle.calc_app.proofs.Batches.{Runs, begins, passed_took, block_took, last_took, runs_passed, runs_block, ends_cut, ends_full, ends_last, ends_source}
 use Rattle.calc_app.proofs.batch.batch.Goals as goal

@@ -2,8 +2,8 @@ use Rattle.std.proofs.Common.{map, subst}
 use Rattle.std.specs.Prelude.{string_bytes}
 use Rattle.calc_app.proofs.Outcomes.{headline}
 use Rattle.calc_app.proofs.Ends.{put_leaves, put_accepted, put_offended, put_misspelt, lines_leave, lines_print}
-use Rattle.calc_app.specs.declared.outcome.Task.{Task}
-use Rattle.calc_app.specs.Computed.{IsTaskFor, AcceptsTask, RefusesTask, TaskGoesWrong}
+use Rattle.calc_replies.specs.declared.outcome.Task.{Task}
+use Rattle.calc_replies.specs.Computed.{IsTaskFor, AcceptsTask, RefusesTask, TaskGoesWrong}
 use Rattle.std.proofs.Common.{Ok}
 use Rattle.sym_model.specs.Command.{batch}
 use Rattle.calc_app.proofs.WorkSums.{work_leaves, work_ended, work_accepted, work_no_source, no_lines, seed_within}

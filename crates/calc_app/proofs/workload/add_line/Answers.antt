@@ -1,7 +1,7 @@
 use Rattle.std.proofs.Common.{subst, Option}
 use Rattle.sym_model.specs.BatchLine.{batch_line}
 use Rattle.calc_app.specs.Batch.{ComesOfLine}
-use Rattle.calc_app.specs.declared.outcome.Outcome.{Outcome}
+use Rattle.calc_replies.specs.declared.outcome.Outcome.{Outcome}
 use Rattle.calc_app.proofs.WorkSums.{add_some, add_none}
 use Rattle.calc_app.proofs.workload.add_line.Goals as goal
 

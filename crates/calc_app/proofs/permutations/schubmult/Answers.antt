@@ -1,5 +1,0 @@
-use Rattle.calc_app.proofs.FewInversions.{product-within}
-use Rattle.calc_app.proofs.permutations.schubmult.Goals as goal
-
-pub schubmult-requires : goal.schubmult-requires
-schubmult-requires c = product-within c.args.left.now c.args.right.now c.requires.0.few c.requires.1.few

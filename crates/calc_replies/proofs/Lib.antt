@@ -1,0 +1,7 @@
+-- Lemmas of the crate.
+pub mod Replies
+pub mod Delivered
+pub mod Expansions
+pub mod FewInversions
+pub mod Listings
+pub mod PositiveLetters

@@ -1,0 +1,97 @@
+-- What comes of a command that was read is what comes of its words.
+use Rattle.std.proofs.Common.{◌≡◌, ◌⊎◌, ◌≢◌, ℕ, List, [], ◌∷◌, sym, ◌∙◌, subst, inl, inr}
+use Rattle.std.specs.Prelude.{Result, Ok, Err, Some}
+use Rattle.calc_base.specs.declared.faults.NoMemory.{NoMemory}
+use Rattle.calc_base.specs.declared.words.WordsFault.{WordsFault}
+use Rattle.calc_base.specs.declared.words.WordsFault.TheVariants as fault
+use Rattle.sym_model.specs.Command.{Command, batch}
+use Rattle.sym_model.specs.CommandOffence.{Offence}
+use Rattle.sym_model.specs.BatchLine.{BatchLine, too_long, passed_over, spoken}
+use Rattle.sym_model.specs.Entry.{Entry, SpellsFreely, SpellsWithoutOffence}
+use Rattle.sym_model.specs.Form.{Written, EachOf}
+use Rattle.calc_language.proofs.NamedEntries.{some_select}
+use Rattle.calc_language.specs.BuiltCommands.{all_line_entries, is_built, command_entries, batch_entries}
+use Rattle.calc_language.specs.declared.words.Command.{Command as Read}
+use Rattle.calc_language.specs.Lines.{IsLineRead}
+use Rattle.sym_model.specs.Outcome.{MayBeLarge}
+use Rattle.calc_language.specs.Reading.{IsFaultOf, command_of}
+use Rattle.calc_replies.specs.declared.outcome.Outcome.{Outcome}
+use Rattle.calc_replies.specs.declared.outcome.Outcome.TheVariants.{Answered, Refused, Large, Told}
+use Rattle.calc_replies.specs.declared.outcome.Task.{Task}
+use Rattle.calc_replies.specs.declared.outcome.Task.TheVariants.{Lines, Workload, Put}
+use Rattle.calc_replies.specs.Computed.{IsReplyTo, Computes, Accepts, RunsNoOther, IsTaskOf, IsTaskFor, AcceptsTask}
+
+pub computes_reply : (entries : List Entry) (words : List (List ℕ)) (command : Command) (result : Result Outcome NoMemory)
+    → SpellsWithoutOffence entries words command → IsReplyTo command result → Computes entries words result
+computes_reply entries words command (Ok (Answered block form)) spelled reply = record { command = command; spelled = spelled; reply = reply }
+computes_reply entries words command (Ok (Refused reason)) spelled reply = absurd reply
+computes_reply entries words command (Ok Large) spelled reply = record { command = command; spelled = spelled; reply = reply }
+computes_reply entries words command (Ok (Told lines)) spelled reply = record { command = command; spelled = spelled; reply = reply }
+computes_reply entries words command (Err e) spelled reply = tt
+
+pub accepts_reply : (command : Command) (result : Result Outcome NoMemory) (other : Command) → IsReplyTo command result
+    → command ≡ other → Accepts other result
+accepts_reply command (Ok (Answered block form)) other reply same = tt
+accepts_reply command (Ok (Refused reason)) other reply same = reply
+accepts_reply command (Ok Large) other reply same = subst MayBeLarge same reply
+accepts_reply command (Ok (Told lines)) other reply same = tt
+accepts_reply command (Err e) other reply same = tt
+
+-- the task of a command that was read is that of its words
+pub task_reply : (words : List (List ℕ)) (command : Command) (result : Result Task NoMemory)
+    → SpellsWithoutOffence command_entries words command → IsTaskOf command result → IsTaskFor words result
+task_reply words command (Ok Lines) spelled task = subst (SpellsWithoutOffence command_entries words) task spelled
+task_reply words command (Ok (Workload lines seed)) spelled task = subst (SpellsWithoutOffence command_entries words) task spelled
+task_reply words command (Ok (Put outcome)) spelled task = computes_reply command_entries words command (Ok outcome) spelled task
+task_reply words command (Err e) spelled task = tt
+
+-- nothing that is put comes of the command that runs lines
+no_reply : (outcome : Outcome) → IsReplyTo batch (Ok outcome) → ⊥
+no_reply (Answered answer form) reply = reply.1
+no_reply (Refused reason) reply = reply
+no_reply Large (inl large) = large.1
+no_reply Large (inr large) = large.1
+no_reply (Told lines) reply = reply
+
+pub accepts_task : (command : Command) (result : Result Task NoMemory) (other : Command) → IsTaskOf command result
+    → command ≡ other → AcceptsTask other result
+accepts_task command (Ok Lines) other task same = sym same ∙ task
+accepts_task command (Ok (Workload lines seed)) other task same = sym same ∙ task
+accepts_task command (Ok (Put outcome)) other task same =
+    (accepts_reply command (Ok outcome) other task same, λ is. no_reply outcome (subst (λ c. IsReplyTo c (Ok outcome)) (same ∙ is) task))
+accepts_task command (Err e) other task same = tt
+
+-- a command of a line runs no other ones
+some_alone : (entries : List Entry) (words : List (List ℕ)) (command : Command) → EachOf (λ e. (x : Written e.form) → RunsNoOther (e.says x)) entries
+    → SpellsWithoutOffence entries words command → RunsNoOther command
+some_alone [] words command each spelled = absurd spelled
+some_alone (e ∷ entries) words command each (inl h) = subst RunsNoOther (sym h.says_it) (each.0 h.has.written)
+some_alone (e ∷ entries) words command each (inr h) = some_alone entries words command each.1 h
+
+each_alone : EachOf (λ e. (x : Written e.form) → RunsNoOther (e.says x)) all_line_entries
+each_alone = (
+  (λ x. tt),
+  ((λ x. tt), ((λ x. tt), ((λ x. tt), ((λ x. tt), ((λ x. tt), ((λ x. tt), ((λ x. tt), ((λ x. tt), ((λ x. tt), ((λ x. tt), ((λ x. tt), ((λ x. tt), tt)))))))))))),
+)
+
+pub line_alone : (words : List (List ℕ)) (command : Command) → SpellsWithoutOffence batch_entries words command → RunsNoOther command
+line_alone words command spelled =
+    some_alone all_line_entries words command each_alone
+    (some_select (λ (e : Entry). SpellsFreely e words command) is_built all_line_entries spelled)
+
+pub read_alone : (line : BatchLine) (command : Read) → IsLineRead line (Ok (Some command)) → RunsNoOther (command_of command)
+read_alone too_long command read = absurd read
+read_alone passed_over command read = absurd read
+read_alone (spoken words) command read = line_alone words (command_of command) read
+
+-- a refusal that is no want of memory
+pub refused_by : (offence : Offence) (reason : WordsFault) → reason ≢ fault.NoMemory
+    → IsFaultOf offence reason ⊎ (reason ≡ fault.NoMemory) → IsFaultOf offence reason
+refused_by offence reason memory (inl is) = is
+refused_by offence reason memory (inr none) = absurd (memory none)
+
+pub refused_at : (word byte : ℕ) (reason : WordsFault) → reason ≢ fault.NoMemory
+    → (reason ≡ fault.Syntax (record { word = word; byte = byte })) ⊎ (reason ≡ fault.NoMemory)
+    → reason ≡ fault.Syntax (record { word = word; byte = byte })
+refused_at word byte reason memory (inl is) = is
+refused_at word byte reason memory (inr none) = absurd (memory none)

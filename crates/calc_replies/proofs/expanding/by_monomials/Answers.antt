@@ -1,0 +1,36 @@
+use Rattle.std.proofs.Common.{rules, tests, arith, ◌≡◌, ℕ, sym, subst}
+use Rattle.sym_model.specs.Expansion.{IsExpansionOf}
+use Rattle.sym_model.specs.Expression.{cleared_value, denominator}
+use Rattle.calc_base.specs.declared.words.Basis.{Basis as Letter}
+use Rattle.calc_base.specs.declared.words.Basis.TheVariants as letters
+use Rattle.calc_expressions.specs.Trees.{basis_of, tree_of}
+use Rattle.calc_expressions.proofs.WeightFacts.{positive}
+use Rattle.calc_expressions.proofs.GrowthFacts.{wide-weight}
+use Rattle.calc_replies.proofs.Expansions.{heavy_for_m, if_ok}
+use Rattle.calc_replies.proofs.expanding.by_monomials.Goals as goal
+
+pub returns-in-Err-clause-large : goal.returns-in-Err-clause-large
+returns-in-Err-clause-large c = λ is.
+    heavy_for_m (basis_of c.args.target) (tree_of c.args.formula.now.tree) (c.in-Err.ensures.large is)
+
+pub returns-then-eq-clause-expands : goal.returns-then-eq-clause-expands
+returns-then-eq-clause-expands c =
+    let e = tree_of c.args.formula.now.tree in
+    let is : c.args.target ≡ letters.M = search (rules, tests) in
+    let P : Letter → Type 0 = λ t. (n : ℕ) → IsExpansionOf (basis_of t) c.in-Ok.list n (cleared_value e n) (denominator e) in
+    subst P (sym is) c.in-Ok.ensures.value
+
+pub returns-in_default-clause-large : goal.returns-in_default-clause-large
+returns-in_default-clause-large c = λ is.
+    let e = c.args.formula.now in
+    wide-weight (basis_of c.args.target) (tree_of e.tree) (positive e.tree e.within.numbers) c.in_default.ensures
+
+pub to_basis-requires-clause-positive : goal.to_basis-requires-clause-positive
+to_basis-requires-clause-positive c =
+    let e = c.args.formula.now in
+    let p = positive e.tree e.within.numbers in
+    (omega (arith, p.0, c.in-Some.ensures.0), omega (arith, p.1, c.in-Some.ensures.1))
+
+pub returns-clause-expands : goal.returns-clause-expands
+returns-clause-expands c =
+    if_ok c.to_basis.result (λ list h n. h n _ _ (c.in-Ok.ensures.value n)) c.to_basis.ensures.value

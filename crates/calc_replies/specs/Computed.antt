@@ -1,0 +1,192 @@
+-- What is computed for the words of a command, and what is put for that (this project's own).
+use Rattle.std.specs.Prelude.{◌≡◌, ◌≢◌, ℕ, List, Option, Some, None, Result, Ok, Err, codes}
+use Rattle.calc_base.specs.declared.faults.NoMemory.{NoMemory}
+use Rattle.calc_base.specs.declared.status.Status.{Status}
+use Rattle.calc_base.specs.declared.status.Status.TheVariants as status
+use Rattle.calc_base.specs.declared.words.WordsFault.{WordsFault}
+use Rattle.calc_base.specs.declared.words.WordsFault.TheVariants as fault
+use Rattle.calc_language.specs.Reading.{IsFaultOf, command_of}
+use Rattle.calc_language.specs.declared.words.Command.{Command}
+use Rattle.calc_words.specs.Reading.{IsRead as IsReadBy}
+use Rattle.expansion_printer.specs.Answers.{plain_answer}
+use Rattle.expansion_printer.specs.Refusal.{refusal_text}
+use Rattle.sym_model.specs.Answer.{IsPrintable}
+use Rattle.sym_model.specs.PrintedForm.{printed_form, answer_text_in}
+use Rattle.sym_model.specs.Command.{Command as PlainCommand, rsk, unrsk, rect, tab, batch, work}
+use Rattle.sym_model.specs.CommandOffence.{Offence}
+use Rattle.sym_model.specs.Entry.{Entry, SpellsWithoutOffence}
+use Rattle.sym_model.specs.Insertion.{insertion_pair}
+use Rattle.sym_model.specs.Outcome.{MustBeLarge, MayBeLarge, readings_after, PrintsWord, PrintsRectified}
+use Rattle.sym_model.specs.TableauText.{tableau_line, pair_text, word_line, readings_text}
+use Rattle.sym_model.specs.RefusalText.{large_line}
+use Rattle.sym_model.specs.Target.{Meets}
+use Rattle.calc_replies.specs.Forms.{plain_form}
+use Rattle.calc_replies.specs.declared.tableau_answer.TableauAnswer.{TableauAnswer}
+use Rattle.calc_replies.specs.declared.tableau_answer.TableauAnswer.TheVariants.{Listed, Paired, Spelled, Straight}
+use Rattle.calc_replies.specs.declared.listing.Listing.{Listing}
+use Rattle.calc_language.specs.BuiltCommands.{command_entries}
+use Rattle.calc_replies.specs.declared.outcome.Task.{Task}
+use Rattle.calc_replies.specs.declared.outcome.Task.TheVariants.{Lines, Workload, Put}
+use Rattle.calc_replies.specs.declared.outcome.Kind.{Kind}
+use Rattle.calc_replies.specs.declared.outcome.Kind.TheVariants as kinds
+use Rattle.calc_replies.specs.declared.outcome.Outcome.{Outcome}
+use Rattle.calc_replies.specs.declared.outcome.Outcome.TheVariants.{Answered, Refused, Large, Told}
+
+-- what is put for a list: a line for each tableau, and the line 0 where there is none
+abbrev pub listing_text : Option Listing → List ℕ
+listing_text None = codes "0\n"
+listing_text (Some l) = readings_text l.shape.0 l.shape.1 l.lattice.rest
+
+-- what is put for the answer to a command on tableaux
+abbrev pub lines_text : TableauAnswer → List ℕ
+lines_text (Listed list) = listing_text list
+lines_text (Paired p q) = pair_text p.rows q.rows
+lines_text (Spelled word) = word_line word
+lines_text (Straight t) = tableau_line t.rows
+
+-- the command is one on tableaux, and the text is what it answers
+abbrev pub Tells : PlainCommand → List ℕ → Type 0
+Tells (tab outer inner last) text = text ≡ readings_text outer inner (readings_after outer inner last)
+Tells (rsk w) text = text ≡ pair_text (insertion_pair w).0 (insertion_pair w).1
+Tells (unrsk p q) text = PrintsWord p q text
+Tells (rect outer inner rows) text = PrintsRectified (record { outer = outer; inner = inner; rows = rows }) text
+Tells _ text = ⊥
+
+-- what comes of a command: an answer that is what it names, in the form that it asks for, where it need not be refused as too
+-- large, or that it can be refused so; want of memory says nothing
+abbrev pub IsReplyTo : PlainCommand → Result Outcome NoMemory → Type 0
+IsReplyTo command (Ok (Answered answer form)) =
+    (MustBeLarge command → ⊥) × Meets command (plain_answer answer) × (plain_form form ≡ printed_form command)
+IsReplyTo command (Ok (Refused fault)) = ⊥
+IsReplyTo command (Ok Large) = MayBeLarge command
+IsReplyTo command (Ok (Told lines)) = Tells command (lines_text lines)
+IsReplyTo command (Err e) = Unit {0}
+
+-- the words spell this command of the list without an offence, and the outcome is what comes of it
+pub record RepliesTo (entries : List Entry) (words : List (List ℕ)) (result : Result Outcome NoMemory) : Type 0 where
+  pub command : PlainCommand
+  pub spelled : SpellsWithoutOffence entries words command
+  pub reply : IsReplyTo command result
+
+-- the words are refused for this reason, which is no want of memory
+abbrev pub AreRefused : List Entry → List (List ℕ) → WordsFault → Type 0
+AreRefused entries words reason = IsReadBy {A = Command} entries command_of words (Err reason) × (reason ≢ fault.NoMemory)
+
+-- what comes of the words: what comes of the command of the list that they spell, or their refusal; want of memory says nothing
+abbrev pub Computes : List Entry → List (List ℕ) → Result Outcome NoMemory → Type 0
+Computes entries words (Ok (Answered answer form)) = RepliesTo entries words (Ok (Answered answer form))
+Computes entries words (Ok (Refused reason)) = AreRefused entries words reason
+Computes entries words (Ok Large) = RepliesTo entries words (Ok Large)
+Computes entries words (Ok (Told lines)) = RepliesTo entries words (Ok (Told lines))
+Computes entries words (Err e) = Unit {0}
+
+-- words of the command without an offence are not refused by their words, and by their answer only where it can be too large
+abbrev pub Accepts : PlainCommand → Result Outcome NoMemory → Type 0
+Accepts command (Ok (Answered answer form)) = Unit {0}
+Accepts command (Ok (Refused reason)) = ⊥
+Accepts command (Ok Large) = MayBeLarge command
+Accepts command (Ok (Told lines)) = Unit {0}
+Accepts command (Err e) = Unit {0}
+
+-- words with this first offence are refused by it
+abbrev pub Refuses : Offence → Result Outcome NoMemory → Type 0
+Refuses offence (Ok (Answered answer form)) = ⊥
+Refuses offence (Ok (Refused reason)) = IsFaultOf offence reason
+Refuses offence (Ok Large) = ⊥
+Refuses offence (Ok (Told lines)) = ⊥
+Refuses offence (Err e) = Unit {0}
+
+-- words that go wrong at this place are refused there
+abbrev pub GoesWrong : ℕ → ℕ → Result Outcome NoMemory → Type 0
+GoesWrong word byte (Ok (Answered answer form)) = ⊥
+GoesWrong word byte (Ok (Refused reason)) = reason ≡ fault.Syntax (record { word = word; byte = byte })
+GoesWrong word byte (Ok Large) = ⊥
+GoesWrong word byte (Ok (Told lines)) = ⊥
+GoesWrong word byte (Err e) = Unit {0}
+
+-- ---- what is to be done
+
+-- the command runs no other ones
+abbrev pub RunsNoOther : PlainCommand → Type 0
+RunsNoOther batch = ⊥
+RunsNoOther (work lines seed) = ⊥
+RunsNoOther command = Unit {0}
+
+-- whether a command runs others
+abbrev pub IsKind : PlainCommand → Kind → Type 0
+IsKind command kinds.Lines = command ≡ batch
+IsKind command (kinds.Workload lines seed) = command ≡ work lines seed
+IsKind command kinds.Alone = RunsNoOther command
+
+-- what is to be done for a command: lines are to be run for `batch` and `work`, and for the others what comes of them is to be put
+abbrev pub IsTaskOf : PlainCommand → Result Task NoMemory → Type 0
+IsTaskOf command (Ok Lines) = command ≡ batch
+IsTaskOf command (Ok (Workload lines seed)) = command ≡ work lines seed
+IsTaskOf command (Ok (Put outcome)) = IsReplyTo command (Ok outcome)
+IsTaskOf command (Err e) = Unit {0}
+
+-- what is to be done for words
+abbrev pub IsTaskFor : List (List ℕ) → Result Task NoMemory → Type 0
+IsTaskFor words (Ok Lines) = SpellsWithoutOffence command_entries words batch
+IsTaskFor words (Ok (Workload lines seed)) = SpellsWithoutOffence command_entries words (work lines seed)
+IsTaskFor words (Ok (Put outcome)) = Computes command_entries words (Ok outcome)
+IsTaskFor words (Err e) = Unit {0}
+
+-- the command's words are not refused by their words, and lines are run for `batch`
+abbrev pub AcceptsTask : PlainCommand → Result Task NoMemory → Type 0
+AcceptsTask command (Ok Lines) = command ≡ batch
+AcceptsTask command (Ok (Workload lines seed)) = command ≡ work lines seed
+AcceptsTask command (Ok (Put outcome)) = Accepts command (Ok outcome) × (command ≢ batch)
+AcceptsTask command (Err e) = Unit {0}
+
+-- words with this first offence are refused by it
+abbrev pub RefusesTask : Offence → Result Task NoMemory → Type 0
+RefusesTask offence (Ok Lines) = ⊥
+RefusesTask offence (Ok (Workload lines seed)) = ⊥
+RefusesTask offence (Ok (Put outcome)) = Refuses offence (Ok outcome)
+RefusesTask offence (Err e) = Unit {0}
+
+-- words that go wrong at this place are refused there
+abbrev pub TaskGoesWrong : ℕ → ℕ → Result Task NoMemory → Type 0
+TaskGoesWrong word byte (Ok Lines) = ⊥
+TaskGoesWrong word byte (Ok (Workload lines seed)) = ⊥
+TaskGoesWrong word byte (Ok (Put outcome)) = GoesWrong word byte (Ok outcome)
+TaskGoesWrong word byte (Err e) = Unit {0}
+
+-- ---- what is put
+
+-- what is put: the answer in its form, or the line of the refusal
+abbrev pub text_of : Outcome → List ℕ
+text_of (Answered answer form) = answer_text_in (plain_form form) (plain_answer answer)
+text_of (Refused reason) = refusal_text reason
+text_of Large = large_line
+text_of (Told lines) = lines_text lines
+
+-- what is put is a line: a refusal is no want of memory
+abbrev pub HasText : Outcome → Type 0
+HasText (Answered answer form) = Unit {0}
+HasText (Refused reason) = reason ≢ fault.NoMemory
+HasText Large = Unit {0}
+HasText (Told lines) = Unit {0}
+
+-- an answer is printable
+abbrev pub HasBlock : Outcome → Type 0
+HasBlock (Answered answer form) = IsPrintable (plain_answer answer)
+HasBlock (Refused reason) = Unit {0}
+HasBlock Large = Unit {0}
+HasBlock (Told lines) = Unit {0}
+
+-- the status of words that are refused
+abbrev pub refusal_status : WordsFault → Status
+refusal_status (fault.Syntax at) = status.Syntax
+refusal_status (fault.Literal at) = status.Past
+refusal_status (fault.Range at) = status.Range
+refusal_status (fault.Shape at) = status.Range
+refusal_status fault.NoMemory = status.NoMemory
+
+-- the status at the end, where the sink does not fail
+abbrev pub status_for : Outcome → Status
+status_for (Answered answer form) = status.Done
+status_for (Refused reason) = refusal_status reason
+status_for Large = status.Past
+status_for (Told lines) = status.Done

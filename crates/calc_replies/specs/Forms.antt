@@ -1,0 +1,16 @@
+-- The printed forms of answers (this project's own).
+use Rattle.std.specs.Prelude.{Bool, cond}
+use Rattle.calc_base.specs.declared.words.Basis.{Basis}
+use Rattle.calc_expressions.specs.Trees.{basis_of}
+use Rattle.sym_model.specs.PrintedForm.{PrintedForm, as_block, as_line}
+use Rattle.calc_replies.specs.declared.form.Form.{Form}
+use Rattle.calc_replies.specs.declared.form.Form.TheVariants.{Block, Line}
+
+-- the form over plain bases
+abbrev pub plain_form : Form → PrintedForm
+plain_form Block = as_block
+plain_form (Line basis) = as_line (basis_of basis)
+
+-- one line with the atoms of the basis, where that is asked for, and otherwise the block
+abbrev pub form_asked : Bool → Basis → Form
+form_asked one_line basis = cond one_line (Line basis) Block

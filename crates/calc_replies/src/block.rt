@@ -1,0 +1,48 @@
+//! What is put for an outcome, and the status that goes with it.
+
+ghost use Rattle.std.specs.Prelude.{◌≡◌, true};
+ghost use Rattle.calc_base.specs.Puts.{Puts};
+ghost use Rattle.calc_replies.specs.Computed.{text_of, HasText, HasBlock, refusal_status, status_for};
+
+use crate::form::put_answer;
+use crate::outcome::Outcome;
+use crate::tableau_answer::put_told;
+use calc_base::{Sink, Status, WordsFault};
+use expansion_printer::{print_large, print_refusal};
+
+/// Puts the block of the answer, or the line of the refusal, and answers whether all went well.
+pub fn put_text<K: Sink>(outcome: &mut Outcome, sink: &mut K) -> bool
+    requires { HasText outcome.old }
+    ensures goes { Puts K.written K.length K.faults true sink.old result sink.new (text_of outcome.old) }
+    ensures printable { HasBlock outcome.old }
+{
+    match outcome {
+        Outcome::Answered { answer, form } => put_answer(answer, *form, sink),
+        Outcome::Refused { fault } => print_refusal(fault, sink).is_ok(),
+        Outcome::Large => print_large(sink).is_ok(),
+        Outcome::Told { lines } => put_told(lines, sink),
+    }
+}
+
+/// The status at the end, where the sink does not fail.
+pub fn status_if_put(outcome: &Outcome) -> Status
+    ensures { result ≡ status_for outcome.now }
+{
+    match outcome {
+        Outcome::Answered { .. } | Outcome::Told { .. } => Status::Done,
+        Outcome::Refused { fault } => refused(*fault),
+        Outcome::Large => Status::Past,
+    }
+}
+
+/// The status of words that are refused.
+fn refused(fault: WordsFault) -> Status
+    ensures { result ≡ refusal_status fault }
+{
+    match fault {
+        WordsFault::Syntax { .. } => Status::Syntax,
+        WordsFault::Literal { .. } => Status::Past,
+        WordsFault::Range { .. } | WordsFault::Shape { .. } => Status::Range,
+        WordsFault::NoMemory => Status::NoMemory,
+    }
+}

@@ -1,0 +1,106 @@
+//! The answer to `expand`.
+ghost use Rattle.std.specs.Prelude.{◌≡◌, ℕ, ◌*◌, ◌^◌, ◌≤◌, IfOk, IsErrOf};
+ghost use Rattle.sym_model.specs.Command.{expand};
+ghost use Rattle.sym_model.specs.Expansion.{IsExpansionOf};
+ghost use Rattle.sym_model.specs.Expression.{cleared_value, degree, denominator};
+ghost use Rattle.sym_model.specs.ExpressionOffence.{degree_limit};
+ghost use Rattle.sym_model.specs.Weight.{weight};
+ghost use Rattle.calc_expressions.specs.Trees.{basis_of, tree_of};
+ghost use Rattle.calc_replies.specs.Computed.{IsReplyTo};
+
+use crate::form::asked_form;
+use crate::outcome::Outcome;
+use basis_change::to_basis;
+use basis_expand::to_monomial;
+use calc_base::{NoMemory, SumFault};
+use calc_language::{Basis, Formula};
+use coeff_rings::Frac;
+use direct_schurs::to_schur;
+use expansion_printer::Answer;
+use partitions::Partition;
+use sparse_polys::{Lin, Terms};
+use std::alloc::Global;
+
+/// The expansion of a formula in the target basis.
+pub(crate) fn expanded(
+    alloc: Global,
+    target: Basis,
+    one_line: bool,
+    formula: &Formula,
+) -> Result<Outcome, NoMemory>
+    requires { degree (tree_of formula.now.tree) ≤ degree_limit (basis_of target) }
+    ensures { IsReplyTo (expand (basis_of target) one_line (tree_of formula.now.tree)) result }
+{
+    match expansion(alloc, target, formula) {
+        Ok(terms) => Ok(Outcome::Answered {
+            answer: Answer::Expansion { terms },
+            form: asked_form(one_line, target),
+        }),
+        Err(SumFault::Large) => Ok(Outcome::Large),
+        Err(SumFault::NoMemory) => Err(NoMemory),
+    }
+}
+
+/// The expansion in the target, in the printed order.
+fn expansion(
+    alloc: Global,
+    target: Basis,
+    formula: &Formula,
+) -> Result<Terms<Partition, Frac>, SumFault>
+    requires { degree (tree_of formula.now.tree) ≤ degree_limit (basis_of target) }
+    ensures expands { IfOk result (λ terms. (n : ℕ) → IsExpansionOf (basis_of target) terms n
+        (cleared_value (tree_of formula.now.tree) n) (denominator (tree_of formula.now.tree))) }
+    ensures large { IsErrOf result SumFault.Large → 2 ^ 127 ≤ weight (basis_of target) (tree_of formula.now.tree) }
+{
+    let list = match in_target(alloc, target, formula) {
+        Ok(list) => list,
+        Err(fault) => return Err(fault),
+    };
+    // This tells the proof that no label stands twice in it.
+    list.len();
+    match list.sorted_terms() {
+        Ok(terms) => Ok(terms),
+        Err(NoMemory) => Err(SumFault::NoMemory),
+    }
+}
+
+/// The expansion in the target, in no order.
+fn in_target(
+    alloc: Global,
+    target: Basis,
+    formula: &Formula,
+) -> Result<Lin<Partition, Frac>, SumFault>
+    requires { degree (tree_of formula.now.tree) ≤ degree_limit (basis_of target) }
+    ensures expands { IfOk result (λ list. (n : ℕ) → IsExpansionOf (basis_of target) list n
+        (cleared_value (tree_of formula.now.tree) n) (denominator (tree_of formula.now.tree))) }
+    ensures large { IsErrOf result SumFault.Large → 2 ^ 127 ≤ weight (basis_of target) (tree_of formula.now.tree) }
+{
+    if target == Basis::S {
+        return to_schur(alloc, formula);
+    }
+    by_monomials(alloc, target, formula)
+}
+
+/// The expansion in the target by way of that in m, in no order.
+fn by_monomials(
+    alloc: Global,
+    target: Basis,
+    formula: &Formula,
+) -> Result<Lin<Partition, Frac>, SumFault>
+    requires { degree (tree_of formula.now.tree) ≤ degree_limit (basis_of target) }
+    ensures expands { IfOk result (λ list. (n : ℕ) → IsExpansionOf (basis_of target) list n
+        (cleared_value (tree_of formula.now.tree) n) (denominator (tree_of formula.now.tree))) }
+    ensures large { IsErrOf result SumFault.Large → 2 ^ 127 ≤ weight (basis_of target) (tree_of formula.now.tree) }
+{
+    let list = match to_monomial(alloc, formula) {
+        Ok(list) => list,
+        Err(fault) => return Err(fault),
+    };
+    if target == Basis::M {
+        return Ok(list);
+    }
+    let Some(bound) = formula.weight() else {
+        return Err(SumFault::Large);
+    };
+    to_basis(alloc, &list, bound, target)
+}

@@ -1,0 +1,43 @@
+//! The printed forms of answers.
+
+ghost use Rattle.std.specs.Prelude.{◌≡◌, true};
+ghost use Rattle.calc_base.specs.Puts.{Puts};
+ghost use Rattle.expansion_printer.specs.Answers.{plain_answer};
+ghost use Rattle.sym_model.specs.Answer.{IsPrintable};
+ghost use Rattle.sym_model.specs.PrintedForm.{answer_text_in};
+ghost use Rattle.calc_replies.specs.Forms.{plain_form, form_asked};
+
+use calc_base::{Basis, Sink};
+use expansion_printer::{Answer, print};
+use one_line_printer::print_one_line;
+
+/// How an answer is printed.
+#[derive(Clone, Copy, Debug)]
+pub enum Form {
+    /// As a block, with a line for each term.
+    Block,
+    /// On one line, with the atoms of a basis.
+    Line { basis: Basis },
+}
+
+/// The one-line form with the atoms of the basis, where it is asked for, and otherwise the block.
+pub(crate) fn asked_form(one_line: bool, basis: Basis) -> Form
+    ensures { result ≡ form_asked one_line basis }
+{
+    if one_line {
+        Form::Line { basis }
+    } else {
+        Form::Block
+    }
+}
+
+/// Puts the answer in the form, and answers whether all went well.
+pub(crate) fn put_answer<K: Sink>(answer: &Answer, form: Form, sink: &mut K) -> bool
+    ensures goes { Puts K.written K.length K.faults true sink.old result sink.new (answer_text_in (plain_form form) (plain_answer answer.now)) }
+    ensures printable { IsPrintable (plain_answer answer.now) }
+{
+    match form {
+        Form::Block => print(answer, sink).is_ok(),
+        Form::Line { basis } => print_one_line(answer, basis, sink).is_ok(),
+    }
+}

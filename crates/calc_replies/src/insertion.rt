@@ -1,0 +1,38 @@
+//! The answers to `rsk`, `unrsk` and `rect`.
+ghost use Rattle.sym_model.specs.Command as commands;
+ghost use Rattle.calc_words.specs.WrittenLimits.{KeepsLimits};
+ghost use Rattle.calc_replies.specs.Computed.{IsReplyTo};
+
+use crate::outcome::Outcome;
+use crate::tableau_answer::{TableauAnswer, told};
+use calc_base::{NoMemory, Word};
+use calc_language::TableauPair;
+use jeu_de_taquin::rectify;
+use row_insertion::{insert_word, word_of_pair};
+use skew_shapes::Tableau;
+use std::alloc::Global;
+
+/// The insertion tableau and the recording tableau of a word.
+pub(crate) fn rsk(alloc: Global, letters: &Word) -> Result<Outcome, NoMemory>
+    requires { KeepsLimits (commands.rsk letters.now) }
+    ensures { IsReplyTo (commands.rsk letters.now) result }
+{
+    let (p, q) = insert_word(alloc, letters.as_slice())?;
+    Ok(told(TableauAnswer::Paired { p, q }))
+}
+
+/// The word of a pair of tableaux.
+pub(crate) fn unrsk(alloc: Global, pair: &TableauPair) -> Result<Outcome, NoMemory>
+    ensures { IsReplyTo (commands.unrsk pair.now.0.rows pair.now.1.rows) result }
+{
+    let word = word_of_pair(alloc, pair.first(), pair.second())?;
+    Ok(told(TableauAnswer::Spelled { word }))
+}
+
+/// The rectification of a tableau.
+pub(crate) fn rect(tableau: &Tableau) -> Result<Outcome, NoMemory>
+    ensures { IsReplyTo (commands.rect tableau.now.outer tableau.now.inner tableau.now.rows) result }
+{
+    let tableau = rectify(tableau.copy()?);
+    Ok(told(TableauAnswer::Straight { tableau }))
+}

@@ -1,0 +1,104 @@
+//! The list of `tab`, which is put as it is listed.
+ghost use Rattle.std.specs.Prelude.{◌≡◌, ◌≤◌, true, length, IfOk};
+ghost use Rattle.std.specs.List.{flat_map};
+ghost use Rattle.calc_base.specs.Puts.{Puts};
+ghost use Rattle.sym_model.specs.Command as commands;
+ghost use Rattle.sym_model.specs.Outcome.{readings_after};
+ghost use Rattle.sym_model.specs.Partition.{size};
+ghost use Rattle.sym_model.specs.TableauList.{filling_of};
+ghost use Rattle.sym_model.specs.TableauText.{tableau_line, readings_text};
+ghost use Rattle.calc_words.specs.WrittenLimits.{IsInList, KeepsLimits};
+ghost use Rattle.calc_replies.specs.Computed.{IsReplyTo, listing_text};
+
+use crate::outcome::Outcome;
+use crate::tableau_answer::{TableauAnswer, told};
+use calc_base::{Lister, NoMemory, Sink, Word, put_if};
+use expansion_printer::print_reading;
+use partitions::Partition;
+use skew_shapes::Skew;
+use std::alloc::Global;
+use tableau_iter::{Lattice, ResumeFault};
+
+/// The lattice tableaux of a skew shape.
+#[derive(Drop)]
+pub struct Listing {
+    /// The skew shape.
+    pub shape: Skew,
+    /// The column readings of the tableaux that are still to come.
+    pub lattice: Lattice,
+}
+
+/// A lister of the lattice tableaux of a shape, whose outer one has so many rows: of all of them, or of those behind the one
+/// with this column reading, which is one of them.
+fn listed(alloc: Global, shape: &Skew, rows: u16, after: &Option<Word>) -> Result<Lattice, NoMemory>
+    requires rows { rows ≡ length shape.now.0 }
+    requires small { size shape.now.0 ≤ 512 }
+    requires listed { IsInList shape.now.0 shape.now.1 after.now }
+    ensures { IfOk result (λ l. l.rest ≡ readings_after shape.now.0 shape.now.1 after.now) }
+{
+    // This tells the proof that the shape has no more cells than the outer one.
+    shape.cells();
+    let start = Partition::from_valid_parts(alloc, &[])?;
+    let Some(last) = after else {
+        return Lattice::new(alloc, shape, &start, rows);
+    };
+    match Lattice::resume(alloc, shape, &start, rows, last.as_slice()) {
+        Ok(lattice) => Ok(lattice),
+        Err(ResumeFault::NotInList) => unreachable!(),
+        Err(ResumeFault::NoMemory) => Err(NoMemory),
+    }
+}
+
+/// The lattice tableaux of a shape over another one, from behind the one with this column reading where one is given, which
+/// is one of them. Where the second shape is not contained in the first there are none.
+pub(crate) fn tab(
+    alloc: Global,
+    outer: &Partition,
+    inner: &Partition,
+    after: &Option<Word>,
+) -> Result<Outcome, NoMemory>
+    requires { KeepsLimits (commands.tab outer.now inner.now after.now) }
+    ensures { IsReplyTo (commands.tab outer.now inner.now after.now) result }
+{
+    let Some(shape) = Skew::new(outer.copy()?, inner.copy()?) else {
+        return Ok(told(TableauAnswer::Listed { list: None }));
+    };
+    let lattice = listed(alloc, &shape, outer.rows(), after)?;
+    Ok(told(TableauAnswer::Listed {
+        list: Some(Listing { shape, lattice }),
+    }))
+}
+
+/// Puts what is listed: a line for each tableau, and the line `0` where there is none.
+pub(crate) fn put_listed<K: Sink>(list: &mut Option<Listing>, sink: &mut K) -> bool
+    ensures { Puts K.written K.length K.faults true sink.old result sink.new (listing_text list.old) }
+{
+    match list {
+        None => put_if(true, sink, b"0\n"),
+        Some(list) => put_listing(list, sink),
+    }
+}
+
+/// Puts the lines of the tableaux, or the line `0` where there is none.
+fn put_listing<K: Sink>(list: &mut Listing, sink: &mut K) -> bool
+    ensures { Puts K.written K.length K.faults true sink.old result sink.new
+        (readings_text list.old.shape.0 list.old.shape.1 list.old.lattice.rest) }
+{
+    if !list.lattice.advance() {
+        return put_if(true, sink, b"0\n");
+    }
+    let well = print_reading(&list.shape, list.lattice.current(), sink).is_ok();
+    put_lines(well, &list.shape, &mut list.lattice, sink)
+}
+
+/// Puts a line for each tableau that is still to come, as long as all goes well.
+fn put_lines<K: Sink>(well: bool, shape: &Skew, lattice: &mut Lattice, sink: &mut K) -> bool
+    ensures { Puts K.written K.length K.faults well sink.old result sink.new
+        (flat_map (λ w. tableau_line (filling_of shape.now.0 shape.now.1 w)) lattice.old.rest) }
+{
+    let mut well = well;
+    while well && lattice.advance() {
+        well = print_reading(shape, lattice.current(), sink).is_ok();
+    }
+    well
+}

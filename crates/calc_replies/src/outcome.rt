@@ -1,0 +1,190 @@
+//! What comes of the words of a command, before anything is put.
+ghost use Rattle.std.specs.Prelude.{◌≡◌, ℕ, Some, map, string_bytes};
+ghost use Rattle.sym_model.specs.Command.{Command as PlainCommand};
+ghost use Rattle.sym_model.specs.CommandOffence.{Offence};
+ghost use Rattle.sym_model.specs.Entry.{SpellsWithoutOffence, HasFirstOffence};
+ghost use Rattle.calc_language.specs.BuiltCommands.{command_entries};
+ghost use Rattle.sym_model.specs.SyntaxPlace.{IsSyntaxPlace};
+ghost use Rattle.calc_language.specs.Reading.{command_of, IsWithinItsLimits};
+ghost use Rattle.calc_replies.specs.Computed.{IsReplyTo, RunsNoOther, IsKind, IsTaskOf, IsTaskFor, AcceptsTask, RefusesTask, TaskGoesWrong};
+
+use crate::expanding::expanded;
+use crate::form::Form;
+use crate::tableau_answer::TableauAnswer;
+use crate::{insertion, listing, permutations, products, reductions};
+use calc_base::{NoMemory, WordsFault};
+use calc_language::{Command, read_words};
+use expansion_printer::Answer;
+use schubert_memo::Memo;
+use std::alloc::Global;
+
+/// What comes of the words of a command.
+pub enum Outcome {
+    /// The whole answer, and the form in which it is printed.
+    Answered { answer: Answer, form: Form },
+    /// The words are no command that can be run. The fault is no want of memory.
+    Refused { fault: WordsFault },
+    /// The answer is too large.
+    Large,
+    /// What a command on tableaux answers.
+    Told { lines: TableauAnswer },
+}
+
+// Written out, so that a function that drops an outcome calls this one: its own proof then does not go through all that an
+// answer can hold.
+impl Drop for Outcome {
+    fn drop(self) {
+        match self {
+            Outcome::Answered { answer, form: _ } => drop(answer),
+            Outcome::Refused { fault: _ } => {}
+            Outcome::Large => {}
+            Outcome::Told { lines } => drop(lines),
+        }
+    }
+}
+
+/// What is to be done for the words of a command.
+#[derive(Drop)]
+pub enum Task {
+    /// The lines of the input are to be run.
+    Lines,
+    /// So many lines of the generator are to be run.
+    Workload { lines: u16, seed: u32 },
+    /// What comes of the words is to be put.
+    Put { outcome: Outcome },
+}
+
+/// The outcome that this answer is printed as a block.
+pub(crate) fn as_block(answer: Answer) -> Outcome
+    ensures { result ≡ Outcome.Answered answer Form.Block }
+{
+    Outcome::Answered {
+        answer,
+        form: Form::Block,
+    }
+}
+
+/// What is to be done for the words: the whole answer is there, or why there is none, or lines are to be run.
+pub fn task_of(alloc: Global, words: &[String]) -> Result<Task, NoMemory>
+    ensures computes { IsTaskFor (map string_bytes words.now) result }
+    ensures accepts { (command : PlainCommand) → SpellsWithoutOffence command_entries (map string_bytes words.now) command
+        → AcceptsTask command result }
+    ensures refuses { (offence : Offence) → HasFirstOffence command_entries (map string_bytes words.now) (Some offence)
+        → RefusesTask offence result }
+    ensures goes_wrong { (word byte : ℕ) → IsSyntaxPlace command_entries (map string_bytes words.now) word byte
+        → TaskGoesWrong word byte result }
+{
+    match read_words(alloc, words) {
+        Ok(command) => {
+            let task = task_for(alloc, &command);
+            // By a call, so that the proof does not go through all that a command can hold.
+            drop(command);
+            task
+        }
+        Err(WordsFault::NoMemory) => Err(NoMemory),
+        Err(fault) => Ok(Task::Put {
+            outcome: Outcome::Refused { fault },
+        }),
+    }
+}
+
+/// What is to be done for a command.
+fn task_for(alloc: Global, command: &Command) -> Result<Task, NoMemory>
+    requires { IsWithinItsLimits command.now }
+    ensures { IsTaskOf (command_of command.now) result }
+{
+    match kind_of(command) {
+        Kind::Lines => Ok(Task::Lines),
+        Kind::Workload { lines, seed } => Ok(Task::Workload { lines, seed }),
+        Kind::Alone => match reply_to(alloc, command) {
+            Ok(outcome) => Ok(Task::Put { outcome }),
+            Err(NoMemory) => Err(NoMemory),
+        },
+    }
+}
+
+/// Whether a command runs others.
+#[derive(Clone, Copy, Debug)]
+enum Kind {
+    /// It runs the lines of the input.
+    Lines,
+    /// It runs so many lines of the generator.
+    Workload { lines: u16, seed: u32 },
+    /// It runs no other command.
+    Alone,
+}
+
+/// Whether the command runs others.
+fn kind_of(command: &Command) -> Kind
+    ensures { IsKind (command_of command.now) result }
+{
+    match command {
+        Command::Batch => Kind::Lines,
+        Command::Work { lines, seed } => Kind::Workload {
+            lines: *lines,
+            seed: *seed,
+        },
+        _ => Kind::Alone,
+    }
+}
+
+/// What comes of a command of a line, of which Schubert polynomials are kept.
+pub fn reply_by(alloc: Global, memo: &mut Memo, command: &Command) -> Result<Outcome, NoMemory>
+    requires limits { IsWithinItsLimits command.now }
+    requires alone { RunsNoOther (command_of command.now) }
+    ensures { IsReplyTo (command_of command.now) result }
+{
+    match command {
+        Command::Schubert { perm } => permutations::schubert_by(memo, perm),
+        _ => reply_to(alloc, command),
+    }
+}
+
+/// What comes of a command: its answer, or that this is too large.
+pub fn reply_to(alloc: Global, command: &Command) -> Result<Outcome, NoMemory>
+    requires limits { IsWithinItsLimits command.now }
+    requires alone { RunsNoOther (command_of command.now) }
+    ensures { IsReplyTo (command_of command.now) result }
+{
+    match command {
+        Command::Mult {
+            rows,
+            one_line,
+            factors,
+        } => products::mult(alloc, *rows, *one_line, factors),
+        Command::Skew {
+            rows,
+            one_line,
+            outer,
+            inner,
+        } => products::skew(alloc, *rows, *one_line, outer, inner),
+        Command::Coef { outer, left, right } => products::coef(alloc, outer, left, right),
+        Command::Coprod { shape } => products::coprod(alloc, shape),
+        Command::Quantum {
+            rows,
+            cols,
+            factors,
+        } => reductions::quantum(alloc, *rows, *cols, factors),
+        Command::Fusion {
+            rows,
+            level,
+            factors,
+        } => reductions::fusion(alloc, *rows, *level, factors),
+        Command::Schubert { perm } => permutations::schubert(alloc, perm),
+        Command::Schubmult { left, right } => permutations::schubmult(alloc, left, right),
+        Command::Tab {
+            outer,
+            inner,
+            after,
+        } => listing::tab(alloc, outer, inner, after),
+        Command::Expand {
+            target,
+            one_line,
+            formula,
+        } => expanded(alloc, *target, *one_line, formula),
+        Command::Rsk { letters } => insertion::rsk(alloc, letters),
+        Command::Unrsk { pair } => insertion::unrsk(alloc, pair),
+        Command::Rect { tableau } => insertion::rect(tableau),
+        Command::Batch | Command::Work { .. } => unreachable!(),
+    }
+}

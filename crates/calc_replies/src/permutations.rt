@@ -1,0 +1,46 @@
+//! The answers to `schubert` and `schubmult`.
+ghost use Rattle.sym_model.specs.Command as commands;
+ghost use Rattle.calc_words.specs.WrittenLimits.{KeepsLimits};
+ghost use Rattle.calc_replies.specs.Computed.{IsReplyTo};
+
+use crate::outcome::{Outcome, as_block};
+use calc_base::{NoMemory, SumFault};
+use expansion_printer::Answer;
+use perm_codes::Perm;
+use schubert_memo::Memo;
+use schubert_transition::schubert_terms;
+use std::alloc::Global;
+
+/// The Schubert polynomial of a permutation.
+pub(crate) fn schubert(alloc: Global, perm: &Perm) -> Result<Outcome, NoMemory>
+    ensures { IsReplyTo (commands.schubert perm.now) result }
+{
+    match schubert_terms(alloc, perm) {
+        Ok(terms) => Ok(as_block(Answer::Polynomial { terms })),
+        Err(SumFault::Large) => Ok(Outcome::Large),
+        Err(SumFault::NoMemory) => Err(NoMemory),
+    }
+}
+
+/// The Schubert polynomial of a permutation, which may be kept already.
+pub(crate) fn schubert_by(memo: &mut Memo, perm: &Perm) -> Result<Outcome, NoMemory>
+    ensures { IsReplyTo (commands.schubert perm.now) result }
+{
+    match memo.schubert_terms(perm) {
+        Ok(terms) => Ok(as_block(Answer::Polynomial { terms })),
+        Err(SumFault::Large) => Ok(Outcome::Large),
+        Err(SumFault::NoMemory) => Err(NoMemory),
+    }
+}
+
+/// The product of two Schubert polynomials.
+pub(crate) fn schubmult(alloc: Global, left: &Perm, right: &Perm) -> Result<Outcome, NoMemory>
+    requires { KeepsLimits (commands.schubmult left.now right.now) }
+    ensures { IsReplyTo (commands.schubmult left.now right.now) result }
+{
+    match monk_product::schubmult(alloc, left, right) {
+        Ok(terms) => Ok(as_block(Answer::Permutations { terms })),
+        Err(SumFault::Large) => Ok(Outcome::Large),
+        Err(SumFault::NoMemory) => Err(NoMemory),
+    }
+}

@@ -1,0 +1,63 @@
+//! What the commands on tableaux answer, and how it is put.
+ghost use Rattle.std.specs.Prelude.{◌≡◌, true};
+ghost use Rattle.calc_base.specs.Puts.{Puts};
+ghost use Rattle.sym_model.specs.TableauText.{tableau_line, pair_text};
+ghost use Rattle.calc_replies.specs.Computed.{lines_text};
+
+use crate::listing::{Listing, put_listed};
+use crate::outcome::Outcome;
+use calc_base::{Sink, Word, put_if};
+use expansion_printer::{print_letters, print_tableau};
+use skew_shapes::{Standard, Tableau};
+
+/// What a command on tableaux answers, which names no expansion.
+#[derive(Drop)]
+pub enum TableauAnswer {
+    /// The tableaux that are listed; none where the shape is no skew shape.
+    Listed { list: Option<Listing> },
+    /// The insertion tableau and the recording tableau of a word.
+    Paired { p: Tableau, q: Standard },
+    /// The letters of a word.
+    Spelled { word: Word },
+    /// A tableau of a straight shape.
+    Straight { tableau: Tableau },
+}
+
+/// The outcome that this is put.
+pub(crate) fn told(lines: TableauAnswer) -> Outcome
+    ensures { result ≡ Outcome.Told lines }
+{
+    Outcome::Told { lines }
+}
+
+/// Puts the lines.
+pub(crate) fn put_told<K: Sink>(lines: &mut TableauAnswer, sink: &mut K) -> bool
+    ensures { Puts K.written K.length K.faults true sink.old result sink.new (lines_text lines.old) }
+{
+    match lines {
+        TableauAnswer::Listed { list } => put_listed(list, sink),
+        TableauAnswer::Paired { p, q } => put_pair(p, q.tableau(), sink),
+        TableauAnswer::Spelled { word } => print_letters(word.as_slice(), sink).is_ok(),
+        TableauAnswer::Straight { tableau } => put_tableau(true, tableau, sink),
+    }
+}
+
+/// Puts the lines of two tableaux, with their names in front.
+fn put_pair<K: Sink>(p: &Tableau, q: &Tableau, sink: &mut K) -> bool
+    ensures { Puts K.written K.length K.faults true sink.old result sink.new (pair_text p.now.rows q.now.rows) }
+{
+    let first = put_if(true, sink, b"P ");
+    let upper = put_tableau(first, p, sink);
+    let second = put_if(upper, sink, b"Q ");
+    put_tableau(second, q, sink)
+}
+
+/// Puts the line of a tableau, where all went well so far.
+fn put_tableau<K: Sink>(well: bool, tableau: &Tableau, sink: &mut K) -> bool
+    ensures { Puts K.written K.length K.faults well sink.old result sink.new (tableau_line tableau.now.rows) }
+{
+    if !well {
+        return false;
+    }
+    print_tableau(tableau, sink).is_ok()
+}
