@@ -32,6 +32,3 @@ pub use std_out::StdOut;
 pub use word::Word;
 pub use words::{Basis, Place, Weight, WordsFault};
 pub use writing::{finish_if, put_if, put_result};
-
-#[cfg(test)]
-mod tests;

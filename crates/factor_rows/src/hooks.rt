@@ -8,8 +8,8 @@ use std::alloc::Global;
 
 /// Prints the rows of the crate `hook_lists`.
 pub fn print(rt: &(impl Print + Alloc<A = Global>)) -> Result<()> {
-    added(rt, one_cell_with_two(rt.alloc())?)?;
-    removed(rt, hook_without_three(rt.alloc())?)
+    added(rt, &mut one_cell_with_two(rt.alloc())?)?;
+    removed(rt, &mut hook_without_three(rt.alloc())?)
 }
 
 fn one_cell_with_two(alloc: Global) -> Result<HooksAdded> {
@@ -23,8 +23,7 @@ fn hook_without_three(alloc: Global) -> Result<HooksRemoved> {
 }
 
 /// Prints at most a hundred partitions with the heights of the rim hooks put on.
-fn added(rt: &impl Print, list: HooksAdded) -> Result<()> {
-    let mut list = list;
+fn added(rt: &impl Print, list: &mut HooksAdded) -> Result<()> {
     for _ in 0..100u16 {
         if list.advance() {
             let height = list.height();
@@ -35,8 +34,7 @@ fn added(rt: &impl Print, list: HooksAdded) -> Result<()> {
 }
 
 /// Prints at most a hundred partitions with the heights of the rim hooks taken.
-fn removed(rt: &impl Print, list: HooksRemoved) -> Result<()> {
-    let mut list = list;
+fn removed(rt: &impl Print, list: &mut HooksRemoved) -> Result<()> {
     for _ in 0..100u16 {
         if list.advance() {
             let height = list.height();

@@ -3,7 +3,7 @@ use anyhow::Result;
 use coeff_rings::Int;
 use monomial_polys::{Monomial, Poly};
 use perm_codes::Perm;
-use row_texts::label;
+use row_texts::{end, said, start, term};
 use schubert_memo::Memo;
 use sparse_polys::Terms;
 use std::alloc::Global;
@@ -12,41 +12,44 @@ use std::alloc::Global;
 pub fn print(rt: &(impl Print + Alloc<A = Global>)) -> Result<()> {
     let w = Perm::from_letters(rt.alloc(), &[1, 3, 2])?;
     let v = Perm::from_letters(rt.alloc(), &[2, 1])?;
-    let memo = Memo::new(rt.alloc(), 1)?;
-    asked(rt, memo, &w, &v)
+    with_both(rt, &w, &v)
+}
+
+fn with_both(rt: &(impl Print + Alloc<A = Global>), w: &Perm, v: &Perm) -> Result<()> {
+    let mut memo = Memo::new(rt.alloc(), 1)?;
+    asked(rt, &mut memo, w, v)
 }
 
 /// Prints what a store answers on two permutations.
-fn asked(rt: &impl Print, memo: Memo, w: &Perm, v: &Perm) -> Result<()> {
-    let mut memo = memo;
-    polynomial(rt, "S_(1,3,2)", memo.schubert(w)?)?;
-    polynomial(rt, "S_(1,3,2) again", memo.schubert(w)?)?;
+fn asked(rt: &impl Print, memo: &mut Memo, w: &Perm, v: &Perm) -> Result<()> {
+    answered(rt, "S_(1,3,2)", memo, w)?;
+    answered(rt, "S_(1,3,2) again", memo, w)?;
     held(rt, memo.kept(w))?;
-    polynomial(rt, "S_(2,1)", memo.schubert(v)?)?;
+    answered(rt, "S_(2,1)", memo, v)?;
     held(rt, memo.kept(w))
+}
+
+fn answered(rt: &impl Print, what: &str, memo: &mut Memo, w: &Perm) -> Result<()> {
+    polynomial(rt, what, memo.schubert(w)?)
 }
 
 fn held(rt: &impl Print, answer: Option<&Poly<Int>>) -> Result<()> {
     match answer {
         Some(list) => polynomial(rt, "kept S_(1,3,2)", list.copy()?),
-        None => Ok(println!(rt; "kept S_(1,3,2): none")?),
+        None => said(rt, "kept S_(1,3,2)", &"none"),
     }
 }
 
 fn polynomial(rt: &impl Print, what: &str, list: Poly<Int>) -> Result<()> {
-    terms(rt, what, list.sorted_terms()?)
+    let sorted = list.sorted_terms()?;
+    terms(rt, what, &sorted)
 }
 
 /// Prints the terms by their exponents.
-fn terms(rt: &impl Print, what: &str, list: Terms<Monomial, Int>) -> Result<()> {
-    print!(rt; "{what}:")?;
+fn terms(rt: &impl Print, what: &str, list: &Terms<Monomial, Int>) -> Result<()> {
+    start(rt, what)?;
     for (monomial, c) in list.iter() {
-        term(rt, monomial, *c)?;
+        term(rt, &c.get(), monomial.exponents())?;
     }
-    Ok(println!(rt)?)
-}
-
-fn term(rt: &impl Print, monomial: &Monomial, c: Int) -> Result<()> {
-    print!(rt; "  {} ", c.get())?;
-    label(rt, monomial.exponents())
+    end(rt)
 }

@@ -5,7 +5,7 @@ ghost use Rattle.strip_rules.specs.Room.{HasRoom};
 use anyhow::Result;
 use coeff_rings::Int;
 use partitions::Partition;
-use row_texts::label;
+use row_texts::{end, start, term};
 use sparse_polys::{Lin, Terms};
 use std::alloc::Global;
 use strip_rules::{add_column, add_hook, add_row};
@@ -42,19 +42,15 @@ fn one_cell(alloc: Global) -> Result<Expansion>
 }
 
 fn sum(rt: &impl Print, what: &str, list: Expansion) -> Result<()> {
-    terms(rt, what, list.sorted_terms()?)
+    let sorted = list.sorted_terms()?;
+    terms(rt, what, &sorted)
 }
 
 /// Prints the terms in their order.
-pub fn terms(rt: &impl Print, what: &str, list: Terms<Partition, Int>) -> Result<()> {
-    print!(rt; "{what}:")?;
+fn terms(rt: &impl Print, what: &str, list: &Terms<Partition, Int>) -> Result<()> {
+    start(rt, what)?;
     for (shape, c) in list.iter() {
-        term(rt, shape, *c)?;
+        term(rt, &c.get(), shape.parts())?;
     }
-    Ok(println!(rt)?)
-}
-
-fn term(rt: &impl Print, shape: &Partition, c: Int) -> Result<()> {
-    print!(rt; "  {} ", c.get())?;
-    label(rt, shape.parts())
+    end(rt)
 }

@@ -1,6 +1,7 @@
 //! Rows of the scalars: what is computed, and the answer's decimal text, or `none`.
 use anyhow::Result;
 use coeff_rings::{Count, Digits, Field, Frac, Int, Ring, Scalar};
+use row_texts::said;
 
 const MAX: i128 = i128::MAX;
 
@@ -17,80 +18,93 @@ pub fn print(rt: &impl Print) -> Result<()> {
 }
 
 fn whole_numbers(rt: &impl Print) -> Result<()> {
-    row(
+    rows(
         rt,
-        "the greatest i128 plus 1",
-        Int::new(MAX).add(Int::one()),
-    )?;
-    row(
-        rt,
-        "the least i128 plus the greatest",
-        Int::new(MIN).add(Int::new(MAX)),
-    )?;
-    row(rt, "the least i128 negated", Int::new(MIN).neg())?;
-    row(rt, "0 less 7", Int::zero().sub(Int::new(7)))?;
-    row(rt, "the least i128 less 1", Int::new(MIN).sub(Int::one()))?;
-    row(
-        rt,
-        "the least i128 times -1",
-        Int::new(MIN).mul(Int::new(-1)),
-    )?;
-    row(rt, "-6 times 7", Int::new(-6).mul(Int::from_whole(7)))
+        &[
+            ("the greatest i128 plus 1", Int::new(MAX).add(Int::one())),
+            (
+                "the least i128 plus the greatest",
+                Int::new(MIN).add(Int::new(MAX)),
+            ),
+            ("the least i128 negated", Int::new(MIN).neg()),
+            ("0 less 7", Int::zero().sub(Int::new(7))),
+            ("the least i128 less 1", Int::new(MIN).sub(Int::one())),
+            ("the least i128 times -1", Int::new(MIN).mul(Int::new(-1))),
+            ("-6 times 7", Int::new(-6).mul(Int::from_whole(7))),
+        ],
+    )
 }
 
 fn counts(rt: &impl Print) -> Result<()> {
     let last = Count::new(u128::MAX);
-    row(rt, "the greatest u128 plus 0", last.add(Count::zero()))?;
-    row(rt, "the greatest u128 plus 1", last.add(Count::one()))?;
     let high = Count::new(1 << 64);
-    row(rt, "2^64 times 2^64", high.mul(high))?;
-    row(rt, "12 times 12", Count::new(12).mul(Count::new(12)))
+    rows(
+        rt,
+        &[
+            ("the greatest u128 plus 0", last.add(Count::zero())),
+            ("the greatest u128 plus 1", last.add(Count::one())),
+            ("2^64 times 2^64", high.mul(high)),
+            ("12 times 12", Count::new(12).mul(Count::new(12))),
+        ],
+    )
 }
 
 fn fractions(rt: &impl Print) -> Result<()> {
-    row(rt, "2/-4", Frac::new(2, -4))?;
-    row(rt, "1/0", Frac::new(1, 0))?;
-    row(rt, "0 over the least i128", Frac::new(0, MIN))?;
-    row(rt, "the least i128 over itself", Frac::new(MIN, MIN))?;
-    row(rt, "the least i128 over -1", Frac::new(MIN, -1))?;
-    row(rt, "1 over the least i128", Frac::new(1, MIN))?;
-    row(rt, "-1/3 negated", neg(Frac::new(-1, 3)))?;
-    row(rt, "the least i128 over 3, negated", neg(Frac::new(MIN, 3)))
+    rows(
+        rt,
+        &[
+            ("2/-4", Frac::new(2, -4)),
+            ("1/0", Frac::new(1, 0)),
+            ("0 over the least i128", Frac::new(0, MIN)),
+            ("the least i128 over itself", Frac::new(MIN, MIN)),
+            ("the least i128 over -1", Frac::new(MIN, -1)),
+            ("1 over the least i128", Frac::new(1, MIN)),
+            ("-1/3 negated", neg(Frac::new(-1, 3))),
+            ("the least i128 over 3, negated", neg(Frac::new(MIN, 3))),
+        ],
+    )
 }
 
 fn sums_of_fractions(rt: &impl Print) -> Result<()> {
-    row(rt, "1/6 plus 1/3", sum((1, 6), (1, 3)))?;
-    row(rt, "1/6 less 1/3", difference((1, 6), (1, 3)))?;
-    row(rt, "5/1 plus -7/1", sum((5, 1), (-7, 1)))?;
-    row(rt, "the least i128 plus 0", sum((MIN, 1), (0, 1)))?;
-    row(rt, "0 less the least i128", difference((0, 1), (MIN, 1)))?;
-    // Each of these is a fraction that fits, and one of the four numbers on the way to it does not.
-    row(
-        rt,
-        "the greatest over 2 less the greatest over 3",
-        difference((MAX, 2), (MAX, 3)),
-    )?;
-    row(rt, "the greatest over 2 twice", sum((MAX, 2), (MAX, 2)))?;
     let left = (253, 127 << 120);
     let right = (10466362171534770652785882364411913, 125 << 120);
-    row(rt, "a common denominator past the limit", sum(left, right))
+    rows(
+        rt,
+        &[
+            ("1/6 plus 1/3", sum((1, 6), (1, 3))),
+            ("1/6 less 1/3", difference((1, 6), (1, 3))),
+            ("5/1 plus -7/1", sum((5, 1), (-7, 1))),
+            ("the least i128 plus 0", sum((MIN, 1), (0, 1))),
+            ("0 less the least i128", difference((0, 1), (MIN, 1))),
+            // Each of these is a fraction that fits, and one of the four numbers on the way to it does not.
+            (
+                "the greatest over 2 less the greatest over 3",
+                difference((MAX, 2), (MAX, 3)),
+            ),
+            ("the greatest over 2 twice", sum((MAX, 2), (MAX, 2))),
+            ("a common denominator past the limit", sum(left, right)),
+        ],
+    )
 }
 
 fn products_of_fractions(rt: &impl Print) -> Result<()> {
-    row(rt, "-4/9 times 3/8", product((-4, 9), (3, 8)))?;
-    row(
+    rows(
         rt,
-        "the least over 3 times 3 over 2^126",
-        product((MIN, 3), (3, 1 << 126)),
-    )?;
-    row(
-        rt,
-        "1 over 2^64 times 1 over 2^63",
-        product((1, 1 << 64), (1, 1 << 63)),
-    )?;
-    row(rt, "1/3 over -2/9", quotient((1, 3), (-2, 9)))?;
-    row(rt, "1 over the least", quotient((1, 1), (MIN, 1)))?;
-    row(rt, "the least over the least", quotient((MIN, 1), (MIN, 1)))
+        &[
+            ("-4/9 times 3/8", product((-4, 9), (3, 8))),
+            (
+                "the least over 3 times 3 over 2^126",
+                product((MIN, 3), (3, 1 << 126)),
+            ),
+            (
+                "1 over 2^64 times 1 over 2^63",
+                product((1, 1 << 64), (1, 1 << 63)),
+            ),
+            ("1/3 over -2/9", quotient((1, 3), (-2, 9))),
+            ("1 over the least", quotient((1, 1), (MIN, 1))),
+            ("the least over the least", quotient((MIN, 1), (MIN, 1))),
+        ],
+    )
 }
 
 fn texts(rt: &impl Print) -> Result<()> {
@@ -128,14 +142,20 @@ fn quotient(a: Numbers, b: Numbers) -> Option<Frac> {
     Frac::new(a.0, a.1)?.div(divisor)
 }
 
+/// Prints for each what is computed and the answer.
+fn rows<S: Scalar>(rt: &impl Print, list: &[(&str, Option<S>)]) -> Result<()> {
+    for (what, answer) in list {
+        row(rt, what, *answer)?;
+    }
+    Ok(())
+}
+
 /// Prints what is computed and the answer.
 fn row<S: Scalar>(rt: &impl Print, what: &str, answer: Option<S>) -> Result<()> {
     let Some(value) = answer else {
-        println!(rt; "{what}: none")?;
-        return Ok(());
+        return said(rt, what, &"none");
     };
     let mut digits = Digits::new();
     value.digits(&mut digits);
-    println!(rt; "{what}: {}", str::from_utf8(digits.as_bytes())?)?;
-    Ok(())
+    said(rt, what, &str::from_utf8(digits.as_bytes())?)
 }

@@ -3,7 +3,7 @@ use anyhow::Result;
 use calc_base::{Lister, SumFault};
 use coeff_rings::{Int, Ring, Scalar};
 use partitions::{Partition, PartitionsOf};
-use row_texts::{label, truth};
+use row_texts::{end, said, start, term, truth};
 use sparse_polys::{Lin, Terms};
 use std::alloc::Global;
 
@@ -11,90 +11,109 @@ type Table = Lin<Partition, Int>;
 
 /// Prints the rows of the crate `sparse_polys`.
 pub fn print(rt: &(impl Print + Alloc<A = Global>)) -> Result<()> {
+    let alloc = rt.alloc();
     refused_sum(rt)?;
-    cancelled(rt)?;
-    sums_and_multiples(rt)?;
+    terms(rt, "1 less 1 at (1)", table_of(alloc, &[(1, 1), (1, -1)])?)?;
+    terms(rt, "the sum of (1) and (2)", sum(alloc)?)?;
+    terms(rt, "and 3 times that", sum(alloc)?.scale(Int::new(3))?)?;
     copied(rt)?;
     past_the_limit(rt)?;
-    a_thousand_terms(rt)
+    many_terms(rt)
 }
 
 fn refused_sum(rt: &(impl Print + Alloc<A = Global>)) -> Result<()> {
     let mut table = table_of(rt.alloc(), &[(1, i128::MAX)])?;
-    let answer = table.add_term(one_row(rt.alloc(), 1)?, Int::new(1));
-    told(rt, "1 more at (1)", answer)?;
+    one_more(rt, &mut table)?;
     terms(rt, "and the table is still", table)
 }
 
-fn cancelled(rt: &(impl Print + Alloc<A = Global>)) -> Result<()> {
-    let mut table = table_of(rt.alloc(), &[(1, 1)])?;
-    table.add_term(one_row(rt.alloc(), 1)?, Int::new(-1))?;
-    terms(rt, "1 less 1 at (1)", table)
+fn one_more(rt: &(impl Print + Alloc<A = Global>), table: &mut Table) -> Result<()> {
+    let shape = one_row(rt.alloc(), 1)?;
+    told(rt, "1 more at (1)", table.add_term(shape, Int::new(1)))
 }
 
-fn sums_and_multiples(rt: &(impl Print + Alloc<A = Global>)) -> Result<()> {
-    let sum = table_of(rt.alloc(), &[(1, 1)])?.add_all(&table_of(rt.alloc(), &[(2, 1)])?)?;
-    terms(rt, "the sum of (1) and (2)", sum.copy()?)?;
-    terms(rt, "and 3 times that", sum.scale(Int::new(3))?)
+fn sum(alloc: Global) -> Result<Table> {
+    let one = table_of(alloc, &[(1, 1)])?;
+    let two = table_of(alloc, &[(2, 1)])?;
+    Ok(one.add_all(&two)?)
 }
 
 fn copied(rt: &(impl Print + Alloc<A = Global>)) -> Result<()> {
     let table = table_of(rt.alloc(), &[(2, 1), (1, 3)])?;
-    let sum = total(&table);
     terms(rt, "a copy", table.copy()?)?;
+    let sum = total(&table);
     truth(rt, "its coefficients add up to 4", sum == Some(Int::new(4)))
 }
 
 fn past_the_limit(rt: &(impl Print + Alloc<A = Global>)) -> Result<()> {
-    let large = table_of(rt.alloc(), &[(1, i128::MAX), (2, 1)])?;
-    let one = table_of(rt.alloc(), &[(1, 1)])?;
-    told(
-        rt,
-        "1 more at (1) by a table",
-        large.copy()?.add_all(&one).map(|_| ()),
-    )?;
-    told(
-        rt,
-        "2 times the greatest",
-        large.copy()?.scale(Int::new(2)).map(|_| ()),
-    )?;
-    terms(rt, "0 times the greatest", large.scale(Int::zero())?)
+    let alloc = rt.alloc();
+    told(rt, "1 more at (1) by a table", one_more_by_a_table(alloc))?;
+    told(rt, "2 times the greatest", times(alloc, Int::new(2)))?;
+    terms(rt, "0 times the greatest", times(alloc, Int::zero())?)
 }
 
-fn a_thousand_terms(rt: &(impl Print + Alloc<A = Global>)) -> Result<()> {
+/// A table with the greatest coefficient.
+fn greatest(alloc: Global) -> Result<Table, SumFault> {
+    table_of(alloc, &[(1, i128::MAX), (2, 1)])
+}
+
+fn one_more_by_a_table(alloc: Global) -> Result<Table, SumFault> {
+    let one = table_of(alloc, &[(1, 1)])?;
+    greatest(alloc)?.add_all(&one)
+}
+
+fn times(alloc: Global, c: Int) -> Result<Table, SumFault> {
+    greatest(alloc)?.scale(c)
+}
+
+fn many_terms(rt: &(impl Print + Alloc<A = Global>)) -> Result<()> {
     let table = places(rt.alloc())?;
     truth(rt, "a table of 1002 terms", table.len() == 1002)?;
-    let doubled = table.copy()?.add_all(&table)?;
-    truth(rt, "its double has 1002", doubled.len() == 1002)?;
-    let sorted = doubled.scale(Int::new(5))?.sorted_terms()?;
-    truth(
-        rt,
-        "10 times the table is in order with its places",
-        has_places(sorted, Int::new(10)),
-    )
+    doubled(rt, twice(&table)?)
+}
+
+fn twice(table: &Table) -> Result<Table, SumFault> {
+    table.copy()?.add_all(table)
+}
+
+fn doubled(rt: &impl Print, table: Table) -> Result<()> {
+    truth(rt, "its double has 1002", table.len() == 1002)?;
+    let sorted = sorted(table)?;
+    let what = "10 times the table is in order with its places";
+    truth(rt, what, has_places(&sorted, Int::new(10)))
+}
+
+/// The terms of a table times 5.
+fn sorted(table: Table) -> Result<Terms<Partition, Int>, SumFault> {
+    Ok(table.scale(Int::new(5))?.sorted_terms()?)
 }
 
 /// The table of the partitions of 22, of which there are 1,002, with their places as coefficients.
 fn places(alloc: Global) -> Result<Table> {
     let mut table = Lin::new(alloc);
     let mut list = PartitionsOf::new(alloc, 22)?;
+    add_places(alloc, &mut list, &mut table)?;
+    Ok(table)
+}
+
+fn add_places(alloc: Global, list: &mut PartitionsOf, table: &mut Table) -> Result<()> {
     for place in 1..1100u16 {
         if list.advance() {
             let shape = Partition::from_parts(alloc, list.current())?;
             table.add_term(shape, Int::from_whole(i128::from(place)))?;
         }
     }
-    Ok(table)
+    Ok(())
 }
 
 /// Whether the coefficient of each term is its place, counted from 1, times a factor.
-fn has_places(terms: Terms<Partition, Int>, factor: Int) -> bool {
+fn has_places(terms: &Terms<Partition, Int>, factor: Int) -> bool {
     let mut place = Int::zero();
-    for (_shape, c) in terms {
+    for (_, c) in terms.iter() {
         let Some(next) = place.add(factor) else {
             return false;
         };
-        if c != next {
+        if *c != next {
             return false;
         }
         place = next;
@@ -111,12 +130,16 @@ fn total(table: &Table) -> Option<Int> {
     Some(total)
 }
 
-fn one_row(alloc: Global, cells: u16) -> Result<Partition> {
-    Ok(Partition::from_parts(alloc, &[cells])?)
+/// A partition of one row. So few cells as here are refused only where memory is.
+fn one_row(alloc: Global, cells: u16) -> Result<Partition, SumFault> {
+    match Partition::from_parts(alloc, &[cells]) {
+        Ok(shape) => Ok(shape),
+        Err(_) => Err(SumFault::NoMemory),
+    }
 }
 
-/// The table with these coefficients at partitions of one row.
-fn table_of(alloc: Global, terms: &[(u16, i128)]) -> Result<Table> {
+/// The sum of these terms at partitions of one row.
+fn table_of(alloc: Global, terms: &[(u16, i128)]) -> Result<Table, SumFault> {
     let mut table = Lin::new(alloc);
     for (cells, c) in terms {
         table.add_term(one_row(alloc, *cells)?, Int::new(*c))?;
@@ -127,22 +150,17 @@ fn table_of(alloc: Global, terms: &[(u16, i128)]) -> Result<Table> {
 /// Prints the terms in their order.
 fn terms(rt: &impl Print, what: &str, table: Table) -> Result<()> {
     let sorted = table.sorted_terms()?;
-    print!(rt; "{what}:")?;
+    start(rt, what)?;
     for (shape, c) in sorted.iter() {
-        term(rt, shape, *c)?;
+        term(rt, &c.get(), shape.parts())?;
     }
-    Ok(println!(rt)?)
-}
-
-fn term(rt: &impl Print, shape: &Partition, c: Int) -> Result<()> {
-    print!(rt; "  {} ", c.get())?;
-    label(rt, shape.parts())
+    end(rt)
 }
 
 /// Prints how a call ended.
-fn told(rt: &impl Print, what: &str, answer: Result<(), SumFault>) -> Result<()> {
+fn told<T: Drop>(rt: &impl Print, what: &str, answer: Result<T, SumFault>) -> Result<()> {
     match answer {
-        Ok(()) => Ok(println!(rt; "{what}: done")?),
-        Err(fault) => Ok(println!(rt; "{what}: {fault}")?),
+        Ok(_) => said(rt, what, &"done"),
+        Err(fault) => said(rt, what, &fault),
     }
 }

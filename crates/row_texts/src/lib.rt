@@ -1,26 +1,64 @@
 //! Lines of the programs that print rows of library calls.
+//!
+//! To print what is computed is dear to prove, and so is a function with several values that are let go and several `?`. So the
+//! printing is done here, and a list of answers goes to one call.
 #![tactic(auto)]
 
 use anyhow::Result;
+use std::fmt::Display;
+
+/// Prints a line with an answer.
+pub fn said<T: Display>(rt: &impl Print, what: &str, answer: &T) -> Result<()> {
+    Ok(println!(rt; "{what}: {answer}")?)
+}
+
+/// Prints a line for each answer.
+pub fn each_said<T: Display>(rt: &impl Print, rows: &[(&str, T)]) -> Result<()> {
+    for (what, answer) in rows {
+        said(rt, what, answer)?;
+    }
+    Ok(())
+}
 
 /// Prints a line with yes or no.
 pub fn truth(rt: &impl Print, what: &str, answer: bool) -> Result<()> {
-    Ok(println!(rt; "{what}: {}", if answer { "yes" } else { "no" })?)
+    said(rt, what, &if answer { "yes" } else { "no" })
+}
+
+/// Prints a line with a text of bytes in quotes.
+pub fn text(rt: &impl Print, what: &str, bytes: &[u8]) -> Result<()> {
+    Ok(println!(rt; "{what}: \"{}\"", str::from_utf8(bytes)?)?)
 }
 
 /// Prints a line with numbers in brackets.
-pub fn line(rt: &impl Print, what: &str, parts: &[u16]) -> Result<()> {
+pub fn line<T: Display>(rt: &impl Print, what: &str, parts: &[T]) -> Result<()> {
     print!(rt; "{what}: ")?;
     label(rt, parts)?;
-    Ok(println!(rt)?)
+    end(rt)
 }
 
 /// Prints numbers in brackets.
-pub fn label(rt: &impl Print, parts: &[u16]) -> Result<()> {
+pub fn label<T: Display>(rt: &impl Print, parts: &[T]) -> Result<()> {
     print!(rt; "(")?;
     for (at, part) in parts.iter().enumerate() {
         let comma = if at == 0 { "" } else { "," };
         print!(rt; "{comma}{part}")?;
     }
     Ok(print!(rt; ")")?)
+}
+
+/// Begins a line of terms.
+pub fn start(rt: &impl Print, what: &str) -> Result<()> {
+    Ok(print!(rt; "{what}:")?)
+}
+
+/// Prints a term of a line: its coefficient, and its label in brackets.
+pub fn term<C: Display, T: Display>(rt: &impl Print, c: &C, parts: &[T]) -> Result<()> {
+    print!(rt; "  {c} ")?;
+    label(rt, parts)
+}
+
+/// Ends a line.
+pub fn end(rt: &impl Print) -> Result<()> {
+    Ok(println!(rt)?)
 }

@@ -3,9 +3,10 @@
 #![tactic(auto)]
 
 mod listed;
-mod moved;
+mod made;
+mod shapes;
 
 fn main(rt: HostRuntime) -> anyhow::Result<()> {
     listed::print(&rt)?;
-    moved::print(&rt)
+    made::print(&rt)
 }

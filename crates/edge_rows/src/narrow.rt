@@ -1,0 +1,79 @@
+//! A reader and a writer that go a byte at a time and fail at chosen calls.
+use std::io;
+use std::io::{ErrorKind, Read, Write};
+
+/// Gives a byte, fails, gives a byte, and is at its end.
+#[derive(Drop)]
+pub struct NarrowReader {
+    reads: u8,
+}
+
+impl NarrowReader {
+    /// A reader before its first call.
+    pub fn new() -> NarrowReader {
+        NarrowReader { reads: 0 }
+    }
+}
+
+impl Read for NarrowReader {
+    fn read(&mut self, buf: &mut [u8]) -> io::Result<usize> {
+        self.reads = self.reads.saturating_add(1);
+        if self.reads == 2 {
+            return Err(io::Error::from(ErrorKind::Other));
+        }
+        if self.reads > 3 || buf.is_empty() {
+            return Ok(0);
+        }
+        buf[0] = if self.reads == 1 { b'b' } else { b'd' };
+        Ok(1)
+    }
+}
+
+/// Takes a byte at a time but at the fifth write, which fails, and at the seventh, which takes nothing. The second flush fails.
+#[derive(Drop)]
+pub struct NarrowWriter {
+    taken: [u8; 8],
+    count: usize,
+    writes: u8,
+    flushes: u8,
+}
+
+impl NarrowWriter {
+    /// A writer before its first call.
+    pub fn new() -> NarrowWriter {
+        NarrowWriter {
+            taken: [0; 8],
+            count: 0,
+            writes: 0,
+            flushes: 0,
+        }
+    }
+
+    /// What was written.
+    pub fn taken(&self) -> &[u8] {
+        &self.taken[..self.count.min(8)]
+    }
+}
+
+impl Write for NarrowWriter {
+    fn write(&mut self, buf: &[u8]) -> io::Result<usize> {
+        self.writes = self.writes.saturating_add(1);
+        if self.writes == 5 {
+            return Err(io::Error::from(ErrorKind::Other));
+        }
+        if self.writes == 7 || buf.is_empty() || self.count >= 8 {
+            return Ok(0);
+        }
+        self.taken[self.count] = buf[0];
+        self.count += 1;
+        Ok(1)
+    }
+
+    fn flush(&mut self) -> io::Result<()> {
+        self.flushes = self.flushes.saturating_add(1);
+        if self.flushes == 2 {
+            return Err(io::Error::from(ErrorKind::Other));
+        }
+        Ok(())
+    }
+}

@@ -1,0 +1,77 @@
+//! Rows of sinks: how each call ends, and what stands there.
+use crate::narrow::NarrowWriter;
+use anyhow::Result;
+use calc_base::{CountSink, FixedSink, MemSink, Sink, StdOut};
+use row_texts::text;
+use std::alloc::Global;
+
+/// Prints the rows of sinks in memory, in a buffer, without bytes and over a writer.
+pub fn print(rt: &(impl Print + Alloc<A = Global>)) -> Result<()> {
+    in_memory(
+        rt,
+        MemSink::new(rt.alloc(), 8, &[1])?,
+        &["ab", "cd", "efghijk"],
+    )?;
+    in_memory(rt, MemSink::new(rt.alloc(), 8, &[1])?, &["ab"])?;
+    in_a_buffer(rt, &mut [0; 3])?;
+    counted(rt)?;
+    written(rt)
+}
+
+fn in_memory(rt: &impl Print, sink: MemSink, pieces: &[&str]) -> Result<()> {
+    let mut sink = sink;
+    put_each(rt, &mut sink, pieces)?;
+    stands(rt, sink.bytes(), sink.faults())
+}
+
+fn in_a_buffer(rt: &impl Print, buffer: &mut [u8]) -> Result<()> {
+    let mut sink = FixedSink::new(buffer);
+    put_each(rt, &mut sink, &["ab", "cd"])?;
+    stands(rt, sink.bytes(), sink.faults())
+}
+
+fn counted(rt: &impl Print) -> Result<()> {
+    let mut sink = CountSink::new();
+    put_each(rt, &mut sink, &["ab", "", "cd"])?;
+    Ok(println!(rt; "counted: {}", sink.count())?)
+}
+
+fn written(rt: &impl Print) -> Result<()> {
+    let mut writer = NarrowWriter::new();
+    put_and_finish_twice(rt, StdOut::new(&mut writer))?;
+    text(rt, "written", writer.taken())
+}
+
+fn put_and_finish_twice<K: Sink + Drop>(rt: &impl Print, sink: K) -> Result<()> {
+    let mut sink = sink;
+    put_each(rt, &mut sink, &["abc", "", "de", "fg"])?;
+    finish(rt, &mut sink)
+}
+
+/// Puts the pieces and finishes, and prints how each call ends.
+fn put_each<K: Sink>(rt: &impl Print, sink: &mut K, pieces: &[&str]) -> Result<()> {
+    for piece in pieces {
+        put(rt, sink, piece)?;
+    }
+    finish(rt, sink)
+}
+
+fn put<K: Sink>(rt: &impl Print, sink: &mut K, piece: &str) -> Result<()> {
+    let answer = ended(sink.put(piece.as_bytes()).is_ok());
+    Ok(println!(rt; "put \"{piece}\": {answer}")?)
+}
+
+fn finish<K: Sink>(rt: &impl Print, sink: &mut K) -> Result<()> {
+    let answer = ended(sink.finish().is_ok());
+    Ok(println!(rt; "finished: {answer}")?)
+}
+
+fn ended(well: bool) -> &'static str {
+    if well { "done" } else { "a fault" }
+}
+
+/// Prints what was written and how many calls failed.
+fn stands(rt: &impl Print, bytes: &[u8], faults: u64) -> Result<()> {
+    text(rt, "written", bytes)?;
+    Ok(println!(rt; "faults: {faults}")?)
+}

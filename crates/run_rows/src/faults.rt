@@ -1,0 +1,81 @@
+//! Rows of runs in which a call of the sink or of the source fails.
+use anyhow::Result;
+use calc_app::run;
+use calc_base::{MemSink, MemSource};
+use std::alloc::{AllocError, Global};
+
+/// Two lines of a batch.
+const LINES: &str = "schubert 1\nschubert 1\n";
+
+/// Prints the rows of runs with a fault.
+pub fn print(rt: &(impl Print + Alloc<A = Global>)) -> Result<()> {
+    each_call_of_the_sink(rt, &words(rt.alloc(), &["expand", "m", "p[2,1]"])?)?;
+    first_call_of_the_sink(rt, &words(rt.alloc(), &["mult", "2", "1", "-", "2", "1"])?)?;
+    calls_of_the_source(rt, &words(rt.alloc(), &["batch"])?)
+}
+
+/// The words of a command.
+fn words(alloc: Global, texts: &[&str]) -> Result<Vec<String>, AllocError> {
+    let mut words = Vec::new(alloc);
+    for text in texts {
+        words.push(String::from_str(alloc, text)?)?;
+    }
+    Ok(words)
+}
+
+/// Runs a command over a sink whose call 0 fails, then over one whose call 1 fails, and so on up to the first run without a fault.
+fn each_call_of_the_sink(rt: &(impl Print + Alloc<A = Global>), words: &[String]) -> Result<()> {
+    for call in 0..100u64 {
+        print!(rt; "a sink that fails at call {call}: ")?;
+        if !has_fault(rt, words, "", (&[], &[call]))? {
+            break;
+        }
+    }
+    Ok(())
+}
+
+/// Runs a command over a sink whose call 0 fails.
+fn first_call_of_the_sink(rt: &(impl Print + Alloc<A = Global>), words: &[String]) -> Result<()> {
+    print!(rt; "a product, and a sink that fails at call 0: ")?;
+    has_fault(rt, words, "", (&[], &[0]))?;
+    Ok(())
+}
+
+/// Runs a batch over sources whose call 0 or 1 fails, in the first line, and whose call 6 fails, in the second one.
+fn calls_of_the_source(rt: &(impl Print + Alloc<A = Global>), words: &[String]) -> Result<()> {
+    for call in [0u64, 1, 6] {
+        print!(rt; "a source that fails at call {call}: ")?;
+        has_fault(rt, words, LINES, (&[call], &[]))?;
+    }
+    Ok(())
+}
+
+/// Runs a command over an input that comes two bytes at a time, where these calls of the source and of the sink fail, prints
+/// how it ends, and answers whether the sink counted a fault.
+fn has_fault(
+    rt: &(impl Print + Alloc<A = Global>),
+    words: &[String],
+    input: &str,
+    fails: (&[u64], &[u64]),
+) -> Result<bool> {
+    let mut source = MemSource::new(rt.alloc(), input.as_bytes(), 2, fails.0)?;
+    let mut sink = MemSink::new(rt.alloc(), 256, fails.1)?;
+    ended(rt, words, &mut source, &mut sink)?;
+    Ok(sink.faults() > 0)
+}
+
+/// Runs a command, and prints its status, how many calls of the source and of the sink failed, and what was put.
+fn ended(
+    rt: &(impl Print + Alloc<A = Global>),
+    words: &[String],
+    source: &mut MemSource,
+    sink: &mut MemSink,
+) -> Result<()> {
+    let status = run(rt.alloc(), words, source, sink);
+    let text = str::from_utf8(sink.bytes())?;
+    let faults = (source.faults(), sink.faults());
+    Ok(println!(rt;
+        "{status:?}, faults of source and sink: {} and {}, text {text:?}",
+        faults.0, faults.1
+    )?)
+}

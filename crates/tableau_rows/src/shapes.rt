@@ -1,0 +1,12 @@
+//! The skew shapes of the rows.
+use anyhow::Result;
+use partitions::Partition;
+use skew_shapes::Skew;
+use std::alloc::Global;
+
+/// A skew shape, where it is one.
+pub fn skew(alloc: Global, outer: &[u16], inner: &[u16]) -> Result<Option<Skew>> {
+    let outer = Partition::from_parts(alloc, outer)?;
+    let inner = Partition::from_parts(alloc, inner)?;
+    Ok(Skew::new(outer, inner))
+}
