@@ -27,13 +27,15 @@ IsOneTerm label c terms = IsTable terms × HasMoreAt (pointwise nat_eq) [] label
 abbrev pub sum_at : ℕ → Terms (List ℕ) → ℕ → (List ℕ → ℤ) → ℤ
 sum_at q terms n φ = pair (over q terms) (λ label. pair (schur label n) φ)
 
--- the same of the product of two Schur polynomials, of one with a list times e, and of a list times d with such a one
+-- the same of the product of two Schur polynomials
 abbrev pub product_at : List ℕ → List ℕ → ℕ → (List ℕ → ℤ) → ℤ
 product_at left right n φ = pair (times (schur left n) (schur right n)) φ
 
+-- the same of the product of a Schur polynomial with a list times e
 abbrev pub row_at : List ℕ → ℕ → Terms (List ℕ) → ℕ → (List ℕ → ℤ) → ℤ
 row_at left e right n φ = pair (over e right) (λ label. product_at left label n φ)
 
+-- the same of the product of a list times d with a list times e
 abbrev pub products_at : ℕ → Terms (List ℕ) → ℕ → Terms (List ℕ) → ℕ → (List ℕ → ℤ) → ℤ
 products_at d left e right n φ = pair (over d left) (λ label. row_at label e right n φ)
 

@@ -52,6 +52,7 @@ pub record IsAdding (inner : List ℕ) (k : ℕ) (buffer : List ℕ) (first last
   pub begins : BeginsFrom k inner first last
   pub current : IsTrue listed → IsAddedIn buffer k inner first last
 
+-- the hooks still to come behind the one from first to last, and that one where it is listed
 abbrev pub adding_at : List ℕ → ℕ → ℕ → ℕ → Bool → HooksListed
 adding_at inner k first last listed =
     record { rest = hooks_ending_after k inner last; item = cond listed (Some (with_hook k inner first last)) None; base = inner }

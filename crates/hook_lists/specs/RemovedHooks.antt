@@ -53,6 +53,7 @@ pub record IsRemoving (outer : List ℕ) (k : ℕ) (buffer : List ℕ) (first la
   pub ends : EndsUpTo k outer first last
   pub current : IsTrue listed → IsLeftIn buffer k outer first last
 
+-- the hooks still to be removed behind the one from first to last, and what that one leaves where it is listed
 abbrev pub removing_at : List ℕ → ℕ → ℕ → ℕ → Bool → HooksListed
 removing_at outer k first last listed =
     record { rest = hooks_beginning_within k outer (first - 1); item = cond listed (Some (without_hook k outer first last)) None; base = outer }

@@ -1,4 +1,3 @@
-pub mod Labels
 pub mod Parts
 pub mod Conjugates
 pub mod BetaSteps
