@@ -29,10 +29,14 @@ progress_after progress answer = record { is_first = false; is_done = progress.i
 abbrev pub end_status : Progress → Status
 end_status progress = cond progress.is_done status.Done status.SomeRefused
 
+-- the status at the end: the one that goes with what was put, or that the sink failed
+abbrev pub status_where : Bool → Status → Status
+status_where well answer = cond well answer status.SinkFault
+
 -- The sink is finished, and the answer is the status; or that failed.
 pub record Finishes {K : Type 0} (written : K → Option (List ℕ)) (count : K → Option ℕ) (faults : K → ℕ) (settled : K → Bool)
     (old new : K) (answer result : Status) : Type 0 where
   pub well : Bool
   pub puts : Puts written count faults true old well new []
   pub settles : well ≡ true → settled new ≡ true
-  pub is : result ≡ cond well answer status.SinkFault
+  pub is : result ≡ status_where well answer

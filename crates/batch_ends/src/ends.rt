@@ -1,7 +1,7 @@
 //! What stands between two blocks, and the end of the sink.
 ghost use Rattle.std.specs.Prelude.{◌≡◌, true};
 ghost use Rattle.calc_base.specs.Puts.{Puts};
-ghost use Rattle.batch_ends.specs.Ends.{separator, Finishes};
+ghost use Rattle.batch_ends.specs.Ends.{separator, status_where, Finishes};
 
 use calc_base::{Sink, Status, finish_if};
 
@@ -16,9 +16,12 @@ pub fn put_separator<K: Sink>(is_first: bool, sink: &mut K) -> bool
 pub fn finished<K: Sink>(status: Status, sink: &mut K) -> Status
     ensures { Finishes K.written K.length K.faults K.settled sink.old sink.new status result }
 {
-    if finish_if(true, sink) {
-        status
-    } else {
-        Status::SinkFault
-    }
+    status_if(finish_if(true, sink), status)
+}
+
+/// The status of a command or a batch: that which goes with its text, or that the sink failed.
+pub fn status_if(well: bool, status: Status) -> Status
+    ensures { result ≡ status_where well status }
+{
+    if well { status } else { Status::SinkFault }
 }

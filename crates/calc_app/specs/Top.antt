@@ -1,9 +1,10 @@
 -- What the top call promises, by cases on the status that it answers (this project's own).
-use Rattle.std.specs.Prelude.{◌≡◌, ◌⊎◌, ℕ, List, ◌∷◌, ◌++◌, Bool, true, cond, map, Option, Some, IfSome}
+use Rattle.std.specs.Prelude.{◌≡◌, ◌⊎◌, ℕ, List, ◌∷◌, ◌++◌, Bool, true, map, Option, Some, IfSome}
 use Rattle.calc_base.specs.declared.status.Status.{Status}
 use Rattle.calc_base.specs.declared.status.Status.TheVariants.{Done, SomeRefused, Syntax, Range, Past, SinkFault, SourceFault, NoMemory}
 use Rattle.calc_base.specs.Puts.{Puts}
 use Rattle.calc_base.specs.Sink.{Appends, AppendsPrefix}
+use Rattle.batch_ends.specs.Ends.{status_where}
 use Rattle.batch_lines.specs.Feeds.{HasNoFeed}
 use Rattle.batch_lines.specs.Reading.{Took}
 use Rattle.sym_model.specs.BatchLine.{BatchLine, too_long, passed_over, spoken, batch_line, lines_of}
@@ -186,4 +187,4 @@ pub record PutsOutcome {K : Type 0} (written : K → Option (List ℕ)) (count :
   pub puts : Puts written count faults true old well new (text_of outcome)
   pub settles : well ≡ true → settled new ≡ true
   pub printable : HasBlock outcome
-  pub is : result ≡ cond well (status_for outcome) SinkFault
+  pub is : result ≡ status_where well (status_for outcome)

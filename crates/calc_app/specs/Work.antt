@@ -1,8 +1,9 @@
 -- What comes of the generated lines, one after another (this project's own).
-use Rattle.std.specs.Prelude.{◌≡◌, ◌⊎◌, ℕ, ◌+◌, ◌≤◌, List, [], ◌∷◌, Bool, true, cond, map, Option}
+use Rattle.std.specs.Prelude.{◌≡◌, ◌⊎◌, ℕ, ◌+◌, ◌≤◌, List, [], ◌∷◌, Bool, true, map, Option}
 use Rattle.calc_base.specs.declared.status.Status.{Status}
 use Rattle.calc_base.specs.declared.status.Status.TheVariants as status
 use Rattle.calc_base.specs.Puts.{Puts}
+use Rattle.batch_ends.specs.Ends.{status_where}
 use Rattle.calc_language.specs.BuiltCommands.{batch_entries}
 use Rattle.sym_model.specs.BatchLine.{BatchLine, batch_line}
 use Rattle.sym_model.specs.BatchOutcome.{Block, AreBlocks}
@@ -39,7 +40,7 @@ pub record PutsSums {K : Type 0} (written : K → Option (List ℕ)) (count : K 
   pub well : Bool
   pub puts : Puts written count faults true old well new (sums_text sums)
   pub settles : well ≡ true → settled new ≡ true
-  pub is : result ≡ cond well status.Done status.SinkFault
+  pub is : result ≡ status_where well status.Done
 
 -- the sums over the blocks of the lines, put
 pub record PutsWork {K : Type 0} (written : K → Option (List ℕ)) (count : K → Option ℕ) (faults : K → ℕ) (settled : K → Bool)

@@ -16,6 +16,7 @@ ghost use Rattle.calc_app.specs.Top.{Leaves, IsOutcome, RunsLines, PrintsAnswerT
 
 use crate::batch::batch;
 use crate::workload::work;
+use batch_ends::status_if;
 use calc_base::{NoMemory, Sink, Source, Status, finish_if};
 use calc_replies::{Outcome, Task, put_text, status_if_put, task_of};
 use std::alloc::Global;
@@ -101,11 +102,7 @@ fn put_outcome<K: Sink>(outcome: Outcome, sink: &mut K) -> Status
 {
     let mut outcome = outcome;
     let status = status_if_put(&outcome);
-    if deliver(&mut outcome, sink) {
-        status
-    } else {
-        Status::SinkFault
-    }
+    status_if(deliver(&mut outcome, sink), status)
 }
 
 /// Puts the text and finishes the sink, and answers whether all went well.

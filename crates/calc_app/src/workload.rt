@@ -7,6 +7,7 @@ ghost use Rattle.calc_replies.specs.Computed.{text_of, HasText, HasBlock};
 ghost use Rattle.calc_app.specs.Work.{AddsLine, AreSumsOf, PutsSums, EndsWork};
 
 use crate::batch::{line_outcome, new_memo};
+use batch_ends::status_if;
 use calc_base::{NoMemory, Sink, Status, finish_if};
 use calc_replies::{Outcome, put_text};
 use schubert_memo::Memo;
@@ -31,11 +32,7 @@ fn put_sums<K: Sink>(sums: &Sums, sink: &mut K) -> Status
     ensures { PutsSums K.written K.length K.faults K.settled sink.old sink.new sums.now result }
 {
     let well = put_summary(sums, sink);
-    if finish_if(well, sink) {
-        Status::Done
-    } else {
-        Status::SinkFault
-    }
+    status_if(finish_if(well, sink), Status::Done)
 }
 
 /// The sums over the blocks of the lines.
