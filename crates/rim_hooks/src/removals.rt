@@ -1,11 +1,13 @@
 //! The reduction of partitions by rim hooks.
-ghost use Rattle.std.specs.Prelude.{◌≡◌, ◌+◌, ◌<◌, ◌≤◌, length, IfOk};
+ghost use Rattle.std.specs.Prelude.{◌≡◌, ◌+◌, ◌*◌, ◌<◌, ◌≤◌, length, IfOk};
 ghost use Rattle.sym_model.specs.Partition.{rows};
+ghost use Rattle.sym_model.specs.PlaceOrders.{minus_one_to};
 ghost use Rattle.sym_model.specs.RimHookReduction.{ReducesTo};
 ghost use Rattle.sym_model.specs.Target.{Reduction};
 ghost use Rattle.beta_list_laws.specs.StrictFall.{FallsStrictly};
 ghost use Rattle.reduction_laws.specs.LowestList.{lowest, reduction_by_remainders};
 ghost use Rattle.rim_hooks.specs.Reduced.{reduction};
+ghost use Rattle.rim_hooks.specs.Signs.{sign_of};
 ghost use Rattle.rim_hooks.specs.Sorting.{Sorts};
 
 use crate::sorted::{Sorted, is_odd, is_one_odd, sign};
@@ -44,12 +46,18 @@ pub fn core_of(alloc: Global, shape: &Partition, k: u16, n: u16) -> Result<Optio
         return Ok(None);
     }
     let power = (cells - end.size()) / n;
-    let turns = usize::from(power) * (usize::from(k) + 1);
     Ok(Some(Core {
         shape: end,
-        sign: sign(is_one_odd(is_odd(turns), lowest.is_odd)),
+        sign: sign(is_one_odd(turns_the_sign(power, k), lowest.is_odd)),
         power: u32::from(power),
     }))
+}
+
+/// Whether so many removals turn the sign, of which each has the sign of `k` + 1 and that of the exchanges that sort its entries.
+fn turns_the_sign(power: u16, k: u16) -> bool
+    ensures { sign_of result ≡ minus_one_to (power * (k + 1)) }
+{
+    is_odd(usize::from(power) * (usize::from(k) + 1))
 }
 
 /// The entries, each lowered by multiples of `n` as far as there is room, in falling order.

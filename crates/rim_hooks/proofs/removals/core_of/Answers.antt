@@ -66,12 +66,12 @@ returns-clause-reduces c =
     let z = c.from-3.ensures in
     let t = c.if-from.false in
     let quotient : ℕ → ℕ → ℕ = λ u v. (u - v) / c.args.n in
-    let power : c.from-6.result ≡ quotient (size c.args.shape.now) (size c.in_ok-end.end) = c.from-6.ensures ∙ ap₂ quotient c.size-cells.ensures.value c.size.ensures.value in
-    let turns : c.from-4.result * (c.from-5.result + 1) ≡ c.from-6.result * (c.args.k + 1) = ap₂ (λ u v. u * (v + 1)) (c.from-4.ensures ∙ sym c.from-6.ensures) c.from-5.ensures in
+    let power : c.from-4.result ≡ quotient (size c.args.shape.now) (size c.in_ok-end.end) = c.from-4.ensures ∙ ap₂ quotient c.size-cells.ensures.value c.size.ensures.value in
+    let turns = c.turns_the_sign.ensures ∙ ap (λ u. minus_one_to (u * (c.args.k + 1))) (sym c.from-4.ensures) in
     let sign = ap (λ v. to_z w8 (of_z w8 v)) c.sign.ensures ∙ kept_sign c.is_one_odd.result ∙ c.is_one_odd.ensures in
-    let some = core_some c.args.k c.args.n c.args.shape.now c.as_slice-2.result.now c.in_ok-end.end c.in_ok-lowest.lowest.is_odd c.from-6.result (to_z w8 (of_z w8 c.sign.result)) (sign_of c.is_odd.result)
-    w c.in_ok-end.ensures (omega arith) power (c.is_odd.ensures ∙ ap minus_one_to turns) sign in
-    core_reduces c.args.k c.args.n c.args.shape.now (Some (c.in_ok-end.end, to_z w8 (of_z w8 c.sign.result), c.from-6.result)) (omega arith) c.size-cells.ensures.limits c.requires.rows.0 some
+    let some = core_some c.args.k c.args.n c.args.shape.now c.as_slice-2.result.now c.in_ok-end.end c.in_ok-lowest.lowest.is_odd c.from-4.result (to_z w8 (of_z w8 c.sign.result)) (sign_of c.turns_the_sign.result)
+    w c.in_ok-end.ensures (omega arith) power turns sign in
+    core_reduces c.args.k c.args.n c.args.shape.now (Some (c.in_ok-end.end, to_z w8 (of_z w8 c.sign.result), c.from-4.result)) (omega arith) c.size-cells.ensures.limits c.requires.rows.0 some
 
 pub returns-clause-only : goal.returns-clause-only
 returns-clause-only c =
@@ -83,12 +83,12 @@ returns-clause-only c =
     let z = c.from-3.ensures in
     let t = c.if-from.false in
     let quotient : ℕ → ℕ → ℕ = λ u v. (u - v) / c.args.n in
-    let power : c.from-6.result ≡ quotient (size c.args.shape.now) (size c.in_ok-end.end) = c.from-6.ensures ∙ ap₂ quotient c.size-cells.ensures.value c.size.ensures.value in
-    let turns : c.from-4.result * (c.from-5.result + 1) ≡ c.from-6.result * (c.args.k + 1) = ap₂ (λ u v. u * (v + 1)) (c.from-4.ensures ∙ sym c.from-6.ensures) c.from-5.ensures in
+    let power : c.from-4.result ≡ quotient (size c.args.shape.now) (size c.in_ok-end.end) = c.from-4.ensures ∙ ap₂ quotient c.size-cells.ensures.value c.size.ensures.value in
+    let turns = c.turns_the_sign.ensures ∙ ap (λ u. minus_one_to (u * (c.args.k + 1))) (sym c.from-4.ensures) in
     let sign = ap (λ v. to_z w8 (of_z w8 v)) c.sign.ensures ∙ kept_sign c.is_one_odd.result ∙ c.is_one_odd.ensures in
-    let some = core_some c.args.k c.args.n c.args.shape.now c.as_slice-2.result.now c.in_ok-end.end c.in_ok-lowest.lowest.is_odd c.from-6.result (to_z w8 (of_z w8 c.sign.result)) (sign_of c.is_odd.result)
-    w c.in_ok-end.ensures (omega arith) power (c.is_odd.ensures ∙ ap minus_one_to turns) sign in
-    core_only c.args.k c.args.n c.args.shape.now (Some (c.in_ok-end.end, to_z w8 (of_z w8 c.sign.result), c.from-6.result)) (omega arith) c.size-cells.ensures.limits some
+    let some = core_some c.args.k c.args.n c.args.shape.now c.as_slice-2.result.now c.in_ok-end.end c.in_ok-lowest.lowest.is_odd c.from-4.result (to_z w8 (of_z w8 c.sign.result)) (sign_of c.turns_the_sign.result)
+    w c.in_ok-end.ensures (omega arith) power turns sign in
+    core_only c.args.k c.args.n c.args.shape.now (Some (c.in_ok-end.end, to_z w8 (of_z w8 c.sign.result), c.from-4.result)) (omega arith) c.size-cells.ensures.limits some
 
 pub returns-then-from-clause-remainders : goal.returns-then-from-clause-remainders
 returns-then-from-clause-remainders c =
@@ -112,9 +112,9 @@ returns-clause-remainders c =
     let z = c.from-3.ensures in
     let t = c.if-from.false in
     let quotient : ℕ → ℕ → ℕ = λ u v. (u - v) / c.args.n in
-    let power : c.from-6.result ≡ quotient (size c.args.shape.now) (size c.in_ok-end.end) = c.from-6.ensures ∙ ap₂ quotient c.size-cells.ensures.value c.size.ensures.value in
-    let turns : c.from-4.result * (c.from-5.result + 1) ≡ c.from-6.result * (c.args.k + 1) = ap₂ (λ u v. u * (v + 1)) (c.from-4.ensures ∙ sym c.from-6.ensures) c.from-5.ensures in
+    let power : c.from-4.result ≡ quotient (size c.args.shape.now) (size c.in_ok-end.end) = c.from-4.ensures ∙ ap₂ quotient c.size-cells.ensures.value c.size.ensures.value in
+    let turns = c.turns_the_sign.ensures ∙ ap (λ u. minus_one_to (u * (c.args.k + 1))) (sym c.from-4.ensures) in
     let sign = ap (λ v. to_z w8 (of_z w8 v)) c.sign.ensures ∙ kept_sign c.is_one_odd.result ∙ c.is_one_odd.ensures in
-    let some = core_some c.args.k c.args.n c.args.shape.now c.as_slice-2.result.now c.in_ok-end.end c.in_ok-lowest.lowest.is_odd c.from-6.result (to_z w8 (of_z w8 c.sign.result)) (sign_of c.is_odd.result)
-    w c.in_ok-end.ensures (omega arith) power (c.is_odd.ensures ∙ ap minus_one_to turns) sign in
+    let some = core_some c.args.k c.args.n c.args.shape.now c.as_slice-2.result.now c.in_ok-end.end c.in_ok-lowest.lowest.is_odd c.from-4.result (to_z w8 (of_z w8 c.sign.result)) (sign_of c.turns_the_sign.result)
+    w c.in_ok-end.ensures (omega arith) power turns sign in
     sym some
