@@ -1,6 +1,6 @@
 //! The tree of a word that is known to be an expression, built from left to right with no recursion.
-ghost use Rattle.std.specs.Prelude.{◌≡◌, ℕ, ◌+◌, ◌*◌, ◌^◌, ◌<◌, ◌≤◌, IfOk, option_map, true};
-ghost use Rattle.expression_laws.specs.LeftToRight.{join_factor, join_term, join, at, awaited, in_number, in_entry, other, start, found, after_factor, before_factor, in_list_step, step};
+ghost use Rattle.std.specs.Prelude.{◌≡◌, ℕ, ◌+◌, ◌*◌, ◌^◌, ◌<◌, ◌≤◌, IfOk, None, [], ◌∷◌, ◌++◌, option_map, true};
+ghost use Rattle.expression_laws.specs.LeftToRight.{join_factor, join_term, join, at, awaited, closed, in_number, in_entry, opens, closes, minus_sign, other, outermost, start, found, after_factor, before_factor, in_list_step, star, step};
 ghost use Rattle.calc_expressions.specs.ScanSteps.{IsSoundDigit};
 ghost use Rattle.calc_expressions.specs.Symbols.{symbol_in};
 ghost use Rattle.calc_expressions.specs.Trees.{basis_of};
@@ -103,6 +103,23 @@ pub(crate) struct Builder {
     pub(crate) opened: Vec<Frame>,
 }
 
+/// Lets go of what has been built where a symbol is at fault. By a call, so that the proof of a function that refuses a symbol
+/// does not go through all that has been built.
+fn refused(frame: Frame, opened: Vec<Frame>) -> Option<Builder>
+    ensures { result ≡ None }
+{
+    drop(frame);
+    drop(opened);
+    None
+}
+
+/// Lets go of what has been built where memory was refused.
+fn let_go(frame: Frame, opened: Vec<Frame>) -> NoMemory {
+    drop(frame);
+    drop(opened);
+    NoMemory
+}
+
 /// A number as an expression.
 fn number(value: u128) -> Expr
     requires { value < 2 ^ 127 }
@@ -146,6 +163,79 @@ impl Builder {
     }
 }
 
+/// The term that a factor ends, in a box.
+fn boxed_term(alloc: Global, before: LeadingFactors, factor: Expr) -> Result<Box<Expr>, NoMemory>
+    ensures { IfOk result (λ e. built_of e.value ≡ join_factor builds (factors_in before) (built_of factor)) }
+{
+    let term = term_of(alloc, before, factor)?;
+    Ok(Box::new(alloc, term)?)
+}
+
+/// The expression that a factor ends, in a box.
+fn boxed(alloc: Global, frame: Frame, factor: Expr) -> Result<Box<Expr>, NoMemory>
+    ensures { IfOk result (λ e. built_of e.value ≡ join builds (terms_in frame.terms) (factors_in frame.factors) (built_of factor)) }
+{
+    let Frame { terms, factors } = frame;
+    let whole = joined(alloc, terms, factors, factor)?;
+    Ok(Box::new(alloc, whole)?)
+}
+
+/// After a star that follows a factor.
+fn multiplying(
+    alloc: Global,
+    factor: Expr,
+    frame: Frame,
+    opened: Vec<Frame>,
+) -> Result<Option<Builder>, NoMemory>
+    ensures { IfOk result (λ b. state_in b
+        ≡ after_factor builds (built_of factor) (terms_in frame.terms) (factors_in frame.factors) (opened_in opened.items) star) }
+{
+    let Frame { terms, factors } = frame;
+    match boxed_term(alloc, factors, factor) {
+        Ok(term) => {
+            let frame = Frame {
+                terms,
+                factors: LeadingFactors::Multiplying(term),
+            };
+            Ok(Some(Builder::awaiting(frame, opened)))
+        }
+        Err(fault) => {
+            drop(terms);
+            drop(opened);
+            Err(fault)
+        }
+    }
+}
+
+/// After a parenthesis that closes behind a factor; none where no parenthesis is open.
+fn closing(
+    alloc: Global,
+    factor: Expr,
+    frame: Frame,
+    mut opened: Vec<Frame>,
+) -> Result<Option<Builder>, NoMemory>
+    ensures { IfOk result (λ b. state_in b
+        ≡ after_factor builds (built_of factor) (terms_in frame.terms) (factors_in frame.factors) (opened_in opened.items) closes) }
+{
+    match opened.pop() {
+        None => {
+            drop(factor);
+            Ok(refused(frame, opened))
+        }
+        Some(outer) => {
+            let Frame { terms, factors } = frame;
+            match joined(alloc, terms, factors, factor) {
+                Ok(whole) => Ok(Some(Builder {
+                    part: Part::Closed(whole),
+                    frame: outer,
+                    opened,
+                })),
+                Err(_) => Err(let_go(outer, opened)),
+            }
+        }
+    }
+}
+
 /// After a byte that follows a whole factor; none where it is at fault.
 fn after_factor(
     alloc: Global,
@@ -157,47 +247,73 @@ fn after_factor(
     ensures { IfOk result (λ b. state_in b
         ≡ after_factor builds (built_of factor) (terms_in frame.terms) (factors_in frame.factors) (opened_in opened.items) (symbol_in symbol)) }
 {
-    let Frame { terms, factors } = frame;
     match symbol {
-        Symbol::Star => {
-            let term = Box::new(alloc, term_of(alloc, factors, factor)?)?;
-            let frame = Frame {
-                terms,
-                factors: LeadingFactors::Multiplying(term),
-            };
-            Ok(Some(Builder::awaiting(frame, opened)))
-        }
-        Symbol::Plus => {
-            let sum = Box::new(alloc, joined(alloc, terms, factors, factor)?)?;
-            let frame = Frame {
-                terms: LeadingTerms::Adding(sum),
-                factors: LeadingFactors::NoFactor,
-            };
-            Ok(Some(Builder::awaiting(frame, opened)))
-        }
-        Symbol::Minus => {
-            let sum = Box::new(alloc, joined(alloc, terms, factors, factor)?)?;
-            let frame = Frame {
-                terms: LeadingTerms::Subtracting(sum),
-                factors: LeadingFactors::NoFactor,
-            };
-            Ok(Some(Builder::awaiting(frame, opened)))
-        }
-        Symbol::Close => {
-            let mut opened = opened;
-            match opened.pop() {
-                None => Ok(None),
-                Some(frame) => {
-                    let part = Part::Closed(joined(alloc, terms, factors, factor)?);
-                    Ok(Some(Builder {
-                        part,
-                        frame,
-                        opened,
-                    }))
-                }
+        Symbol::Star => multiplying(alloc, factor, frame, opened),
+        Symbol::Plus => match boxed(alloc, frame, factor) {
+            Ok(sum) => {
+                let frame = Frame {
+                    terms: LeadingTerms::Adding(sum),
+                    factors: LeadingFactors::NoFactor,
+                };
+                Ok(Some(Builder::awaiting(frame, opened)))
             }
+            Err(fault) => {
+                drop(opened);
+                Err(fault)
+            }
+        },
+        Symbol::Minus => match boxed(alloc, frame, factor) {
+            Ok(sum) => {
+                let frame = Frame {
+                    terms: LeadingTerms::Subtracting(sum),
+                    factors: LeadingFactors::NoFactor,
+                };
+                Ok(Some(Builder::awaiting(frame, opened)))
+            }
+            Err(fault) => {
+                drop(opened);
+                Err(fault)
+            }
+        },
+        Symbol::Close => closing(alloc, factor, frame, opened),
+        _ => {
+            drop(factor);
+            Ok(refused(frame, opened))
         }
-        _ => Ok(None),
+    }
+}
+
+/// After a parenthesis that opens.
+fn opening(frame: Frame, mut opened: Vec<Frame>) -> Result<Option<Builder>, NoMemory>
+    ensures { IfOk result (λ b. state_in b
+        ≡ before_factor builds (terms_in frame.terms) (factors_in frame.factors) (opened_in opened.items) opens) }
+{
+    opened.push(frame)?;
+    let frame = Frame {
+        terms: LeadingTerms::NoTerm,
+        factors: LeadingFactors::NoFactor,
+    };
+    Ok(Some(Builder::awaiting(frame, opened)))
+}
+
+/// After a minus where a factor is awaited; none where something stands before it.
+fn negating(frame: Frame, opened: Vec<Frame>) -> Option<Builder>
+    ensures { state_in result
+        ≡ before_factor builds (terms_in frame.terms) (factors_in frame.factors) (opened_in opened.items) minus_sign }
+{
+    match &frame {
+        Frame {
+            terms: LeadingTerms::NoTerm,
+            factors: LeadingFactors::NoFactor,
+        } => {
+            drop(frame);
+            let frame = Frame {
+                terms: LeadingTerms::Negating,
+                factors: LeadingFactors::NoFactor,
+            };
+            Some(Builder::awaiting(frame, opened))
+        }
+        _ => refused(frame, opened),
     }
 }
 
@@ -222,29 +338,9 @@ fn before_factor(
             frame,
             opened,
         })),
-        Symbol::Open => {
-            let mut opened = opened;
-            opened.push(frame)?;
-            let frame = Frame {
-                terms: LeadingTerms::NoTerm,
-                factors: LeadingFactors::NoFactor,
-            };
-            Ok(Some(Builder::awaiting(frame, opened)))
-        }
-        Symbol::Minus => match frame {
-            Frame {
-                terms: LeadingTerms::NoTerm,
-                factors: LeadingFactors::NoFactor,
-            } => {
-                let frame = Frame {
-                    terms: LeadingTerms::Negating,
-                    factors: LeadingFactors::NoFactor,
-                };
-                Ok(Some(Builder::awaiting(frame, opened)))
-            }
-            _ => Ok(None),
-        },
-        _ => Ok(None),
+        Symbol::Open => opening(frame, opened),
+        Symbol::Minus => Ok(negating(frame, opened)),
+        _ => Ok(refused(frame, opened)),
     }
 }
 
@@ -268,18 +364,37 @@ fn in_list(
             opened,
         })),
         Symbol::CloseList => {
-            if numbers.is_empty() {
-                Ok(Some(Builder {
-                    part: Part::Closed(atom(alloc, basis, &[])?),
+            if !numbers.is_empty() {
+                return Ok(refused(frame, opened));
+            }
+            match atom(alloc, basis, &[]) {
+                Ok(factor) => Ok(Some(Builder {
+                    part: Part::Closed(factor),
                     frame,
                     opened,
-                }))
-            } else {
-                Ok(None)
+                })),
+                Err(_) => Err(let_go(frame, opened)),
             }
         }
-        _ => Ok(None),
+        _ => Ok(refused(frame, opened)),
     }
+}
+
+/// The numbers with one more at their end.
+fn with_number(mut numbers: Vec<u16>, value: u16) -> Result<Vec<u16>, NoMemory>
+    ensures { IfOk result (λ all. all.items ≡ numbers.items ++ value ∷ []) }
+{
+    numbers.push(value)?;
+    Ok(numbers)
+}
+
+/// The atom whose list ends with a number.
+fn ended_atom(alloc: Global, basis: Basis, numbers: Vec<u16>, value: u16) -> Result<Expr, NoMemory>
+    requires { AreEntries (numbers.items ++ value ∷ []) }
+    ensures { IfOk result (λ e. built_of e ≡ builds.label_of (basis_of basis) (numbers.items ++ value ∷ [])) }
+{
+    let numbers = with_number(numbers, value)?;
+    atom(alloc, basis, &numbers)
 }
 
 /// After a byte that follows a number of an atom's list; none where it is at fault.
@@ -302,25 +417,23 @@ fn in_entry(
             frame,
             opened,
         })),
-        Symbol::Comma => {
-            let mut numbers = numbers;
-            numbers.push(value as u16)?;
-            Ok(Some(Builder {
+        Symbol::Comma => match with_number(numbers, value as u16) {
+            Ok(numbers) => Ok(Some(Builder {
                 part: Part::List(basis, numbers),
                 frame,
                 opened,
-            }))
-        }
-        Symbol::CloseList => {
-            let mut numbers = numbers;
-            numbers.push(value as u16)?;
-            Ok(Some(Builder {
-                part: Part::Closed(atom(alloc, basis, &numbers)?),
+            })),
+            Err(_) => Err(let_go(frame, opened)),
+        },
+        Symbol::CloseList => match ended_atom(alloc, basis, numbers, value as u16) {
+            Ok(factor) => Ok(Some(Builder {
+                part: Part::Closed(factor),
                 frame,
                 opened,
-            }))
-        }
-        _ => Ok(None),
+            })),
+            Err(_) => Err(let_go(frame, opened)),
+        },
+        _ => Ok(refused(frame, opened)),
     }
 }
 
@@ -356,7 +469,7 @@ impl Builder {
                     frame,
                     opened,
                 })),
-                _ => Ok(None),
+                _ => Ok(refused(frame, opened)),
             },
             Part::Denominator(num, den) => match symbol {
                 Symbol::Digit(byte) => Ok(Some(Builder {
@@ -372,7 +485,7 @@ impl Builder {
                     frame,
                     opened,
                 })),
-                _ => Ok(None),
+                _ => Ok(refused(frame, opened)),
             },
             Part::List(basis, numbers) => in_list(alloc, basis, numbers, frame, opened, symbol),
             Part::Entry(basis, numbers, value) => in_entry(
@@ -393,8 +506,12 @@ impl Builder {
             opened,
         } = self;
         if !opened.is_empty() {
+            drop(part);
+            drop(frame);
+            drop(opened);
             return Ok(None);
         }
+        drop(opened);
         let Frame { terms, factors } = frame;
         match part {
             Part::Number(value) => Ok(Some(joined(alloc, terms, factors, number(value))?)),
@@ -405,7 +522,12 @@ impl Builder {
                 fraction(num, den),
             )?)),
             Part::Closed(factor) => Ok(Some(joined(alloc, terms, factors, factor)?)),
-            _ => Ok(None),
+            part => {
+                drop(part);
+                drop(terms);
+                drop(factors);
+                Ok(None)
+            }
         }
     }
 }

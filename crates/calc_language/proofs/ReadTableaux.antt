@@ -1,6 +1,6 @@
 -- The column reading of rows that were read, and the tableau that has it.
 use Rattle.std.proofs.Common.{◌≡◌, ◌≤◌, ◌<◌, ℕ, zero, suc, ◌+◌, true, ◌&&◌, List, [], ◌∷◌, map, length, get_or, refl, sym, ap, ◌∙◌, arith}
-use Rattle.std.proofs.lemmas.List.{length-map, length-append}
+use Rattle.std.proofs.lemmas.List.{length-append}
 use Rattle.partitions.proofs.BetaSteps.{at-within-size}
 use Rattle.partitions.specs.Limits.{IsWithinLimits}
 use Rattle.sym_model.proofs.SortedParts.{rows_within_size}

@@ -5,7 +5,7 @@ ghost use Rattle.calc_language.specs.BuiltCommands.{built_names};
 ghost use Rattle.calc_language.specs.Names.{name_of, is_of_lines};
 
 /// A command that is built, by its name.
-#[derive(Clone, Copy, Debug)]
+#[derive(Clone, Copy)]
 pub(crate) enum Name {
     Mult,
     Skew,

@@ -20,7 +20,7 @@ use skew_shapes::Tableau;
 use std::alloc::Global;
 
 /// A command.
-#[derive(Debug, Drop)]
+#[derive(Drop)]
 pub enum Command {
     /// The product of the Schur functions of two to eight shapes, in so many variables where a number of rows is there, on
     /// one line where it is so asked.

@@ -104,7 +104,7 @@ fn task_for(alloc: Global, command: &Command) -> Result<Task, NoMemory>
 }
 
 /// Whether a command runs others.
-#[derive(Clone, Copy, Debug)]
+#[derive(Clone, Copy)]
 enum Kind {
     /// It runs the lines of the input.
     Lines,

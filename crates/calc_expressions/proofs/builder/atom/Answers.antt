@@ -1,4 +1,3 @@
-use Rattle.sym_model.specs.Partition.{without_last_zeros}
 use Rattle.partitions.proofs.Parts.{without_last_zeros-IsPartition}
 use Rattle.calc_expressions.proofs.BuildFacts.{few_rows, small_size, falls_cut}
 use Rattle.calc_expressions.proofs.builder.atom.Goals as goal
