@@ -28,7 +28,9 @@ impl Model for BlockText {
 impl BlockText {
     /// A sink without bytes, which takes no memory yet.
     pub fn new(alloc: Global) -> BlockText
-        ensures { result.bytes ≡ [] }
+        ensures bytes { result.bytes ≡ [] }
+        ensures faults { result.failed ≡ 0 }
+        ensures settled { result.finished ≡ false }
     {
         BlockText {
             bytes: Vec::new(alloc),
@@ -37,9 +39,11 @@ impl BlockText {
         }
     }
 
-    /// Drops the bytes and keeps their memory for the next block.
+    /// Drops the bytes and keeps their memory for the next block. It hides no fault.
     pub fn clear(&mut self)
-        ensures { self.new.bytes ≡ [] }
+        ensures bytes { self.new.bytes ≡ [] }
+        ensures faults { self.new.failed ≡ self.old.failed }
+        ensures settled { self.new.finished ≡ self.old.finished }
     {
         self.bytes.clear();
     }
