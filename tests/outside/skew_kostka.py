@@ -3,7 +3,7 @@
 
 A skew Schur polynomial is expanded in Schur polynomials by `lrcalc skew`, and the coefficient of each in the product of
 the rows of the content is counted by `lrcalc mult`. The order of the content does not count. Each line is one of those that
-`tableau_rows` prints for `Fillings::with_content`."""
+`library_rows` prints for `Fillings::with_content`."""
 from kostka import rows_of, terms
 
 CASES = [

@@ -2,7 +2,7 @@
 use crate::narrow::NarrowWriter;
 use anyhow::Result;
 use calc_base::{CountSink, FixedSink, MemSink, Sink, StdOut};
-use row_texts::text;
+use row_texts::{end, said, start, term, text};
 use std::alloc::Global;
 
 /// Prints the rows of sinks in memory, in a buffer, without bytes and over a writer.
@@ -33,7 +33,7 @@ fn in_a_buffer(rt: &impl Print, buffer: &mut [u8]) -> Result<()> {
 fn counted(rt: &impl Print) -> Result<()> {
     let mut sink = CountSink::new();
     put_each(rt, &mut sink, &["ab", "", "cd"])?;
-    Ok(println!(rt; "counted: {}", sink.count())?)
+    said(rt, "counted", &sink.count())
 }
 
 fn written(rt: &impl Print) -> Result<()> {
@@ -58,12 +58,13 @@ fn put_each<K: Sink>(rt: &impl Print, sink: &mut K, pieces: &[&str]) -> Result<(
 
 fn put<K: Sink>(rt: &impl Print, sink: &mut K, piece: &str) -> Result<()> {
     let answer = ended(sink.put(piece.as_bytes()).is_ok());
-    Ok(println!(rt; "put \"{piece}\": {answer}")?)
+    start(rt, "put")?;
+    term(rt, &answer, &[piece])?;
+    end(rt)
 }
 
 fn finish<K: Sink>(rt: &impl Print, sink: &mut K) -> Result<()> {
-    let answer = ended(sink.finish().is_ok());
-    Ok(println!(rt; "finished: {answer}")?)
+    said(rt, "finished", &ended(sink.finish().is_ok()))
 }
 
 fn ended(well: bool) -> &'static str {
@@ -73,5 +74,5 @@ fn ended(well: bool) -> &'static str {
 /// Prints what was written and how many calls failed.
 fn stands(rt: &impl Print, bytes: &[u8], faults: u64) -> Result<()> {
     text(rt, "written", bytes)?;
-    Ok(println!(rt; "faults: {faults}")?)
+    said(rt, "faults", &faults)
 }

@@ -2,7 +2,7 @@
 use crate::narrow::NarrowReader;
 use anyhow::Result;
 use calc_base::{MemSource, Source, StdIn};
-use row_texts::text;
+use row_texts::{said, text};
 use std::alloc::Global;
 
 /// Prints the rows of sources in memory and over a reader.
@@ -14,7 +14,7 @@ pub fn print(rt: &(impl Print + Alloc<A = Global>)) -> Result<()> {
 fn in_memory(rt: &impl Print, source: MemSource) -> Result<()> {
     let mut source = source;
     take_four(rt, "taken", &mut source)?;
-    Ok(println!(rt; "faults: {}", source.faults())?)
+    said(rt, "faults", &source.faults())
 }
 
 fn take_four<S: Source>(rt: &impl Print, what: &str, source: &mut S) -> Result<()> {
@@ -29,6 +29,6 @@ fn take<S: Source>(rt: &impl Print, what: &str, source: &mut S) -> Result<()> {
     let mut buf = [0; 4];
     match source.take(&mut buf) {
         Ok(count) => text(rt, what, &buf[..count]),
-        Err(_) => Ok(println!(rt; "{what}: a fault")?),
+        Err(_) => said(rt, what, &"a fault"),
     }
 }

@@ -3,19 +3,16 @@
 use anyhow::Result;
 use basis_expand::to_monomial;
 use calc_expressions::{Expr, Formula};
+use row_texts::said;
 use std::alloc::{AllocError, Global};
 
-/// Prints the rows of the crate `basis_expand`.
+/// Prints the rows of the crate `basis_expand`: whether one, negated so often, is an expression that is expanded.
 pub fn print(rt: &(impl Print + Alloc<A = Global>)) -> Result<()> {
-    deepest(rt, 4096)?;
-    deepest(rt, 4097)
-}
-
-/// Whether one, negated so often that its nesting is `nesting`, is an expression that is expanded.
-fn deepest(rt: &(impl Print + Alloc<A = Global>), nesting: u16) -> Result<()> {
-    let terms = expanded(rt.alloc(), negated_one(rt.alloc(), nesting)?);
-    println!(rt; "one at nesting {nesting}: {terms}")?;
-    Ok(())
+    let alloc = rt.alloc();
+    let answer = expanded(alloc, negated_one(alloc, 4096)?);
+    said(rt, "one at nesting 4096", &answer)?;
+    let answer = expanded(alloc, negated_one(alloc, 4097)?);
+    said(rt, "one at nesting 4097", &answer)
 }
 
 /// How the expansion of an expression goes.

@@ -1,47 +1,35 @@
 //! Rows of changes of basis and of texts that are read back.
+use crate::printing::{expansion, read_as};
 use anyhow::Result;
 use basis_change::to_basis;
 use basis_expand::to_monomial;
-use block_reader::{ReadBackFault, read_back};
+use block_reader::read_back;
 use calc_base::SumFault;
 use calc_expressions::{Basis, Expr, Formula};
 use coeff_rings::Frac;
-use expansion_printer::{Answer, Kind};
+use expansion_printer::Kind;
+use one_line_reader::read_one_line;
 use partitions::Partition;
-use row_texts::label;
-use sparse_polys::{Lin, Terms};
+use row_texts::said;
+use sparse_polys::Lin;
 use std::alloc::Global;
 
-/// Prints the rows of the crates `basis_change` and `block_reader`.
+/// Prints the rows of the crates `basis_change`, `block_reader` and `one_line_reader`.
 pub fn print(rt: &(impl Print + Alloc<A = Global>)) -> Result<()> {
     in_power_sums(rt)?;
-    let product = "the block of 1 at (2) as a product";
-    read(rt, product, b"1  (2)\n", Kind::Product)?;
-    read(
-        rt,
-        "2/4 at (2) as an expansion",
-        b"2/4  (2)\n",
-        Kind::Expansion,
-    )?;
-    read(
-        rt,
-        "1/2 at (2) as an expansion",
-        b"1/2  (2)\n",
-        Kind::Expansion,
-    )?;
-    let unfinished = "a block without its last line feed";
-    read(rt, unfinished, b"1  (2)", Kind::Product)
+    blocks(rt)?;
+    line(rt, "the line of s_(2,1) in p", "-1/3*p[3]+1/3*p[1,1,1]\n")?;
+    line(rt, "1*s[1] as a line in p", "1*s[1]\n")
 }
 
-/// The Schur polynomial of (2,1) in power sums.
+/// Prints the Schur polynomial of (2,1) in power sums.
 fn in_power_sums(rt: &(impl Print + Alloc<A = Global>)) -> Result<()> {
     let label = Partition::from_parts(rt.alloc(), &[2, 1])?;
     let basis = Basis::S;
-    let Ok(formula) = Formula::from_tree(Expr::Atom { basis, label }) else {
-        return Ok(println!(rt; "s_(2,1): no formula")?);
-    };
-    let list = expanded(rt.alloc(), &formula)?;
-    fractions(rt, "s_(2,1) in p", list.sorted_terms()?)
+    match Formula::from_tree(Expr::Atom { basis, label }) {
+        Ok(formula) => expansion(rt, "s_(2,1) in p", expanded(rt.alloc(), &formula)?),
+        Err(_) => said(rt, "s_(2,1) in p", &"no formula"),
+    }
 }
 
 /// A formula of at most 15 cells in power sums.
@@ -56,30 +44,26 @@ fn expanded(alloc: Global, formula: &Formula) -> Result<Lin<Partition, Frac>, Su
     to_basis(alloc, &list, bound, Basis::P)
 }
 
-/// Prints what a text is read as.
-fn read(rt: &(impl Print + Alloc<A = Global>), what: &str, text: &[u8], kind: Kind) -> Result<()> {
-    match read_back(rt.alloc(), text, kind) {
-        Ok(Answer::Expansion { terms }) => fractions(rt, what, terms),
-        Ok(Answer::Product { terms }) => {
-            print!(rt; "{what}:")?;
-            for (shape, c) in terms.iter() {
-                print!(rt; "  {} ", c.get())?;
-                label(rt, shape.parts())?;
-            }
-            Ok(println!(rt)?)
-        }
-        Ok(_) => Ok(println!(rt; "{what}: another kind")?),
-        Err(ReadBackFault::NotPrinted) => Ok(println!(rt; "{what}: refused")?),
-        Err(ReadBackFault::NoMemory) => Ok(println!(rt; "{what}: no memory")?),
-    }
+fn blocks(rt: &(impl Print + Alloc<A = Global>)) -> Result<()> {
+    let (product, expansion) = (Kind::Product, Kind::Expansion);
+    block(
+        rt,
+        "the block of 1 at (2) as a product",
+        "1  (2)\n",
+        product,
+    )?;
+    block(rt, "2/4 at (2) as an expansion", "2/4  (2)\n", expansion)?;
+    block(rt, "1/2 at (2) as an expansion", "1/2  (2)\n", expansion)?;
+    block(rt, "a block without its last line feed", "1  (2)", product)
 }
 
-/// Prints terms with fractions.
-fn fractions(rt: &impl Print, what: &str, terms: Terms<Partition, Frac>) -> Result<()> {
-    print!(rt; "{what}:")?;
-    for (shape, c) in terms.iter() {
-        print!(rt; "  {}/{} ", c.num(), c.den())?;
-        label(rt, shape.parts())?;
-    }
-    Ok(println!(rt)?)
+/// Prints what a block is read as.
+fn block(rt: &(impl Print + Alloc<A = Global>), what: &str, text: &str, kind: Kind) -> Result<()> {
+    read_as(rt, what, read_back(rt.alloc(), text.as_bytes(), kind))
+}
+
+/// Prints what a line of an expansion in p is read as.
+fn line(rt: &(impl Print + Alloc<A = Global>), what: &str, text: &str) -> Result<()> {
+    let read = read_one_line(rt.alloc(), text.as_bytes(), Kind::Expansion, Basis::P);
+    read_as(rt, what, read)
 }

@@ -4,7 +4,6 @@ use calc_base::Lister;
 use partitions::{Partition, PartitionsOf};
 use row_texts::{each_said, line, said, truth};
 use std::alloc::Global;
-use std::cmp::Ordering;
 
 /// The staircase of 20 rows.
 const STAIRCASE: [u16; 20] = [
@@ -15,8 +14,7 @@ const STAIRCASE: [u16; 20] = [
 pub fn print(rt: &(impl Print + Alloc<A = Global>)) -> Result<()> {
     taken_or_refused(rt)?;
     most_rows(rt)?;
-    read(rt)?;
-    compared(rt)?;
+    four_two_one(rt)?;
     twenty_rows(rt)?;
     of_four(rt)?;
     of_thirty(rt)
@@ -53,8 +51,13 @@ fn most_rows(rt: &(impl Print + Alloc<A = Global>)) -> Result<()> {
     said(rt, "rows of 512 ones", &most.rows())
 }
 
-fn read(rt: &(impl Print + Alloc<A = Global>)) -> Result<()> {
+fn four_two_one(rt: &(impl Print + Alloc<A = Global>)) -> Result<()> {
     let shape = Partition::from_parts(rt.alloc(), &[4, 2, 1])?;
+    read(rt, &shape)?;
+    compared(rt, &shape)
+}
+
+fn read(rt: &impl Print, shape: &Partition) -> Result<()> {
     each_said(
         rt,
         &[
@@ -67,58 +70,40 @@ fn read(rt: &(impl Print + Alloc<A = Global>)) -> Result<()> {
     )
 }
 
-fn compared(rt: &(impl Print + Alloc<A = Global>)) -> Result<()> {
-    let shape = Partition::from_parts(rt.alloc(), &[4, 2, 1])?;
-    compared_with_others(rt, &shape)
-}
-
-fn compared_with_others(rt: &(impl Print + Alloc<A = Global>), shape: &Partition) -> Result<()> {
+fn compared(rt: &(impl Print + Alloc<A = Global>), shape: &Partition) -> Result<()> {
     let inner = Partition::from_parts(rt.alloc(), &[2, 2])?;
-    let other = Partition::from_parts(rt.alloc(), &[3, 3, 1])?;
-    relations(rt, shape, &inner, &other)
+    relations(rt, shape, &inner)
 }
 
-fn relations(
-    rt: &impl Print,
-    shape: &Partition,
-    inner: &Partition,
-    other: &Partition,
-) -> Result<()> {
+fn relations(rt: &impl Print, shape: &Partition, inner: &Partition) -> Result<()> {
     truth(rt, "(4,2,1) contains (2,2)", shape.contains(inner))?;
     truth(rt, "(2,2) contains (4,2,1)", inner.contains(shape))?;
-    each_said(
-        rt,
-        &[
-            ("(4,2,1) and (2,2)", order(shape.cmp_printed(inner))),
-            ("(3,3,1) and (4,2,1)", order(other.cmp_printed(shape))),
-            ("(4,2,1) and itself", order(shape.cmp_printed(shape))),
-        ],
-    )
-}
-
-fn order(answer: Ordering) -> &'static str {
-    match answer {
-        Ordering::Less => "first before second",
-        Ordering::Equal => "equal",
-        Ordering::Greater => "second before first",
-    }
+    let first = shape.cmp_printed(inner).is_lt();
+    truth(rt, "(4,2,1) is printed before (2,2)", first)?;
+    let first = inner.cmp_printed(shape).is_lt();
+    truth(rt, "(2,2) is printed before (4,2,1)", first)
 }
 
 fn twenty_rows(rt: &(impl Print + Alloc<A = Global>)) -> Result<()> {
     let staircase = Partition::from_parts(rt.alloc(), &STAIRCASE)?;
-    copied(rt, &staircase)?;
+    said(rt, "size of the staircase of 20 rows", &staircase.size())?;
     made_again(rt, &staircase)
 }
 
-fn copied(rt: &impl Print, staircase: &Partition) -> Result<()> {
-    let copy = staircase.copy()?;
-    said(rt, "size of the staircase of 20 rows", &copy.size())?;
-    truth(rt, "its copy is equal", copy == *staircase)
+fn made_again(rt: &(impl Print + Alloc<A = Global>), staircase: &Partition) -> Result<()> {
+    let copy = is_same(staircase, staircase.copy()?);
+    truth(rt, "its copy is equal", copy)?;
+    let again = Partition::from_valid_parts(rt.alloc(), staircase.parts())?;
+    truth(
+        rt,
+        "made from its parts it is equal",
+        is_same(staircase, again),
+    )
 }
 
-fn made_again(rt: &(impl Print + Alloc<A = Global>), staircase: &Partition) -> Result<()> {
-    let again = Partition::from_valid_parts(rt.alloc(), staircase.parts())?;
-    truth(rt, "made from its parts it is equal", again == *staircase)
+/// Whether a partition is equal to another one, which is given up.
+fn is_same(shape: &Partition, other: Partition) -> bool {
+    other == *shape
 }
 
 fn of_four(rt: &(impl Print + Alloc<A = Global>)) -> Result<()> {

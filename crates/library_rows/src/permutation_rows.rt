@@ -1,7 +1,7 @@
 //! Rows of permutations: the letters of each in brackets, as labels are printed.
 use anyhow::Result;
 use perm_codes::Perm;
-use row_texts::{each_said, end, line, said, start, truth};
+use row_texts::{each_said, line, said, truth};
 use std::alloc::Global;
 
 /// 18 falling letters.
@@ -97,8 +97,7 @@ fn covers_at(rt: &impl Print, what: &str, w: &Perm, place: u16) -> Result<()> {
 }
 
 fn up_and_down(rt: &impl Print, what: &str, up: &[Perm], down: &[Perm]) -> Result<()> {
-    start(rt, what)?;
-    end(rt)?;
+    said(rt, what, &(up.len() + down.len()))?;
     perms(rt, "up", up)?;
     perms(rt, "down", down)
 }
@@ -107,11 +106,17 @@ fn perms(rt: &impl Print, what: &str, list: &[Perm]) -> Result<()> {
     for w in list {
         perm(rt, what, w)?;
     }
-    Ok(println!(rt; "{what}: {} of them", list.len())?)
+    Ok(())
 }
 
 fn falling(rt: &(impl Print + Alloc<A = Global>)) -> Result<()> {
     let w = Perm::from_letters(rt.alloc(), &FALLING)?;
+    falling_letters(rt, &w)?;
+    let again = Perm::from_letters(rt.alloc(), &FALLING)?;
+    truth(rt, "made again it is equal", is_same(&w, again))
+}
+
+fn falling_letters(rt: &impl Print, w: &Perm) -> Result<()> {
     each_said(
         rt,
         &[
@@ -121,13 +126,12 @@ fn falling(rt: &(impl Print + Alloc<A = Global>)) -> Result<()> {
             ("the letter at place 20", w.letter(20)),
             ("the last descent", w.last_descent().unwrap_or(0)),
         ],
-    )?;
-    made_again(rt, &w)
+    )
 }
 
-fn made_again(rt: &(impl Print + Alloc<A = Global>), w: &Perm) -> Result<()> {
-    let again = Perm::from_letters(rt.alloc(), &FALLING)?;
-    truth(rt, "made again it is equal", again == *w)
+/// Whether a permutation is equal to another one, which is given up.
+fn is_same(w: &Perm, other: Perm) -> bool {
+    other == *w
 }
 
 fn perm(rt: &impl Print, what: &str, w: &Perm) -> Result<()> {

@@ -71,18 +71,24 @@ fn sums_of_fractions(rt: &impl Print) -> Result<()> {
     rows(
         rt,
         &[
-            ("1/6 plus 1/3", sum((1, 6), (1, 3))),
-            ("1/6 less 1/3", difference((1, 6), (1, 3))),
-            ("5/1 plus -7/1", sum((5, 1), (-7, 1))),
-            ("the least i128 plus 0", sum((MIN, 1), (0, 1))),
-            ("0 less the least i128", difference((0, 1), (MIN, 1))),
+            ("1/6 plus 1/3", computed((1, 6), '+', (1, 3))),
+            ("1/6 less 1/3", computed((1, 6), '-', (1, 3))),
+            ("5/1 plus -7/1", computed((5, 1), '+', (-7, 1))),
+            ("the least i128 plus 0", computed((MIN, 1), '+', (0, 1))),
+            ("0 less the least i128", computed((0, 1), '-', (MIN, 1))),
             // Each of these is a fraction that fits, and one of the four numbers on the way to it does not.
             (
                 "the greatest over 2 less the greatest over 3",
-                difference((MAX, 2), (MAX, 3)),
+                computed((MAX, 2), '-', (MAX, 3)),
             ),
-            ("the greatest over 2 twice", sum((MAX, 2), (MAX, 2))),
-            ("a common denominator past the limit", sum(left, right)),
+            (
+                "the greatest over 2 twice",
+                computed((MAX, 2), '+', (MAX, 2)),
+            ),
+            (
+                "a common denominator past the limit",
+                computed(left, '+', right),
+            ),
         ],
     )
 }
@@ -91,18 +97,21 @@ fn products_of_fractions(rt: &impl Print) -> Result<()> {
     rows(
         rt,
         &[
-            ("-4/9 times 3/8", product((-4, 9), (3, 8))),
+            ("-4/9 times 3/8", computed((-4, 9), '*', (3, 8))),
             (
                 "the least over 3 times 3 over 2^126",
-                product((MIN, 3), (3, 1 << 126)),
+                computed((MIN, 3), '*', (3, 1 << 126)),
             ),
             (
                 "1 over 2^64 times 1 over 2^63",
-                product((1, 1 << 64), (1, 1 << 63)),
+                computed((1, 1 << 64), '*', (1, 1 << 63)),
             ),
-            ("1/3 over -2/9", quotient((1, 3), (-2, 9))),
-            ("1 over the least", quotient((1, 1), (MIN, 1))),
-            ("the least over the least", quotient((MIN, 1), (MIN, 1))),
+            ("1/3 over -2/9", computed((1, 3), '/', (-2, 9))),
+            ("1 over the least", computed((1, 1), '/', (MIN, 1))),
+            (
+                "the least over the least",
+                computed((MIN, 1), '/', (MIN, 1)),
+            ),
         ],
     )
 }
@@ -121,25 +130,23 @@ fn neg(a: Option<Frac>) -> Option<Frac> {
     a?.neg()
 }
 
-fn sum(a: Numbers, b: Numbers) -> Option<Frac> {
-    Frac::new(a.0, a.1)?.add(Frac::new(b.0, b.1)?)
+/// What an operation makes of two fractions, `None` also for a divisor of 0.
+fn computed(a: Numbers, operation: char, b: Numbers) -> Option<Frac> {
+    let left = Frac::new(a.0, a.1)?;
+    let right = Frac::new(b.0, b.1)?;
+    match operation {
+        '+' => left.add(right),
+        '-' => left.sub(right),
+        '*' => left.mul(right),
+        _ => divided(left, right),
+    }
 }
 
-fn difference(a: Numbers, b: Numbers) -> Option<Frac> {
-    Frac::new(a.0, a.1)?.sub(Frac::new(b.0, b.1)?)
-}
-
-fn product(a: Numbers, b: Numbers) -> Option<Frac> {
-    Frac::new(a.0, a.1)?.mul(Frac::new(b.0, b.1)?)
-}
-
-/// The quotient, `None` also for a divisor of 0.
-fn quotient(a: Numbers, b: Numbers) -> Option<Frac> {
-    let divisor = Frac::new(b.0, b.1)?;
-    if divisor.is_zero() {
+fn divided(left: Frac, right: Frac) -> Option<Frac> {
+    if right.is_zero() {
         return None;
     }
-    Frac::new(a.0, a.1)?.div(divisor)
+    left.div(right)
 }
 
 /// Prints for each what is computed and the answer.

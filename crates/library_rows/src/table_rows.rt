@@ -1,10 +1,10 @@
 //! Rows of tables of terms.
 use anyhow::Result;
-use calc_base::{Lister, SumFault};
-use coeff_rings::{Int, Ring, Scalar};
-use partitions::{Partition, PartitionsOf};
+use calc_base::SumFault;
+use coeff_rings::{Int, Scalar};
+use partitions::Partition;
 use row_texts::{end, said, start, term, truth};
-use sparse_polys::{Lin, Terms};
+use sparse_polys::Lin;
 use std::alloc::Global;
 
 type Table = Lin<Partition, Int>;
@@ -17,8 +17,7 @@ pub fn print(rt: &(impl Print + Alloc<A = Global>)) -> Result<()> {
     terms(rt, "the sum of (1) and (2)", sum(alloc)?)?;
     terms(rt, "and 3 times that", sum(alloc)?.scale(Int::new(3))?)?;
     copied(rt)?;
-    past_the_limit(rt)?;
-    many_terms(rt)
+    past_the_limit(rt)
 }
 
 fn refused_sum(rt: &(impl Print + Alloc<A = Global>)) -> Result<()> {
@@ -40,8 +39,13 @@ fn sum(alloc: Global) -> Result<Table> {
 
 fn copied(rt: &(impl Print + Alloc<A = Global>)) -> Result<()> {
     let table = table_of(rt.alloc(), &[(2, 1), (1, 3)])?;
+    asked(rt, &table)
+}
+
+fn asked(rt: &impl Print, table: &Table) -> Result<()> {
     terms(rt, "a copy", table.copy()?)?;
-    let sum = total(&table);
+    said(rt, "the number of its terms", &table.len())?;
+    let sum = total(table);
     truth(rt, "its coefficients add up to 4", sum == Some(Int::new(4)))
 }
 
@@ -64,61 +68,6 @@ fn one_more_by_a_table(alloc: Global) -> Result<Table, SumFault> {
 
 fn times(alloc: Global, c: Int) -> Result<Table, SumFault> {
     greatest(alloc)?.scale(c)
-}
-
-fn many_terms(rt: &(impl Print + Alloc<A = Global>)) -> Result<()> {
-    let table = places(rt.alloc())?;
-    truth(rt, "a table of 1002 terms", table.len() == 1002)?;
-    doubled(rt, twice(&table)?)
-}
-
-fn twice(table: &Table) -> Result<Table, SumFault> {
-    table.copy()?.add_all(table)
-}
-
-fn doubled(rt: &impl Print, table: Table) -> Result<()> {
-    truth(rt, "its double has 1002", table.len() == 1002)?;
-    let sorted = sorted(table)?;
-    let what = "10 times the table is in order with its places";
-    truth(rt, what, has_places(&sorted, Int::new(10)))
-}
-
-/// The terms of a table times 5.
-fn sorted(table: Table) -> Result<Terms<Partition, Int>, SumFault> {
-    Ok(table.scale(Int::new(5))?.sorted_terms()?)
-}
-
-/// The table of the partitions of 22, of which there are 1,002, with their places as coefficients.
-fn places(alloc: Global) -> Result<Table> {
-    let mut table = Lin::new(alloc);
-    let mut list = PartitionsOf::new(alloc, 22)?;
-    add_places(alloc, &mut list, &mut table)?;
-    Ok(table)
-}
-
-fn add_places(alloc: Global, list: &mut PartitionsOf, table: &mut Table) -> Result<()> {
-    for place in 1..1100u16 {
-        if list.advance() {
-            let shape = Partition::from_parts(alloc, list.current())?;
-            table.add_term(shape, Int::from_whole(i128::from(place)))?;
-        }
-    }
-    Ok(())
-}
-
-/// Whether the coefficient of each term is its place, counted from 1, times a factor.
-fn has_places(terms: &Terms<Partition, Int>, factor: Int) -> bool {
-    let mut place = Int::zero();
-    for (_, c) in terms.iter() {
-        let Some(next) = place.add(factor) else {
-            return false;
-        };
-        if *c != next {
-            return false;
-        }
-        place = next;
-    }
-    true
 }
 
 /// The sum of the coefficients.

@@ -1,11 +1,11 @@
 //! Rows of a store that keeps one Schubert polynomial.
+use crate::printing::polynomial;
 use anyhow::Result;
 use coeff_rings::Int;
-use monomial_polys::{Monomial, Poly};
+use monomial_polys::Poly;
 use perm_codes::Perm;
-use row_texts::{end, said, start, term};
+use row_texts::said;
 use schubert_memo::Memo;
-use sparse_polys::Terms;
 use std::alloc::Global;
 
 /// Prints the rows of the crate `schubert_memo`.
@@ -38,18 +38,4 @@ fn held(rt: &impl Print, answer: Option<&Poly<Int>>) -> Result<()> {
         Some(list) => polynomial(rt, "kept S_(1,3,2)", list.copy()?),
         None => said(rt, "kept S_(1,3,2)", &"none"),
     }
-}
-
-fn polynomial(rt: &impl Print, what: &str, list: Poly<Int>) -> Result<()> {
-    let sorted = list.sorted_terms()?;
-    terms(rt, what, &sorted)
-}
-
-/// Prints the terms by their exponents.
-fn terms(rt: &impl Print, what: &str, list: &Terms<Monomial, Int>) -> Result<()> {
-    start(rt, what)?;
-    for (monomial, c) in list.iter() {
-        term(rt, &c.get(), monomial.exponents())?;
-    }
-    end(rt)
 }

@@ -2,7 +2,7 @@
 use crate::shapes::skew;
 use anyhow::Result;
 use row_insertion::reading_word;
-use row_texts::{end, label, line, said, start};
+use row_texts::{line, said};
 use skew_shapes::{Tableau, TableauFault};
 use std::alloc::Global;
 
@@ -50,12 +50,10 @@ fn by_rows(rt: &(impl Print + Alloc<A = Global>), tableau: &Tableau) -> Result<(
     line(rt, "its reading word", word.as_slice())
 }
 
-/// Prints the rows of a tableau.
+/// Prints the rows of a tableau, a line each.
 fn rows(rt: &impl Print, what: &str, tableau: &Tableau) -> Result<()> {
-    start(rt, what)?;
     for row in 1..tableau.shape().outer().rows() + 1 {
-        print!(rt; " ")?;
-        label(rt, tableau.row(row))?;
+        line(rt, what, tableau.row(row))?;
     }
-    end(rt)
+    Ok(())
 }

@@ -2,8 +2,8 @@ use Rattle.std.proofs.Common.{ap, ◌∙◌, inl, inr, arith}
 use Rattle.sym_model.specs.LabelLimits.{is_monomial_label}
 use Rattle.sym_model.specs.Partition.{size}
 use Rattle.monomial_polys.specs.Raised.{raised}
-use Rattle.polynomial_rows.proofs.Labels.{new_or_old}
-use Rattle.polynomial_rows.proofs.products.two_variables.Goals as goal
+use Rattle.expansion_rows.proofs.Labels.{new_or_old}
+use Rattle.expansion_rows.proofs.products.two_variables.Goals as goal
 
 pub times_var-requires-clause-room : goal.times_var-requires-clause-room
 times_var-requires-clause-room c = let e = ap size c.one.ensures in omega arith

@@ -1,14 +1,24 @@
-//! The products that are printed.
+//! Rows of products of polynomials, and of sums of Schubert polynomials by a variable.
 ghost use Rattle.std.specs.Prelude.{◌≡◌, ◌⊎◌, ℕ, ◌≤◌, ◌∷◌, [], List, length, IfOk};
 ghost use Rattle.sym_model.specs.Expansion.{Fraction};
 ghost use Rattle.sym_model.specs.Sum.{Among};
 
+use crate::printing::{polynomial, schubert_sum};
 use anyhow::Result;
 use coeff_rings::Int;
 use monomial_polys::{Monomial, Poly, times, times_var};
 use perm_codes::Perm;
 use sparse_polys::Lin;
 use std::alloc::Global;
+
+/// Prints the rows of the products of `monomial_polys` and `monk_product`.
+pub fn print(rt: &(impl Print + Alloc<A = Global>)) -> Result<()> {
+    let alloc = rt.alloc();
+    polynomial(rt, "(x_1 + x_2) x_1", product(alloc)?)?;
+    polynomial(rt, "x_1 x_2", product_with_variable(alloc)?)?;
+    schubert_sum(rt, "x_1 S_(2,1)", monk(alloc, &[2, 1], 1)?)?;
+    schubert_sum(rt, "x_2 S_(1)", monk(alloc, &[1], 2)?)
+}
 
 /// x_1.
 fn first_variable(alloc: Global) -> Result<Poly<Int>>
@@ -29,20 +39,20 @@ fn two_variables(alloc: Global) -> Result<Poly<Int>>
 }
 
 /// (x_1 + x_2)·x_1.
-pub fn product(alloc: Global) -> Result<Poly<Int>> {
+fn product(alloc: Global) -> Result<Poly<Int>> {
     let left = two_variables(alloc)?;
     let right = first_variable(alloc)?;
     Ok(times(alloc, &left, &right)?)
 }
 
 /// x_1·x_2, as a polynomial times a variable.
-pub fn product_with_variable(alloc: Global) -> Result<Poly<Int>> {
+fn product_with_variable(alloc: Global) -> Result<Poly<Int>> {
     let list = first_variable(alloc)?;
     Ok(times_var(alloc, list, 2)?)
 }
 
 /// S_w·x_r.
-pub fn monk(alloc: Global, letters: &[u16], r: u16) -> Result<Lin<Perm, Int>>
+fn monk(alloc: Global, letters: &[u16], r: u16) -> Result<Lin<Perm, Int>>
     requires first { 1 ≤ r }
     requires last { r ≤ 254 }
     requires letters { length letters.now ≤ 254 }

@@ -3,7 +3,7 @@ use anyhow::Result;
 use calc_base::Lister;
 use hook_lists::{HooksAdded, HooksRemoved};
 use partitions::Partition;
-use row_texts::label;
+use row_texts::{end, start, term};
 use std::alloc::Global;
 
 /// Prints the rows of the crate `hook_lists`.
@@ -45,7 +45,8 @@ fn removed(rt: &impl Print, list: &mut HooksRemoved) -> Result<()> {
 }
 
 fn row(rt: &impl Print, what: &str, parts: &[u16], height: u16) -> Result<()> {
-    print!(rt; "{what}: ")?;
-    label(rt, parts)?;
-    Ok(println!(rt; " height {height}")?)
+    start(rt, what)?;
+    term(rt, &"shape", parts)?;
+    term(rt, &"height", &[height])?;
+    end(rt)
 }

@@ -2,11 +2,11 @@
 ghost use Rattle.std.specs.Prelude.{IfOk};
 ghost use Rattle.strip_rules.specs.Room.{HasRoom};
 
+use crate::printing::sum;
 use anyhow::Result;
 use coeff_rings::Int;
 use partitions::Partition;
-use row_texts::{end, start, term};
-use sparse_polys::{Lin, Terms};
+use sparse_polys::Lin;
 use std::alloc::Global;
 use strip_rules::{add_column, add_hook, add_row};
 
@@ -39,18 +39,4 @@ fn one_cell(alloc: Global) -> Result<Expansion>
     let mut list = Lin::new(alloc);
     list.add_term(Partition::from_parts(alloc, &[1])?, Int::new(1))?;
     Ok(list)
-}
-
-fn sum(rt: &impl Print, what: &str, list: Expansion) -> Result<()> {
-    let sorted = list.sorted_terms()?;
-    terms(rt, what, &sorted)
-}
-
-/// Prints the terms in their order.
-fn terms(rt: &impl Print, what: &str, list: &Terms<Partition, Int>) -> Result<()> {
-    start(rt, what)?;
-    for (shape, c) in list.iter() {
-        term(rt, &c.get(), shape.parts())?;
-    }
-    end(rt)
 }

@@ -1,8 +1,8 @@
 use Rattle.std.proofs.Common.{ap, ◌∙◌, length, arith}
 use Rattle.sym_model.specs.LabelLimits.{is_permutation_label}
 use Rattle.schubert_transition.proofs.Members.{fewer_kept}
-use Rattle.polynomial_rows.proofs.Labels.{only_label}
-use Rattle.polynomial_rows.proofs.products.monk.Goals as goal
+use Rattle.expansion_rows.proofs.Labels.{only_label}
+use Rattle.expansion_rows.proofs.products.monk.Goals as goal
 
 pub times_var-requires-clause-letters : goal.times_var-requires-clause-letters
 times_var-requires-clause-letters c t m =

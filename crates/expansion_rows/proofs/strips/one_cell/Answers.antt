@@ -3,7 +3,7 @@ use Rattle.sym_model.specs.Expansion.{Terms}
 use Rattle.sym_model.specs.Partition.{size, rows}
 use Rattle.strip_rules.specs.Room.{AreWithin}
 use Rattle.strip_rules.proofs.ShapeSums.{AreWithin-next}
-use Rattle.factor_rows.proofs.strips.one_cell.Goals as goal
+use Rattle.expansion_rows.proofs.strips.one_cell.Goals as goal
 
 pub returns : goal.returns
 returns c t m =
