@@ -1,4 +1,5 @@
 pub mod InsertedRows
+pub mod InsertedWords
 pub mod RecordedSteps
 pub mod RowsBack
 pub mod Removals

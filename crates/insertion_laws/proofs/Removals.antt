@@ -4,7 +4,8 @@ use Rattle.std.proofs.lemmas.Bool.{lt-ltb, le-ltb, eq-eqb, ne_eqb}
 use Rattle.std.proofs.lemmas.List.{length-append}
 use Rattle.sym_model.specs.Insertion.{row_with, bumped, inserted, with_step}
 use Rattle.sym_model.specs.Tableau.{shape_of}
-use Rattle.insertion_laws.specs.Rows.{grown, RisesFrom, StandsOn, first_row, AreRows, AreBelow, RowsBelow, HasOneMore, HasCorner}
+use Rattle.sym_model.specs.Growth.{grown}
+use Rattle.insertion_laws.specs.Rows.{RisesFrom, StandsOn, first_row, AreRows, AreBelow, RowsBelow, HasOneMore, HasCorner}
 use Rattle.insertion_laws.specs.Removal.{row_back, letter_back, without_last, last_of, row_over, removed, row_ending, without_step}
 use Rattle.insertion_laws.proofs.InsertedRows.{inserted-none, first-inserted, with-end, length-with}
 use Rattle.insertion_laws.proofs.RecordedSteps.{step-here, step-below}

@@ -21,7 +21,7 @@ positive_from : (m : ℕ) (rows : List (List ℕ)) → AreRows m rows → ArePos
 positive_from m [] h = tt
 positive_from m (row ∷ rows) h = (h.0.filled, positive_from m rows h.1)
 
-straight_lengths : (outer : List ℕ) → row_lengths outer [] ≡ outer
+pub straight_lengths : (outer : List ℕ) → row_lengths outer [] ≡ outer
 straight_lengths [] = refl
 straight_lengths (a ∷ outer) = ap (λ l. a ∷ l) (straight_lengths outer)
 

@@ -7,7 +7,8 @@ use Rattle.sym_model.specs.Partition.{size}
 use Rattle.sym_model.specs.Schur.{letters_of, times_in}
 use Rattle.sym_model.specs.StandardTableau.{IsStandard}
 use Rattle.sym_model.specs.Tableau.{IsStraightTableau, are_letters, shape_of}
-use Rattle.insertion_laws.specs.Rows.{grown, AreRows, RowsBelow, HasOneMore, HasCorner}
+use Rattle.sym_model.specs.Growth.{grown}
+use Rattle.insertion_laws.specs.Rows.{AreRows, RowsBelow, HasOneMore, HasCorner}
 use Rattle.insertion_laws.specs.Removal.{removed, row_ending, without_step, steps_back, word_back}
 use Rattle.insertion_laws.specs.Pairs.{IsPairAt}
 use Rattle.insertion_laws.proofs.InsertedRows.{keeps_rows, adds_cell}
@@ -18,7 +19,7 @@ use Rattle.insertion_laws.proofs.TableauRows.{tableau_from, length-letters, pair
 
 -- ---- one letter more
 
-one_more : (a : ℕ) (p q : List (List ℕ)) → shape_of p ≡ shape_of q → HasOneMore (shape_of (inserted p (Some a))) (shape_of q)
+pub one_more : (a : ℕ) (p q : List (List ℕ)) → shape_of p ≡ shape_of q → HasOneMore (shape_of (inserted p (Some a))) (shape_of q)
 one_more a p q e = subst (HasOneMore (shape_of (inserted p (Some a)))) e (adds_cell a p)
 
 pub pair_step :
@@ -84,7 +85,7 @@ from_zero : (w : List ℕ) → AreFrom 0 w
 from_zero [] = tt
 from_zero (a ∷ w) = (omega arith, from_zero w)
 
-from_letters : (w : List ℕ) → are_letters w ≡ true → AreFrom 1 w
+pub from_letters : (w : List ℕ) → are_letters w ≡ true → AreFrom 1 w
 from_letters [] h = tt
 from_letters (a ∷ w) h = let p = and_parts (nat_le 1 a) (are_letters w) h in (leb-true 1 a p.0, from_letters w p.1)
 
@@ -130,10 +131,10 @@ word_again w =
 -- ---- the pair of the word back
 
 -- the pair after one letter more
-abbrev pair_after : ℕ → ℕ → List (List ℕ) × List (List ℕ) → List (List ℕ) × List (List ℕ)
+abbrev pub pair_after : ℕ → ℕ → List (List ℕ) × List (List ℕ) → List (List ℕ) × List (List ℕ)
 pair_after k a r = let next = inserted r.0 (Some a) in (next, with_step k next r.1)
 
-inserted-more :
+pub inserted-more :
     (k a : ℕ) (w : List ℕ) (p q : List (List ℕ)) → inserted_from k (w ++ a ∷ []) p q ≡ pair_after (k + length w) a (inserted_from k w p q)
 inserted-more k a [] p q =
     let e : k ≡ k + 0 = omega arith in

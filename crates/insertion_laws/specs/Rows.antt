@@ -1,5 +1,5 @@
 -- Tableaux row by row, with letters from a bound on (this project's own).
-use Rattle.std.specs.Prelude.{cond, nat_lt, ℕ, zero, suc, ◌+◌, ◌<◌, ◌≤◌, ◌≡◌, List, [], ◌∷◌, length, ◌⊎◌}
+use Rattle.std.specs.Prelude.{ℕ, zero, suc, ◌+◌, ◌<◌, ◌≤◌, ◌≡◌, List, [], ◌∷◌, length, ◌⊎◌}
 
 -- no letter is smaller than the one before it, nor the first one than c
 abbrev pub RisesFrom : ℕ → List ℕ → Type 0
@@ -50,9 +50,3 @@ HasCorner i [] = ⊥
 HasCorner zero (a ∷ []) = Unit {0}
 HasCorner zero (a ∷ b ∷ shape) = b < a
 HasCorner (suc i) (a ∷ shape) = HasCorner i shape
-
--- the first row, counted from 0, that is longer than in the second shape
-abbrev pub grown : List ℕ → List ℕ → ℕ
-grown [] small = 0
-grown (a ∷ large) [] = 0
-grown (a ∷ large) (b ∷ small) = cond (nat_lt b a) 0 (suc (grown large small))

@@ -5,10 +5,10 @@ use Rattle.std.proofs.Math.ListN.{set}
 use Rattle.std.proofs.lemmas.List.{length-append, map-append}
 use Rattle.sym_model.specs.Insertion.{row_with, bumped, inserted}
 use Rattle.sym_model.specs.Tableau.{shape_of}
-use Rattle.insertion_laws.specs.Rows.{grown}
+use Rattle.sym_model.specs.Growth.{grown, with_end}
 use Rattle.insertion_laws.proofs.InsertedRows.{with-less, with-more, bumped-less, bumped-more, with-end, length-with, inserted-none}
 use Rattle.insertion_laws.proofs.Removals.{grown-here, grown-below}
-use Rattle.row_insertion.specs.RowLists.{rows_in, with_end}
+use Rattle.row_insertion.specs.RowLists.{rows_in}
 
 -- ---- one row
 

@@ -8,7 +8,8 @@ use Rattle.sym_model.specs.Schur.{row_lengths, letters_of}
 use Rattle.sym_model.specs.StandardTableau.{IsStandard}
 use Rattle.sym_model.specs.Tableau.{SkewFilling, IsTableau, IsStraightTableau, are_letters, shape_of}
 use Rattle.skew_shapes.specs.CellFillings.{IsTableauWithin}
-use Rattle.insertion_laws.specs.Rows.{grown, HasOneMore, HasCorner}
+use Rattle.sym_model.specs.Growth.{grown, with_end}
+use Rattle.insertion_laws.specs.Rows.{HasOneMore, HasCorner}
 use Rattle.insertion_laws.specs.Removal.{removed, row_ending, without_step, steps_back, word_back}
 use Rattle.insertion_laws.specs.Pairs.{IsPairAt}
 use Rattle.insertion_laws.proofs.InsertedRows.{adds_cell}
@@ -18,7 +19,7 @@ use Rattle.insertion_laws.proofs.Removals.{grown-here, grown-below}
 use Rattle.insertion_laws.proofs.TableauRows.{length-letters, pair_from, standard_from}
 use Rattle.insertion_laws.proofs.WordsAndPairs.{pair_step, pair_before, pair_again, word_again}
 use Rattle.row_insertion.specs.Pairs.{HaveOneShape, IsTheWordOf}
-use Rattle.row_insertion.specs.RowLists.{with_end, without_end}
+use Rattle.row_insertion.specs.RowLists.{without_end}
 use Rattle.row_insertion.proofs.MadeTableaux.{straight_lengths}
 use Rattle.row_insertion.proofs.ShrinkingRows.{without_ending}
 

@@ -16,12 +16,6 @@ row_at rows i = slice_index_or rows i []
 abbrev pub straight : List (List ℕ) → SkewFilling
 straight rows = record { outer = shape_of rows; inner = []; rows = rows }
 
--- the rows with k at the end of row i, counted from 0, or in a new row where there is none
-abbrev pub with_end : ℕ → ℕ → List (List ℕ) → List (List ℕ)
-with_end i k [] = (k ∷ []) ∷ []
-with_end zero k (row ∷ rows) = (row ++ k ∷ []) ∷ rows
-with_end (suc i) k (row ∷ rows) = row ∷ with_end i k rows
-
 -- the filling with other numbers in one row, counted from 1
 abbrev pub with_row : SkewFilling → ℕ → List ℕ → SkewFilling
 with_row t row numbers = record { outer = t.outer; inner = t.inner; rows = slice_set t.rows (row - 1) numbers }

@@ -2,8 +2,8 @@
 ghost use Rattle.std.specs.Prelude.{◌≡◌, ◌≤◌, Some, IfOk, length, [], ◌∷◌, ◌++◌};
 ghost use Rattle.sym_model.specs.Insertion.{row_with, bumped, inserted};
 ghost use Rattle.sym_model.specs.Tableau.{shape_of};
-ghost use Rattle.insertion_laws.specs.Rows.{grown};
-ghost use Rattle.row_insertion.specs.RowLists.{rows_in, with_end};
+ghost use Rattle.sym_model.specs.Growth.{grown, with_end};
+ghost use Rattle.row_insertion.specs.RowLists.{rows_in};
 
 use std::alloc::AllocError;
 use std::mem;

@@ -104,7 +104,7 @@ lowered_less i k inner new h = elim (cases_eq k i) [
   | inr d ↦ omega (arith, h.others k d)
 ]
 
-lowered_next : (i : ℕ) (inner new : List ℕ) → IsLowered (suc i) inner new → IsLowered i (drop 1 inner) (drop 1 new)
+pub lowered_next : (i : ℕ) (inner new : List ℕ) → IsLowered (suc i) inner new → IsLowered i (drop 1 inner) (drop 1 new)
 lowered_next i inner new h =
     let e : i + 1 ≡ suc i = omega arith in
     let f : i + 1 + 1 ≡ suc i + 1 = omega arith in
@@ -137,7 +137,7 @@ record IsKept (inner new row : List ℕ) (slid : List (List ℕ)) : Type 0 where
   first : (d : ℕ) → get_or new 0 0 + d ≡ get_or inner 0 0 → IsRaised d row (first_row slid)
   falls : Falls (outer_parts new slid)
 
-first_hole :
+pub first_hole :
     (inner new row : List ℕ) (below : List (List ℕ)) → HasShape inner (row ∷ below) → semistandard inner (row ∷ below) ≡ true
     → IsLowered 0 inner new → HasHole new [] row below
 first_hole inner new row below s o l =

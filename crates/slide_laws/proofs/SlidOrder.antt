@@ -68,7 +68,7 @@ slides_last inner left right h = record {
 
 -- ---- the empty cell goes down
 
-hole_below :
+pub hole_below :
     (inner row : List ℕ) (place : ℕ) (below : List (List ℕ)) → place < length row → HasShape inner (row ∷ below)
     → semistandard inner (row ∷ below) ≡ true → HasHole inner (take place row) (drop (place + 1) row) below
 hole_below inner row place below l s o =
@@ -209,7 +209,7 @@ risen_slid left right lower b = record {
       omega (arith, get_or-append-add left (b ∷ right) (suc k) 0, ap (λ n. get_or (left ++ b ∷ right) n 0) e);
 }
 
-least_moves : (right lower : List ℕ) (b : ℕ) → moves_up right (b ∷ lower) ≡ true → IsAtMost b right
+pub least_moves : (right lower : List ℕ) (b : ℕ) → moves_up right (b ∷ lower) ≡ true → IsAtMost b right
 least_moves [] lower b h l = absurd (omega arith)
 least_moves (a ∷ right) lower b h l = leb-true b a h
 
@@ -281,7 +281,7 @@ smaller_moves : (a : ℕ) (right lower : List ℕ) → moves_up (a ∷ right) lo
 smaller_moves a right [] h l = absurd (omega arith)
 smaller_moves a right (b ∷ lower) h l = leb-false b a h
 
-hole_right :
+pub hole_right :
     (inner left right row : List ℕ) (a : ℕ) (below : List (List ℕ)) → HasHole inner left (a ∷ right) (row ∷ below)
     → moves_up (a ∷ right) (drop (place_below inner left) row) ≡ false → HasHole inner (left ++ a ∷ []) right (row ∷ below)
 hole_right inner left right row a below h m =
@@ -357,11 +357,11 @@ slid_right inner left right row first a below h m n =
 
 -- ---- all moves
 
-data Shown (w : List ℕ) : Type 0 where
+pub data Shown (w : List ℕ) : Type 0 where
   nothing : w ≡ [] → Shown w
   letter : (b : ℕ) (v : List ℕ) → w ≡ b ∷ v → Shown w
 
-shown : (w : List ℕ) → Shown w
+pub shown : (w : List ℕ) → Shown w
 shown [] = nothing refl
 shown (b ∷ v) = letter b v refl
 

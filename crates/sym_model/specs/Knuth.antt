@@ -1,5 +1,7 @@
--- Knuth steps between words and their chains, which join a Knuth class (Knuth; Fulton, 2.1).
+-- Knuth steps between words, their chains, which join a Knuth class, and the straight tableau of a class (Knuth; Fulton, 2.1).
 use Rattle.std.specs.Prelude.{◌≡◌, ℕ, ◌<◌, ◌≤◌, ◌⊎◌, List, [], ◌∷◌, ◌++◌}
+use Rattle.sym_model.specs.Insertion.{reading_word}
+use Rattle.sym_model.specs.Tableau.{IsStraightTableau}
 
 -- three letters y z x become y x z, where x < y ≤ z
 pub record IsFirstExchange (v w : List ℕ) : Type 0 where
@@ -42,5 +44,12 @@ IsKnuthChain v [] w = v ≡ w
 IsKnuthChain v (u ∷ chain) w = IsKnuthStep v u × IsKnuthChain u chain w
 
 -- the words are in one Knuth class: a chain of Knuth steps joins them
-abbrev pub AreKnuthEquivalent : List ℕ → List ℕ → Type 0
-AreKnuthEquivalent v w = (chain : List (List ℕ)) × IsKnuthChain v chain w
+pub record AreKnuthEquivalent (v w : List ℕ) : Type 0 where
+  pub chain : List (List ℕ)
+  pub steps : IsKnuthChain v chain w
+
+-- these are the rows of the only straight tableau whose reading word is in the Knuth class of w
+pub record IsOnlyTableauOf (w : List ℕ) (rows : List (List ℕ)) : Type 0 where
+  pub straight : IsStraightTableau rows
+  pub class : AreKnuthEquivalent w (reading_word rows)
+  pub only : (others : List (List ℕ)) → IsStraightTableau others → AreKnuthEquivalent w (reading_word others) → others ≡ rows

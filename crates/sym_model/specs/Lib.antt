@@ -47,6 +47,7 @@ pub mod TableauList
 pub mod Insertion
 pub mod Knuth
 pub mod Slide
+pub mod Growth
 pub mod StandardTableau
 pub mod TableauText
 pub mod Workload

@@ -40,6 +40,12 @@ pub record IsKept (w : List ℕ) : Type 0 where
   pub some : 0 < length w
   pub unfixed : kept w ≡ w
 
+-- v and w are inverse permutations: each takes what the other takes a place to back to that place
+pub record AreInverse (v w : List ℕ) : Type 0 where
+  pub as_long : length v ≡ length w
+  pub back : (i : ℕ) → 1 ≤ i → i ≤ length w → letter v (letter w i) ≡ i
+  pub forth : (i : ℕ) → 1 ≤ i → i ≤ length w → letter w (letter v i) ≡ i
+
 -- i is a descent of w: the letter at place i is greater than the next
 pub record IsDescent (w : List ℕ) (i : ℕ) : Type 0 where
   pub counts : 1 ≤ i

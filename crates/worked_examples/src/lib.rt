@@ -22,7 +22,7 @@ pub use permutations::{
 pub use polynomials::{block_examples_law, order_examples_law, worked_examples_law};
 pub use reductions::{alternant_examples_law, reflection_examples_law, tableaux_examples_law};
 pub use tableaux::{
-    arrangement_examples_law, insertion_examples_law, knuth_examples_law, slide_examples_law,
-    tableau_list_examples_law,
+    arrangement_examples_law, growth_examples_law, insertion_examples_law, knuth_examples_law,
+    slide_examples_law, tableau_list_examples_law,
 };
 pub use texts::{tableau_text_examples_law, workload_examples_law};

@@ -1,11 +1,12 @@
-//! Worked examples of arrangements, lists of tableaux, insertion and slides, with values worked out
+//! Worked examples of arrangements, lists of tableaux, insertion, slides and growth, with values worked out
 //! by hand or taken from outside.
 
-ghost use Rattle.std.specs.Prelude.{◌≡◌, ℕ, List, [], ◌∷◌, Some};
+ghost use Rattle.std.specs.Prelude.{◌≡◌, ℕ, List, [], ◌∷◌, Some, map};
 ghost use Rattle.sym_model.specs.Arrangement.{arrangements};
 ghost use Rattle.sym_model.specs.Conjugate.{conjugate};
 ghost use Rattle.sym_model.specs.GoodTableau.{column_reading, lattice_readings};
 ghost use Rattle.sym_model.specs.TableauList.{tableau_readings, readings_with_content, later_than, filling_of};
+ghost use Rattle.sym_model.specs.Growth.{growth_shape, tableau_of_chain};
 ghost use Rattle.sym_model.specs.Insertion.{inserted, insertion_pair, reading_word};
 ghost use Rattle.sym_model.specs.Knuth.{IsKnuthStep, AreKnuthEquivalent};
 ghost use Rattle.sym_model.specs.Slide.{slide, IsReached};
@@ -94,4 +95,14 @@ pub fn slide_examples_law()
         (record { outer = 3 ∷ []; inner = []; rows = (1 ∷ 1 ∷ 2 ∷ []) ∷ [] }) }
     ensures other_corner { slide 1 (slide 1 (slide 2 (record { outer = 3 ∷ 2 ∷ 1 ∷ []; inner = 2 ∷ 1 ∷ []; rows = (2 ∷ []) ∷ (1 ∷ []) ∷ (1 ∷ []) ∷ [] })))
         ≡ record { outer = 3 ∷ []; inner = []; rows = (1 ∷ 1 ∷ 2 ∷ []) ∷ [] } }
+{}
+
+/// Growth: the lines of the grid of 3 1 2 below the empty one, and the tableaux that its last line and its last column grow
+/// to.
+pub fn growth_examples_law()
+    ensures first { map (growth_shape (3 ∷ 1 ∷ 2 ∷ []) 1) (0 ∷ 1 ∷ 2 ∷ 3 ∷ []) ≡ [] ∷ [] ∷ [] ∷ (1 ∷ []) ∷ [] }
+    ensures second { map (growth_shape (3 ∷ 1 ∷ 2 ∷ []) 2) (0 ∷ 1 ∷ 2 ∷ 3 ∷ []) ≡ [] ∷ (1 ∷ []) ∷ (1 ∷ []) ∷ (1 ∷ 1 ∷ []) ∷ [] }
+    ensures third { map (growth_shape (3 ∷ 1 ∷ 2 ∷ []) 3) (0 ∷ 1 ∷ 2 ∷ 3 ∷ []) ≡ [] ∷ (1 ∷ []) ∷ (2 ∷ []) ∷ (2 ∷ 1 ∷ []) ∷ [] }
+    ensures last_line { tableau_of_chain (λ j. growth_shape (3 ∷ 1 ∷ 2 ∷ []) 3 j) 3 ≡ (1 ∷ 2 ∷ []) ∷ (3 ∷ []) ∷ [] }
+    ensures last_column { tableau_of_chain (λ i. growth_shape (3 ∷ 1 ∷ 2 ∷ []) i 3) 3 ≡ (1 ∷ 3 ∷ []) ∷ (2 ∷ []) ∷ [] }
 {}

@@ -74,29 +74,33 @@ returns-clause-inside c =
     }
 
 pub returns-clause-joined : goal.returns-clause-joined
-returns-clause-joined c = (
-  (1 ∷ 3 ∷ 2 ∷ 4 ∷ []) ∷ (3 ∷ 1 ∷ 2 ∷ 4 ∷ []) ∷ [],
-  (
+returns-clause-joined c =
     record {
-      front = 1 ∷ [];
-      three = 3 ∷ 4 ∷ 2 ∷ [];
-      changed = 3 ∷ 2 ∷ 4 ∷ [];
-      back = [];
-      related = inl (inl (record { x = 2; y = 3; z = 4; below = omega arith; within = omega arith; before = refl; after = refl }));
-      from = refl;
-      to = refl;
-    },
-    (
-      record {
-        front = [];
-        three = 1 ∷ 3 ∷ 2 ∷ [];
-        changed = 3 ∷ 1 ∷ 2 ∷ [];
-        back = 4 ∷ [];
-        related = inr (inl (record { x = 1; y = 2; z = 3; within = omega arith; below = omega arith; before = refl; after = refl }));
-        from = refl;
-        to = refl;
-      },
-      refl,
-    ),
-  ),
-)
+      chain = (1 ∷ 3 ∷ 2 ∷ 4 ∷ []) ∷ (3 ∷ 1 ∷ 2 ∷ 4 ∷ []) ∷ [];
+      steps = (
+        record {
+          front = 1 ∷ [];
+          three = 3 ∷ 4 ∷ 2 ∷ [];
+          changed = 3 ∷ 2 ∷ 4 ∷ [];
+          back = [];
+          related = inl (inl (record { x = 2; y = 3; z = 4; below = omega arith; within = omega arith; before = refl; after = refl }));
+          from = refl;
+          to = refl;
+        },
+        (
+          record {
+            front = [];
+            three = 1 ∷ 3 ∷ 2 ∷ [];
+            changed = 3 ∷ 1 ∷ 2 ∷ [];
+            back = 4 ∷ [];
+            related = inr (inl (record { x = 1; y = 2; z = 3; within = omega arith; below = omega arith; before = refl; after = refl }));
+            from = refl;
+            to = refl;
+          },
+          refl,
+        ),
+      );
+    }
+
+pub returns-clause-itself : goal.returns-clause-itself
+returns-clause-itself c = λ w. record { chain = []; steps = refl }
