@@ -20,7 +20,7 @@ use Rattle.sym_model.specs.LargeAnswer.{variables_or}
 use Rattle.sym_model.proofs.Ring.{one-product}
 use Rattle.sym_model.proofs.Sums.{total_ext, total_among, total_none, total_map}
 use Rattle.sym_model.proofs.Exponents.{same_apart, length-resize, length-join}
-use Rattle.sym_model.proofs.Polynomials.{at_only, coefficient_pair, pair_each, pair_times, pair_zero, pair_restrict, pair_determined, same_from_pair, times_respects, Same_refl, Same_sym, Same_trans, restrict_respects}
+use Rattle.sym_model.proofs.Polynomials.{pair_times_each, at_only, coefficient_pair, pair_each, pair_times, pair_zero, pair_restrict, pair_determined, same_from_pair, times_respects, Same_refl, Same_sym, Same_trans, restrict_respects}
 use Rattle.sym_model.proofs.PolynomialLaws.{restrict-times}
 use Rattle.sym_model.proofs.SortedParts.{IsPartition-none, IsPartition-without_last_zeros}
 use Rattle.sym_model.proofs.Orders.{is_partition-tells, is_partition-from}
@@ -33,7 +33,7 @@ use Rattle.alternant_laws.specs.GoodSums.{start_plus_content, good_schurs, Lists
 use Rattle.alternant_laws.proofs.FallingAlternants.{join_padded, without_last_zeros-resize, length-without_last_zeros, falls_from_test, coefficient_at_partition}
 use Rattle.alternant_laws.proofs.GoodAlternants.{good_sums}
 use Rattle.alternant_laws.proofs.BoundedLetters.{too_many_rows}
-use Rattle.alternant_laws.proofs.SchurProducts.{bialternant, schur_few_variables, pair_times_each, product-good_schurs, skew-good_schurs}
+use Rattle.alternant_laws.proofs.SchurProducts.{bialternant, schur_few_variables, product-good_schurs, skew-good_schurs}
 
 -- ---- the Schur coefficients of a Schur polynomial
 

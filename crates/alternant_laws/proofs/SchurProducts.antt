@@ -1,16 +1,16 @@
 -- The Littlewood–Richardson rule: products of Schur polynomials and skew Schur polynomials as sums of Schur polynomials over
 -- good tableaux, and their Schur coefficients as counts.
-use Rattle.std.proofs.Common.{◌≡◌, ℕ, ◌<◌, ◌≤◌, ◌⊎◌, Bool, true, false, cond, ◌&&◌, List, [], ◌∷◌, length, nat_le, sym, ◌∙◌, ap, inl, inr, arith, ℤ, pos}
+use Rattle.std.proofs.Common.{◌≡◌, ℕ, ◌<◌, ◌≤◌, ◌⊎◌, Bool, true, false, cond, ◌&&◌, List, [], ◌∷◌, length, nat_le, sym, ◌∙◌, ap, inl, inr, arith, pos}
 use Rattle.std.proofs.lemmas.Bool.{cases_lt, and_left, lt-leb}
-use Rattle.sym_model.specs.Sum.{total, each, select, Among}
+use Rattle.sym_model.specs.Sum.{each, select, Among}
 use Rattle.sym_model.specs.Partition.{Falls, IsPartition, rows}
-use Rattle.sym_model.specs.Polynomial.{Poly, Same, In, coefficient, nothing, join, times, pair}
+use Rattle.sym_model.specs.Polynomial.{Same, In, coefficient, nothing, join, times, pair}
 use Rattle.sym_model.specs.Schur.{tableaux, content, letters_of, skew_schur, schur}
 use Rattle.sym_model.specs.GoodTableau.{is_falling, is_good, good_tableaux}
 use Rattle.sym_model.specs.Alternant.{alternant, staircase}
-use Rattle.sym_model.proofs.Sums.{total_ext, total_among, total_none}
+use Rattle.sym_model.proofs.Sums.{total_among, total_none}
 use Rattle.sym_model.proofs.Exponents.{length-join}
-use Rattle.sym_model.proofs.Polynomials.{pair_ext, pair_each, pair_total, pair_times, pair_determined, same_from_pair, times_respects, Same_refl, Same_sym, Same_trans, In_each, In_times}
+use Rattle.sym_model.proofs.Polynomials.{pair_each, pair_times_each, pair_determined, same_from_pair, times_respects, Same_refl, Same_sym, Same_trans, In_each, In_times}
 use Rattle.sym_model.proofs.PolynomialLaws.{times_assoc}
 use Rattle.sym_model.proofs.SortedParts.{IsPartition-none, IsPartition-without_last_zeros}
 use Rattle.tableau_laws.specs.PaddedRows.{fillings_over, padded}
@@ -77,13 +77,6 @@ good_sum n start outer inner T h falls m =
     let l : length (join start (content n (letters_of T))) ≡ n = omega arith in
     let s = length-without_last_zeros (join start (content n (letters_of T))) in
     record { falls = f; length = l; partition = IsPartition-without_last_zeros (join start (content n (letters_of T))) (falls_from_test (join start (content n (letters_of T))) f); few = omega arith }
-
-pub pair_times_each : {A : Type 0} (f : Poly) (h : A → Poly) (xs : List A) (φ : List ℕ → ℤ) → pair (times f (each h xs)) φ ≡ total (λ (x : A). pair (times f (h x)) φ) xs
-pair_times_each {A} f h xs φ =
-    pair_times f (each h xs) φ
-    ∙ pair_ext f (λ α. pair (each h xs) (λ β. φ (join α β))) (λ α. total (λ (x : A). pair (h x) (λ β. φ (join α β))) xs) (λ α. pair_each h xs (λ β. φ (join α β)))
-    ∙ pair_total f (λ (x : A) (α : List ℕ). pair (h x) (λ β. φ (join α β))) xs
-    ∙ total_ext (λ (x : A). pair f (λ α. pair (h x) (λ β. φ (join α β)))) (λ (x : A). pair (times f (h x)) φ) (λ x. sym (pair_times f (h x) φ)) xs
 
 -- a_ρ times the sum of Schur polynomials is the sum of alternants
 staircase_times_good : (n : ℕ) (start outer inner : List ℕ) → rows start ≤ n → Falls outer

@@ -3,13 +3,13 @@ use Rattle.std.proofs.Common.{◌≡◌, ℕ, zero, suc, ◌+◌, ◌-◌, ◌<�
 use Rattle.std.proofs.lemmas.Bool.{ne_eqb, eq-eqb, cases_eq, lt-ltb}
 use Rattle.sym_model.specs.Sum.{total, each, select}
 use Rattle.sym_model.specs.Partition.{IsPartition, columns, part, after, in_front, without_last_zeros}
-use Rattle.sym_model.specs.Polynomial.{Poly, Term, Same, pair}
+use Rattle.sym_model.specs.Polynomial.{Term, Same, pair}
 use Rattle.sym_model.specs.Schur.{contains, row_lengths, fillings_of, semistandard, columns_rise, times_in, letters_of, content, schur, skew_schur}
 use Rattle.sym_model.specs.Expansion.{beside}
 use Rattle.sym_model.proofs.AfterLists.{after_among}
-use Rattle.sym_model.proofs.Polynomials.{pair_each, same_from_pair}
-use Rattle.sym_model.proofs.Ring.{one-product, product_assoc}
-use Rattle.sym_model.proofs.Sums.{total_ext, total_among, total_scale, total_map, total_select}
+use Rattle.sym_model.proofs.Polynomials.{pair_beside, pair_each, same_from_pair}
+use Rattle.sym_model.proofs.Ring.{one-product}
+use Rattle.sym_model.proofs.Sums.{total_ext, total_among, total_map, total_select}
 use Rattle.tableau_laws.proofs.ColumnCounts.{contains_nothing}
 use Rattle.tableau_laws.proofs.Contents.{map_among, times_in-append}
 use Rattle.coproduct_laws.specs.InnerShapes.{shapes_inside}
@@ -19,19 +19,6 @@ use Rattle.coproduct_laws.proofs.CutColumns.{AreUpTo}
 use Rattle.coproduct_laws.proofs.CutTableaux.{glued, cut_below, total_cut}
 use Rattle.coproduct_laws.proofs.InnerShapeLists.{IsInside, inside-tells, same-without_last_zeros, contains-without_last_zeros}
 use lib.IntN.{+ℤ_idr}
-
--- ---- polynomials in variables of their own
-
-pair_behind : (s : Term) (g : Poly) (φ : List ℕ → ℤ) → pair (map (λ (t : Term). (s.0 ++ t.0, s.1 *ℤ t.1)) g) φ ≡ s.1 *ℤ pair g (λ β. φ (s.0 ++ β))
-pair_behind s g φ =
-    total_map (λ (t : Term). t.1 *ℤ φ t.0) (λ (t : Term). (s.0 ++ t.0, s.1 *ℤ t.1)) g
-    ∙ total_ext (λ (t : Term). (s.1 *ℤ t.1) *ℤ φ (s.0 ++ t.0)) (λ (t : Term). s.1 *ℤ (t.1 *ℤ φ (s.0 ++ t.0))) (λ t. product_assoc s.1 t.1 (φ (s.0 ++ t.0))) g
-    ∙ total_scale s.1 (λ (t : Term). t.1 *ℤ φ (s.0 ++ t.0)) g
-
-pub pair_beside : (f g : Poly) (φ : List ℕ → ℤ) → pair (beside f g) φ ≡ pair f (λ α. pair g (λ β. φ (α ++ β)))
-pair_beside f g φ =
-    pair_each (λ (s : Term). map (λ (t : Term). (s.0 ++ t.0, s.1 *ℤ t.1)) g) f φ
-    ∙ total_ext (λ (s : Term). pair (map (λ (t : Term). (s.0 ++ t.0, s.1 *ℤ t.1)) g) φ) (λ (s : Term). s.1 *ℤ pair g (λ β. φ (s.0 ++ β))) (λ s. pair_behind s g φ) f
 
 -- ---- skew Schur polynomials as sums over rows
 

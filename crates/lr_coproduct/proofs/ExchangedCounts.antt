@@ -8,7 +8,7 @@ use Rattle.sym_model.specs.Schur.{contains, schur, skew_schur}
 use Rattle.sym_model.specs.GoodTableau.{good_tableaux, product_count, skew_count}
 use Rattle.sym_model.specs.Alternant.{alternant, staircase, schur_coefficient}
 use Rattle.sym_model.specs.WholeTerms.{WholeTerms, combined}
-use Rattle.sym_model.proofs.Polynomials.{at_only, coefficient_pair, pair_determined, pair_scale, times_respects, Same_refl, Same_sym}
+use Rattle.sym_model.proofs.Polynomials.{pair_times_each, at_only, coefficient_pair, pair_determined, pair_scale, times_respects, Same_refl, Same_sym}
 use Rattle.sym_model.proofs.PolynomialLaws.{times-scale}
 use Rattle.sym_model.proofs.Ring.{ring}
 use Rattle.sym_model.proofs.SortedParts.{IsPartition-none}
@@ -18,7 +18,6 @@ use Rattle.tableau_laws.proofs.ColumnCounts.{total_readings_by_columns}
 use Rattle.tableau_laws.proofs.GoodReadings.{total_good_contents}
 use Rattle.alternant_laws.specs.GoodSums.{start_plus_content}
 use Rattle.alternant_laws.proofs.CountedTerms.{good_terms, coefficient_counts, nothing_times, schur_coefficient_of_schur, skew_coefficients}
-use Rattle.alternant_laws.proofs.SchurProducts.{pair_times_each}
 use Rattle.duality_laws.proofs.Duality.{rows_inside}
 use Rattle.duality_laws.proofs.ProductCounts.{product_by_shape, product_outside, product_exchanged}
 use Rattle.lr_product.proofs.GoodCounts.{product_count-other_size}

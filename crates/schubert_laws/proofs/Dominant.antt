@@ -136,7 +136,7 @@ along_one_up zero (a ∷ b ∷ c) d φ u =
 along_one_up (suc k) (a ∷ c) [] φ u = absurd u
 along_one_up (suc k) (a ∷ c) (b ∷ d) φ u = along_one_up k c d (λ β. φ (b ∷ β)) u.1 ∙ ap (λ x. φ (x ∷ c)) (sym u.0)
 
-one_up : (k : ℕ) (w : List ℕ) → Falls (code w) → Rises k w → IsOneUp k (code w) (code (exchange_at k w))
+pub one_up : (k : ℕ) (w : List ℕ) → Falls (code w) → Rises k w → IsOneUp k (code w) (code (exchange_at k w))
 one_up k [] f r = absurd r
 one_up zero (a ∷ []) f r = absurd r
 one_up zero (a ∷ b ∷ w) f r =
@@ -153,7 +153,7 @@ smaller_below a b w h =
     let s = smaller_step b a w (omega arith) in
     omega arith
 
-falls_exchange : (k : ℕ) (w : List ℕ) → Once w → Falls (code w) → Rises k w → ((j : ℕ) → j < k → Rises j w → ⊥) → Falls (code (exchange_at k w))
+pub falls_exchange : (k : ℕ) (w : List ℕ) → Once w → Falls (code w) → Rises k w → ((j : ℕ) → j < k → Rises j w → ⊥) → Falls (code (exchange_at k w))
 falls_exchange k [] o f r n = absurd r
 falls_exchange zero (a ∷ []) o f r n = absurd r
 falls_exchange zero (a ∷ b ∷ w) o f r n =

@@ -122,7 +122,7 @@ one_line_front v k o = record { letters = letters; once = once_front v (after (0
 pub one_line_kept : (w : List ℕ) → IsOneLine w → IsOneLine (kept w)
 one_line_kept w o = let t = kept_tail w in one_line_front (kept w) t.0 (subst IsOneLine t.1 o)
 
-tail_from_zero : (v : List ℕ) (k : ℕ) → v ++ after (0 + length v) k ≡ v ++ after (length v) k
+pub tail_from_zero : (v : List ℕ) (k : ℕ) → v ++ after (0 + length v) k ≡ v ++ after (length v) k
 tail_from_zero v k = let e : 0 + length v ≡ length v = omega arith in ap (λ n. v ++ after n k) e
 
 pub schubert_kept : (w : List ℕ) (n : ℕ) → IsOneLine w → Same (schubert_in (kept w) n) (schubert_in w n)

@@ -51,7 +51,7 @@ last_descent_next m [] h = refl
 last_descent_next m (a ∷ []) h = ap (λ t. cond t (Some 1) None) (not_less m a (let g = h a (inl refl) in omega arith))
 last_descent_next m (a ∷ b ∷ w) h = ap (λ o. option_or (option_map suc o) (cond (nat_lt b a) (Some 1) None)) (last_descent_next m (b ∷ w) (λ x i. h x (inr i)))
 
-last_descent_added : (k : ℕ) (w : List ℕ) → IsOneLine w → last_descent (w ++ after (length w) k) ≡ last_descent w
+pub last_descent_added : (k : ℕ) (w : List ℕ) → IsOneLine w → last_descent (w ++ after (length w) k) ≡ last_descent w
 last_descent_added zero w o = ap last_descent (append-nil w)
 last_descent_added (suc k) w o =
     ap last_descent (next_after w k)
@@ -112,7 +112,7 @@ still_rises w q b s c h l =
 
 -- ---- its covers below place q
 
-cover_falls : (u : List ℕ) (p q : ℕ) → Once u → p < q → q < length u → rising_pairs u ≡ suc (rising_pairs (swap_at p q u)) → get_or u p 0 < get_or u q 0
+pub cover_falls : (u : List ℕ) (p q : ℕ) → Once u → p < q → q < length u → rising_pairs u ≡ suc (rising_pairs (swap_at p q u)) → get_or u p 0 < get_or u q 0
 cover_falls u p q o h l e = elim (cases_lt (get_or u p 0) (get_or u q 0)) [
   | inl f ↦ f
   | inr f ↦ elim (cases_lt (get_or u q 0) (get_or u p 0)) [

@@ -69,7 +69,7 @@ sum_after (suc n) a f =
     let d : a + 0 ≡ a + 1 - 1 = omega arith in
     ap₂ ◌+ℤ◌ (ap f d) (sum_below_ext n (λ b. f (a + suc b)) (λ b. f (a + 1 + b)) (λ b h. let e : a + suc b ≡ a + 1 + b = omega arith in ap f e) ∙ sum_after n (a + 1) f)
 
-sum_split : (n q : ℕ) (f : ℕ → ℤ) → q < n
+pub sum_split : (n q : ℕ) (f : ℕ → ℤ) → q < n
     → sum_below n f ≡ total (λ i. f (i - 1)) (after 0 q) +ℤ (f q +ℤ total (λ i. f (i - 1)) (after (q + 1) (n - (q + 1))))
 sum_split n q f h =
     let t : q + suc (n - (q + 1)) ≡ n = omega arith in
@@ -109,7 +109,7 @@ cover_tests n φ g ψ w long v x o p l e f q =
     (λ t. let a = eqb-true (inversions x) (inversions w + 1) t in eq-eqb (rising_pairs long) (suc (rising_pairs v)) (one_less_rising long v o p l (omega arith))))
     q
 
-longer_split : (w : List ℕ) (k m : ℕ) → m ≤ k + 1 → longer w k ≡ (w ++ after (length w) m) ++ after (length (w ++ after (length w) m)) (k + 1 - m)
+pub longer_split : (w : List ℕ) (k m : ℕ) → m ≤ k + 1 → longer w k ≡ (w ++ after (length w) m) ++ after (length (w ++ after (length w) m)) (k + 1 - m)
 longer_split w k m h =
     let e : k + 1 ≡ m + (k + 1 - m) = omega arith in
     let l = length-append w (after (length w) m) in
@@ -121,7 +121,7 @@ longer_split w k m h =
     ∙ ap (λ t. (w ++ after (length w) m) ++ after t (k + 1 - m)) d
 
 -- a list u with fixed letters added up to a longer one, and its swap
-swap_added : (u : List ℕ) (t a b : ℕ) → a < length u → b < length u → swap_at a b (u ++ after (length u) t) ≡ swap_at a b u ++ after (length (swap_at a b u)) t
+pub swap_added : (u : List ℕ) (t a b : ℕ) → a < length u → b < length u → swap_at a b (u ++ after (length u) t) ≡ swap_at a b u ++ after (length (swap_at a b u)) t
 swap_added u t a b h l = swap_at_append a b u (after (length u) t) h l ∙ ap (λ n. swap_at a b u ++ after n t) (sym (length-swap_at a b u))
 
 pair_within : (n : ℕ) (φ : List ℕ → ℤ) (a b : ℕ) (long : List ℕ) → pair (schubert_over (top_of long) (swap_at a b long)) (within n φ) ≡ pair (schubert_in (swap_at a b long) n) φ
@@ -161,7 +161,7 @@ cover_term n φ w k i j o c h l =
 
 -- ---- Monk's rule
 
-whole_longer : (w : List ℕ) (k : ℕ) → longer w k ≡ (w ++ after (length w) k) ++ ((length (w ++ after (length w) k) + 1) ∷ [])
+pub whole_longer : (w : List ℕ) (k : ℕ) → longer w k ≡ (w ++ after (length w) k) ++ ((length (w ++ after (length w) k) + 1) ∷ [])
 whole_longer w k =
     let la = length-append w (after (length w) k) in
     let lb = length_after (length w) k in

@@ -73,7 +73,7 @@ rising_pairs_added m (a ∷ v) b =
     greater_added x y [] h = let c = counted x y h in omega arith
     greater_added x y (z ∷ u) h = let e = greater_added x y u h in omega arith
 
-greater_of_none : (x : ℕ) (u : List ℕ) → ((y : ℕ) → Among y u → y ≤ x) → greater x u ≡ 0
+pub greater_of_none : (x : ℕ) (u : List ℕ) → ((y : ℕ) → Among y u → y ≤ x) → greater x u ≡ 0
 greater_of_none x [] h = refl
 greater_of_none x (y ∷ u) h =
     let c = not_counted x y (h y (inl refl)) in
@@ -99,7 +99,7 @@ below_or a m v b h y i = elim (Among_from_append y v (a ∷ []) i) [
 ]
 
 -- it is a cover
-last_cover : (m r : ℕ) (v : List ℕ) → Once v → IsBelow m v → HasNoAscent v → r < length v
+pub last_cover : (m r : ℕ) (v : List ℕ) → Once v → IsBelow m v → HasNoAscent v → r < length v
     → rising_pairs (v ++ (m ∷ [])) ≡ suc (rising_pairs (swap_at r (length v) (v ++ (m ∷ []))))
 last_cover m r [] o b n h = absurd (omega arith)
 last_cover m zero (a ∷ v) o b n h =
@@ -123,7 +123,7 @@ last_cover m (suc r) (a ∷ v) o b n h =
     omega arith
 
 -- and its code has one more at place r
-last_code : (m r : ℕ) (v : List ℕ) → Once v → IsBelow m v → HasNoAscent v → r < length v
+pub last_code : (m r : ℕ) (v : List ℕ) → Once v → IsBelow m v → HasNoAscent v → r < length v
     → code (swap_at r (length v) (v ++ (m ∷ []))) ≡ raise r (code (v ++ (m ∷ [])))
 last_code m r [] o b n h = absurd (omega arith)
 last_code m zero (a ∷ v) o b n h =
@@ -140,7 +140,7 @@ last_code m zero (a ∷ v) o b n h =
         omega arith
 last_code m (suc r) (a ∷ v) o b n h = ap₂ ◌∷◌ (smaller_swap a r (length v) (v ++ (m ∷ []))) (last_code m r v o.1 (λ y i. b y (inr i)) (λ k. n (suc k)) (omega arith))
 
-falls_raised : (n r : ℕ) → r < n → Falls (raise r (staircase n ++ (0 ∷ [])))
+pub falls_raised : (n r : ℕ) → r < n → Falls (raise r (staircase n ++ (0 ∷ [])))
 falls_raised zero r h = absurd (omega arith)
 falls_raised (suc zero) zero h = (omega arith, tt)
 falls_raised (suc zero) (suc r) h = absurd (omega arith)
@@ -177,7 +177,7 @@ pub over_swap : (a b : ℕ) (w : List ℕ) → schubert_over (x_to (staircase (l
 over_swap a b w = ap (λ n. schubert_over (x_to (staircase n)) (swap_at a b w)) (sym (length-swap_at a b w))
 
 -- the other places give nothing
-falling_elsewhere : (g : Poly) (φ : List ℕ → ℤ) (m r b : ℕ) (v : List ℕ) → Once v → HasNoAscent v → r < length v → b < length v → value g φ (v ++ (m ∷ [])) r b ≡ pos 0
+pub falling_elsewhere : (g : Poly) (φ : List ℕ → ℤ) (m r b : ℕ) (v : List ℕ) → Once v → HasNoAscent v → r < length v → b < length v → value g φ (v ++ (m ∷ [])) r b ≡ pos 0
 falling_elsewhere g φ m r b v o n h l = elim (cases_lt r b) [
   | inl f ↦ signed_up r b (covered g φ (v ++ (m ∷ [])) r b) f ∙ covered_none g φ (v ++ (m ∷ [])) r b (no_cover m r b v o n f l)
   | inr f ↦ elim (cases_lt b r) [

@@ -37,13 +37,13 @@ jump zero (suc (suc r)) z = pos 0
 jump (suc k) zero z = pos 0
 jump (suc k) (suc r) z = jump k r z
 
-jump_first : (φ : ℕ → ℕ → ℤ) (a b : ℕ) → across (λ c d. φ (suc c) d) a b ≡ across φ a (suc b) +ℤ φ a b
+pub jump_first : (φ : ℕ → ℕ → ℤ) (a b : ℕ) → across (λ c d. φ (suc c) d) a b ≡ across φ a (suc b) +ℤ φ a b
 jump_first φ a b =
     let e = across_ext (λ c d. φ (suc c) d) (stepped (λ c d. climb φ (suc c) d)) (λ c d. omega (arith, ints)) a b in
     let s = across_stepped (λ c d. climb φ (suc c) d) a b in
     omega (arith, ints)
 
-jump_second : (φ : ℕ → ℕ → ℤ) (a b : ℕ) → across (λ c d. φ c (suc d)) a b ≡ across φ (suc a) b +ℤ neg_ℤ (φ a b)
+pub jump_second : (φ : ℕ → ℕ → ℤ) (a b : ℕ) → across (λ c d. φ c (suc d)) a b ≡ across φ (suc a) b +ℤ neg_ℤ (φ a b)
 jump_second φ a b =
     let e = across_ext (λ c d. φ c (suc d)) (stepped (λ c d. climb φ c (suc d))) (λ c d. omega (arith, ints)) a b in
     let s = across_stepped (λ c d. climb φ c (suc d)) a b in

@@ -113,7 +113,7 @@ get_swap_other (suc a) (suc b) zero d (x ∷ w) n m = refl
 get_swap_other (suc a) (suc b) (suc c) d (x ∷ w) n m = get_swap_other a b c d w (λ e. n (ap suc e)) (λ e. m (ap suc e))
 
 -- an entry between two others in place and in size: no cover
-between : (a c b d : ℕ) (w : List ℕ) → a < c → c < b → b < length w → get_or w a d < get_or w c d → get_or w c d < get_or w b d
+pub between : (a c b d : ℕ) (w : List ℕ) → a < c → c < b → b < length w → get_or w a d < get_or w c d → get_or w c d < get_or w b d
     → rising_pairs w ≡ suc (rising_pairs (swap_at a b w)) → ⊥
 between a c b d w h k l f g e =
     let v : List ℕ = swap_at a c w in
@@ -196,7 +196,7 @@ pub record IsStep (w : List ℕ) (q b : ℕ) : Type 0 where
   pub later : (c : ℕ) → b < c → c < length w → get_or w q 0 ≤ get_or w c 0
 
 -- no place but b gives a cover of the swapped list with a fixed letter added
-no_other : (w : List ℕ) (q b c : ℕ) → IsOneLine w → IsStep w q b → q < c → c ≤ length w → (c ≡ b → ⊥)
+pub no_other : (w : List ℕ) (q b c : ℕ) → IsOneLine w → IsStep w q b → q < c → c ≤ length w → (c ≡ b → ⊥)
     → rising_pairs (longer (swap_at q b w) 0) ≡ suc (rising_pairs (swap_at q c (longer (swap_at q b w) 0))) → ⊥
 no_other w q b c o s h l n e =
     let u : List ℕ = swap_at q b w in
@@ -232,7 +232,7 @@ no_other w q b c o s h l n e =
       ]
     ]
 
-swap_there : (w : List ℕ) (q b : ℕ) → q < b → b < length w → times_swap (suc q) (suc b) (swap_at q b w) ≡ kept w
+pub swap_there : (w : List ℕ) (q b : ℕ) → q < b → b < length w → times_swap (suc q) (suc b) (swap_at q b w) ≡ kept w
 swap_there w q b h l =
     let lu = length-swap_at q b w in
     let z : suc b - length (swap_at q b w) ≡ 0 = omega arith in

@@ -4,16 +4,16 @@
 --     acted_start       1 times the Schubert polynomial
 --     acted_natural     it has no negative coefficients
 --     acted_at          and a monomial of it
-use Rattle.std.proofs.Common.{◌≡◌, ℕ, Bool, true, false, ◌&&◌, cond, List, [], ◌∷◌, length, refl, sym, ap, ◌∙◌, arith, ℤ, pos, ◌+ℤ◌, ◌≤ℤ◌}
+use Rattle.std.proofs.Common.{◌≡◌, ℕ, Bool, true, false, ◌&&◌, cond, List, [], ◌∷◌, refl, sym, ap, ◌∙◌, arith, ℤ, pos, ◌+ℤ◌, ◌≤ℤ◌}
 use Rattle.std.specs.Prelude.{None}
 use Rattle.std.proofs.lemmas.Int.{ints}
 use Rattle.sym_model.specs.Sum.{total}
-use Rattle.sym_model.specs.Polynomial.{Poly, In, Term, same, join, pair, one, no_exponents, resize, fits_in, restrict}
+use Rattle.sym_model.specs.Polynomial.{Poly, same, join, pair, one, no_exponents, resize, fits_in}
 use Rattle.sym_model.specs.Permutation.{IsOneLine, IsTransition, last_descent, times_swap, covers_down}
 use Rattle.sym_model.specs.Schubert.{schubert, schubert_in}
-use Rattle.sym_model.proofs.Sums.{total_zero, Among_from_map}
+use Rattle.sym_model.proofs.Sums.{total_zero}
 use Rattle.sym_model.proofs.Exponents.{same_true, same_refl, join_comm, join_assoc, join_zeros, length-resize, resize-nil, resize-join, fits_in-join, fits_in_length}
-use Rattle.sym_model.proofs.Polynomials.{pair_ext, pair_in, pair_determined, pair_one, at_only}
+use Rattle.sym_model.proofs.Polynomials.{pair_ext, pair_in, pair_determined, pair_one, at_only, In_restrict}
 use Rattle.schubert_laws.proofs.LowerPermutations.{identity_is_one}
 use Rattle.monomial_polys.specs.Raised.{raised}
 use Rattle.schubert_transition.specs.Transitions.{shown, acted}
@@ -50,11 +50,6 @@ acted_identity n φ w e o d =
     (pair_determined (schubert_in w n) (one n) (λ β. φ (join (resize n e) β)) (identity_is_one w n o d)
     ∙ pair_one n (λ β. φ (join (resize n e) β))
     ∙ ap φ (join_comm (resize n e) (no_exponents n) ∙ join_zeros n (resize n e) (let l = length-resize n e in omega arith)))
-
-In_restrict : (n : ℕ) (f : Poly) → In n (restrict n f)
-In_restrict n f t m =
-    let p = Among_from_map (λ (u : Term). (resize n u.0, u.1)) t _ m in
-    ap (λ (u : Term). length u.0) p.2 ∙ length-resize n p.0.0
 
 pub acted_start : (n : ℕ) (φ : List ℕ → ℤ) (w : List ℕ) → acted n φ w [] ≡ pair (schubert_in w n) φ
 acted_start n φ w =

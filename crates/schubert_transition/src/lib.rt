@@ -7,4 +7,5 @@ mod sums;
 mod todo;
 mod top;
 
+pub use places::transition_places;
 pub use top::{schubert, schubert_terms};

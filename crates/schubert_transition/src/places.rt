@@ -7,7 +7,7 @@ use perm_codes::Perm;
 
 /// The last descent of a permutation, and the last place whose letter is smaller than the one there. None exactly for the
 /// identity.
-pub(crate) fn transition_places(w: &Perm) -> Option<(u16, u16)>
+pub fn transition_places(w: &Perm) -> Option<(u16, u16)>
     ensures places { IfSome result (λ p. IsTransition w.now p.0 p.1) }
     ensures short { IsShort 255 w.now }
     ensures none { IfNone result (last_descent w.now ≡ None) }

@@ -13,11 +13,10 @@ use Rattle.sym_model.specs.PlaceOrders.{minus_one_to}
 use Rattle.sym_model.specs.WholeTerms.{WholeTerms, combined, absolute_total}
 use Rattle.sym_model.proofs.Ring.{product_assoc}
 use Rattle.sym_model.proofs.Sums.{total_ext, total_among, total_map, total_each, total_scale}
-use Rattle.sym_model.proofs.Polynomials.{pair_each, pair_scale, pair_determined, same_from_pair}
+use Rattle.sym_model.proofs.Polynomials.{pair_times_each, pair_each, pair_scale, pair_determined, same_from_pair}
 use Rattle.sym_model.proofs.PolynomialLaws.{times-scale}
 use Rattle.sym_model.proofs.WholeTerms.{pair_of_combined}
 use Rattle.beta_list_laws.proofs.NeighbourExchanges.{parity_of}
-use Rattle.alternant_laws.proofs.SchurProducts.{pair_times_each}
 use Rattle.strip_product_laws.specs.StripLists.{ListsEach, AddsHorizontalStrip, AddsVerticalStrip, AddsRimHook}
 use Rattle.strip_product_laws.specs.StripTerms.{strip_terms, hook_terms}
 use Rattle.strip_product_laws.proofs.Pieri.{horizontal, vertical}

@@ -9,12 +9,12 @@ use Rattle.sym_model.specs.Schur.{schur}
 use Rattle.sym_model.specs.Alternant.{alternant, alternants_over, staircase}
 use Rattle.sym_model.proofs.Sums.{total_among, total_none, total_select}
 use Rattle.sym_model.proofs.Exponents.{length-join}
-use Rattle.sym_model.proofs.Polynomials.{pair_ext, pair_zero, pair_factor, pair_each, pair_times, pair_determined, same_from_pair, times_respects, Same_refl, Same_sym, Same_trans, In_each, In_times}
+use Rattle.sym_model.proofs.Polynomials.{pair_times_each, pair_ext, pair_zero, pair_factor, pair_each, pair_times, pair_determined, same_from_pair, times_respects, Same_refl, Same_sym, Same_trans, In_each, In_times}
 use Rattle.sym_model.proofs.PolynomialLaws.{times_assoc, times_comm}
 use Rattle.monomial_laws.proofs.SchurMajorants.{In-schur}
 use Rattle.alternant_laws.proofs.AlternantProducts.{alternant_times, pair_alternants_over}
 use Rattle.alternant_laws.proofs.Staircase.{length_staircase, staircase_cancels}
-use Rattle.alternant_laws.proofs.SchurProducts.{bialternant, schur_few_variables, pair_times_each}
+use Rattle.alternant_laws.proofs.SchurProducts.{bialternant, schur_few_variables}
 use lib.IntN.{*ℤ-zero}
 use Rattle.strip_product_laws.proofs.StripShapes.{holds_get, rows_held}
 

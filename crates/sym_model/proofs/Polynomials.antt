@@ -1,15 +1,16 @@
 -- Polynomials through their pairings with test functions. Two polynomials are the same exactly where all
 -- pairings agree (`pair_determined`, `same_from_pair`); the pairing of a sum, product or restriction is
 -- a pairing of its parts, so that a law of polynomials is a law of finite sums.
-use Rattle.std.proofs.Common.{◌≡◌, ℕ, zero, suc, ◌≤◌, ◌⊎◌, Bool, true, false, cond, not, List, [], ◌∷◌, ◌++◌, map, length, sym, ◌∙◌, ap, ap₂, subst, refl, inl, inr, arith, ℤ, pos, ◌+ℤ◌, ◌*ℤ◌, neg_ℤ}
+use Rattle.std.proofs.Common.{◌≡◌, ℕ, zero, suc, ◌+◌, ◌≤◌, ◌⊎◌, Bool, true, false, cond, not, List, [], ◌∷◌, ◌++◌, map, length, length-append, sym, ◌∙◌, ap, ap₂, subst, refl, inl, inr, arith, ℤ, pos, ◌+ℤ◌, ◌*ℤ◌, neg_ℤ}
 use Rattle.std.proofs.lemmas.Int.{ints}
 use Rattle.std.proofs.lemmas.Bool.{cases_eq}
 use Rattle.std.proofs.lemmas.List.{length-replicate}
 use Rattle.sym_model.specs.Sum.{total, each, select, Among}
 use Rattle.sym_model.specs.Polynomial.{Term, Poly, same, coefficient, Same, In, no_exponents, one, join, plus, scale, negate, times, pair, resize, fits_in, restrict}
+use Rattle.sym_model.specs.Expansion.{beside}
 use Rattle.sym_model.proofs.Ring.{distributes_left, product_assoc, product_left_comm, negation-product, product-negation, product-one, one-product}
 use Rattle.sym_model.proofs.Sums.{total_ext, total_among, total_append, total_none, total_add, total_neg, total_scale, total_map, total_each, total_select, total_exchange, Among_from_append, Among_from_map, Among_from_each, Among_from_select}
-use Rattle.sym_model.proofs.Exponents.{same_refl, same_true, same_apart, same_or_not, length-join_same}
+use Rattle.sym_model.proofs.Exponents.{same_refl, same_true, same_apart, same_or_not, length-join_same, length-resize}
 use lib.IntN.{+ℤ_idl, *ℤ-zero, *ℤ_comm}
 
 -- ---- pairing with changed test functions
@@ -88,6 +89,13 @@ pair_times f g φ =
     pair_each (λ (s : Term). map (λ (t : Term). (join s.0 t.0, s.1 *ℤ t.1)) g) f φ
     ∙ total_ext (λ (s : Term). pair (map (λ (t : Term). (join s.0 t.0, s.1 *ℤ t.1)) g) φ) (λ (s : Term). s.1 *ℤ pair g (λ β. φ (join s.0 β))) (λ s. pair_shift s g φ) f
 
+pub pair_times_each : {A : Type 0} (f : Poly) (h : A → Poly) (xs : List A) (φ : List ℕ → ℤ) → pair (times f (each h xs)) φ ≡ total (λ (x : A). pair (times f (h x)) φ) xs
+pair_times_each {A} f h xs φ =
+    pair_times f (each h xs) φ
+    ∙ pair_ext f (λ α. pair (each h xs) (λ β. φ (join α β))) (λ α. total (λ (x : A). pair (h x) (λ β. φ (join α β))) xs) (λ α. pair_each h xs (λ β. φ (join α β)))
+    ∙ pair_total f (λ (x : A) (α : List ℕ). pair (h x) (λ β. φ (join α β))) xs
+    ∙ total_ext (λ (x : A). pair f (λ α. pair (h x) (λ β. φ (join α β)))) (λ (x : A). pair (times f (h x)) φ) (λ x. sym (pair_times f (h x) φ)) xs
+
 pub pair_one : (n : ℕ) (φ : List ℕ → ℤ) → pair (one n) φ ≡ φ (no_exponents n)
 pair_one n φ = omega (arith, ints, one-product (φ (no_exponents n)))
 
@@ -100,6 +108,18 @@ pair_restrict n f φ =
     inside : (b : Bool) (c x : ℤ) → cond b (c *ℤ x) (pos 0) ≡ c *ℤ cond b x (pos 0)
     inside true c x = refl
     inside false c x = sym (*ℤ-zero c)
+
+-- a product in variables of their own
+pair_behind : (s : Term) (g : Poly) (φ : List ℕ → ℤ) → pair (map (λ (t : Term). (s.0 ++ t.0, s.1 *ℤ t.1)) g) φ ≡ s.1 *ℤ pair g (λ β. φ (s.0 ++ β))
+pair_behind s g φ =
+    total_map (λ (t : Term). t.1 *ℤ φ t.0) (λ (t : Term). (s.0 ++ t.0, s.1 *ℤ t.1)) g
+    ∙ total_ext (λ (t : Term). (s.1 *ℤ t.1) *ℤ φ (s.0 ++ t.0)) (λ (t : Term). s.1 *ℤ (t.1 *ℤ φ (s.0 ++ t.0))) (λ t. product_assoc s.1 t.1 (φ (s.0 ++ t.0))) g
+    ∙ total_scale s.1 (λ (t : Term). t.1 *ℤ φ (s.0 ++ t.0)) g
+
+pub pair_beside : (f g : Poly) (φ : List ℕ → ℤ) → pair (beside f g) φ ≡ pair f (λ α. pair g (λ β. φ (α ++ β)))
+pair_beside f g φ =
+    pair_each (λ (s : Term). map (λ (t : Term). (s.0 ++ t.0, s.1 *ℤ t.1)) g) f φ
+    ∙ total_ext (λ (s : Term). pair (map (λ (t : Term). (s.0 ++ t.0, s.1 *ℤ t.1)) g) φ) (λ (s : Term). s.1 *ℤ pair g (λ β. φ (s.0 ++ β))) (λ s. pair_behind s g φ) f
 
 -- ---- coefficients are pairings, and determine all of them
 
@@ -289,6 +309,14 @@ pub In_times : (n : ℕ) (f g : Poly) → In n f → In n g → In n (times f g)
 In_times n f g i j =
     In_each n (λ (s : Term). map (λ (t : Term). (join s.0 t.0, s.1 *ℤ t.1)) g) f (λ s m.
     In_map n (λ (t : Term). (join s.0 t.0, s.1 *ℤ t.1)) g (λ t k. length-join_same n s.0 t.0 (i s m) (j t k)))
+
+pub In_beside : (n k : ℕ) (f g : Poly) → In n f → In k g → In (n + k) (beside f g)
+In_beside n k f g i j =
+    In_each (n + k) (λ (s : Term). map (λ (t : Term). (s.0 ++ t.0, s.1 *ℤ t.1)) g) f (λ s p.
+    In_map (n + k) (λ (t : Term). (s.0 ++ t.0, s.1 *ℤ t.1)) g (λ t q. let a = length-append s.0 t.0 in let b = i s p in let c = j t q in omega arith))
+
+pub In_restrict : (n : ℕ) (f : Poly) → In n (restrict n f)
+In_restrict n f = In_map n (λ (t : Term). (resize n t.0, t.1)) (select (λ (t : Term). fits_in n t.0) f) (λ t m. length-resize n t.0)
 
 -- a polynomial in n variables has no coefficient at a list of another length
 pub coefficient_outside : (n : ℕ) (f : Poly) (α : List ℕ) → In n f → (length α ≡ n → ⊥) → coefficient f α ≡ pos 0

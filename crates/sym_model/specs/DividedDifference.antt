@@ -3,7 +3,7 @@
 use Rattle.std.specs.Prelude.{ℕ, zero, suc, ◌+◌, ◌-◌, ℤ, pos, neg_ℤ, List, [], ◌∷◌, ◌++◌, map, replicate}
 use Rattle.std.specs.List.{range_with_len}
 use Rattle.sym_model.specs.Sum.{each}
-use Rattle.sym_model.specs.Polynomial.{Term, Poly, scale, restrict}
+use Rattle.sym_model.specs.Polynomial.{Term, Poly, join, scale, restrict}
 use Rattle.sym_model.specs.Permutation.{exchanged}
 
 -- the monomial x^α
@@ -20,6 +20,10 @@ variable i = x_to (replicate (i - 1) 0 ++ (1 ∷ []))
 
 abbrev pub variable_in : ℕ → ℕ → Poly
 variable_in i n = restrict n (variable i)
+
+-- the exponents of x^exponents·x_r; r counts from 1
+abbrev pub raised : ℕ → List ℕ → List ℕ
+raised r exponents = join exponents (replicate (r - 1) 0 ++ (1 ∷ []))
 
 -- s_i f: the polynomial with x_i and x_(i+1) exchanged
 abbrev pub with_exchanged : ℕ → Poly → Poly

@@ -39,3 +39,7 @@ is_permutation_label w =
 abbrev pub is_monomial_label : List ℕ → Bool
 is_monomial_label exponents =
     same (without_last_zeros exponents) exponents && nat_le (length exponents) 255 && nat_le (size exponents) 32385
+
+-- whether a permutation and the monomial beside it are within the limits
+abbrev pub is_shifted_label : List ℕ × List ℕ → Bool
+is_shifted_label label = is_permutation_label label.0 && is_monomial_label label.1

@@ -73,6 +73,13 @@ pair_weight u v =
     let w = shorter u v in
     nat_abs (value_at_ones (polynomials.schubert w)) * (max (length u) (length v) + inversions w) ^ inversions w
 
+-- the weight of a pair of permutations for the product of their double Schubert polynomials, S_u(1, .., 1)·(n + ℓ + 2)^ℓ, with
+-- u, n and ℓ as above; S_u is the single Schubert polynomial
+abbrev pub double_weight : List ℕ → List ℕ → ℕ
+double_weight u v =
+    let w = shorter u v in
+    nat_abs (value_at_ones (polynomials.schubert w)) * (max (length u) (length v) + inversions w + 2) ^ inversions w
+
 -- a weight of a command, where its definition gives one: of a quantum or fusion product each of its step weights, the
 -- greatest of which is the weight of the command
 abbrev pub HasWeight : Command → ℕ → Type 0

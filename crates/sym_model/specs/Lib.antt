@@ -31,6 +31,7 @@ pub mod PartitionList
 pub mod Permutation
 pub mod DividedDifference
 pub mod Schubert
+pub mod DoubleSchubert
 pub mod Straightening
 pub mod Form
 pub mod Command
