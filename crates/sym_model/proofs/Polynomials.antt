@@ -168,7 +168,7 @@ others_elsewhere α β f h =
     by t false e = refl
 
 -- a pairing is what the terms at α give, and the pairing of the others
-pair_others : (α : List ℕ) (f : Poly) (φ : List ℕ → ℤ) → pair f φ ≡ φ α *ℤ coefficient f α +ℤ pair (others α f) φ
+pub pair_others : (α : List ℕ) (f : Poly) (φ : List ℕ → ℤ) → pair f φ ≡ φ α *ℤ coefficient f α +ℤ pair (others α f) φ
 pair_others α f φ =
     total_ext (λ (t : Term). t.1 *ℤ φ t.0) (λ (t : Term). φ α *ℤ here t +ℤ there t) (λ t. by t (same t.0 α) refl) f
     ∙ total_add (λ (t : Term). φ α *ℤ here t) there f

@@ -59,6 +59,7 @@ pub mod OneLine
 pub mod PrintedForm
 pub mod LargeAnswer
 pub mod ListWeight
+pub mod Plethysm
 pub mod RefusalText
 pub mod Headline
 pub mod Ending
