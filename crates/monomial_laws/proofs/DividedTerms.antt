@@ -1,23 +1,24 @@
 -- A list with whole coefficients, each divided by D (specs/ExpressionTerms).
+--     value-divided           its value, labels read as any polynomials
 --     expansion_divided       the fractions stand for the list divided by D
 --     divided-bound           a bound of the whole coefficient is one of the fraction
-use Rattle.std.proofs.Common.{◌≡◌, ◌⊎◌, ℕ, ◌*◌, ◌/◌, ◌<◌, ◌≤◌, cond, List, [], ◌∷◌, map, sym, ◌∙◌, ap, ap₂, subst, refl, inl, inr, arith, ℤ, pos, ◌+ℤ◌, ◌*ℤ◌}
+use Rattle.std.proofs.Common.{◌≡◌, ◌⊎◌, ℕ, ◌*◌, ◌/◌, ◌%◌, ◌<◌, ◌≤◌, cond, List, [], ◌∷◌, map, sym, ◌∙◌, ap, ap₂, subst, refl, inl, inr, arith, ℤ, pos, ◌+ℤ◌, ◌*ℤ◌}
 use Rattle.std.specs.Prelude.{nat_abs}
 use Rattle.std.specs.Int.{◌∣◌}
 use Rattle.std.proofs.lemmas.Int.{unsigned_abs-mul}
 use Rattle.std.proofs.Math.Nat.{div-mul_cancel, dvd-mul_right, dvd-mul_left}
-use Rattle.std.proofs.lemmas.Nat.Gcd.{dvd_trans}
+use Rattle.std.proofs.lemmas.Nat.Gcd.{dvd_trans, dvd_of_mod-eq-zero}
 use Rattle.sym_model.specs.Sum.{Among, Once}
 use Rattle.sym_model.specs.Polynomial.{Term, Poly, same, coefficient, Same, plus, scale}
 use Rattle.sym_model.specs.Bases.{monomial}
-use Rattle.sym_model.specs.Expansion.{Basis, Terms, Fraction, denominators, cleared, IsExpansionOf}
-use Rattle.sym_model.specs.WholeTerms.{WholeTerms}
+use Rattle.sym_model.specs.Expansion.{Basis, Terms, Fraction, denominators, cleared, value_by, IsExpansionOf}
+use Rattle.sym_model.specs.WholeTerms.{WholeTerms, combined}
 use Rattle.monomial_laws.specs.ExpressionTerms.{in_monomials, IsList, over}
 use Rattle.sym_model.proofs.Ring.{product_assoc}
 use Rattle.sym_model.proofs.Sums.{total_none, total_map, Among-map}
 use Rattle.sym_model.proofs.Exponents.{same_from, same_apart, same_or_not}
-use Rattle.sym_model.proofs.Polynomials.{coefficient_scale, Same_trans, Same_sym, scale_respects}
-use Rattle.sym_model.proofs.WholeTerms.{combined_respects}
+use Rattle.sym_model.proofs.Polynomials.{coefficient_scale, pair_scale, pair_determined, Same_trans, Same_sym, scale_respects}
+use Rattle.sym_model.proofs.WholeTerms.{combined_respects, coefficient-combined}
 use Rattle.monomial_laws.proofs.ExpressionTerms.{list-scale}
 use native.Mathlib.Nat.{mul-le-mul_left}
 use lib.IntN.{+ℤ_idl, +ℤ_idr, *ℤ_comm, *ℤ-zero}
@@ -103,9 +104,39 @@ coefficient_divided D whole terms d label = by (among_or_not label terms)
         ap (λ z. pos D *ℤ z) (over-missing (denominators terms) terms label n) ∙ *ℤ-zero (pos D)
         ∙ sym (ap (λ z. pos (denominators terms) *ℤ z) (d.missing label n) ∙ *ℤ-zero (pos (denominators terms)))
 
+pub cleared-combined : (polynomial : List ℕ → Poly) (q : ℕ) (terms : Terms (List ℕ)) → cleared polynomial q terms ≡ combined polynomial (over q terms)
+cleared-combined polynomial q [] = refl
+cleared-combined polynomial q (t ∷ terms) = ap (plus (scale (t.1.0 *ℤ pos (q / t.1.1)) (polynomial t.0))) (cleared-combined polynomial q terms)
+
 pub cleared-over : (q n : ℕ) (terms : Terms (List ℕ)) → cleared (λ label. monomial label n) q terms ≡ in_monomials (over q terms) n
-cleared-over q n [] = refl
-cleared-over q n (t ∷ terms) = ap (plus (scale (t.1.0 *ℤ pos (q / t.1.1)) (monomial t.0 n))) (cleared-over q n terms)
+cleared-over q n terms = cleared-combined (λ label. monomial label n) q terms
+
+-- the value of the list, labels read as any polynomials, and the combination of the whole coefficients
+pub value-divided : (polynomial : List ℕ → Poly) (D : ℕ) (W : WholeTerms) (terms : Terms (List ℕ)) → IsDivided D W terms → (α : List ℕ)
+    → pos D *ℤ coefficient (value_by polynomial terms) α ≡ pos (denominators terms) *ℤ coefficient (combined polynomial W) α
+value-divided polynomial D W terms d α =
+    let ψ : List ℕ → ℤ = λ l. coefficient (polynomial l) α in
+    let O = over (denominators terms) terms in
+    ap (λ f. pos D *ℤ coefficient f α) (cleared-combined polynomial (denominators terms) terms)
+    ∙ ap (λ z. pos D *ℤ z) (coefficient-combined polynomial O α)
+    ∙ sym (pair_scale (pos D) O ψ)
+    ∙ pair_determined (scale (pos D) O) (scale (pos (denominators terms)) W) ψ
+    (λ l. coefficient_scale (pos D) O l ∙ coefficient_divided D W terms d l ∙ sym (coefficient_scale (pos (denominators terms)) W l))
+    ∙ pair_scale (pos (denominators terms)) W ψ
+    ∙ ap (λ z. pos (denominators terms) *ℤ z) (sym (coefficient-combined polynomial W α))
+
+-- the list over a number that all its denominators divide
+pub IsDivided-over : (m : ℕ) (terms : Terms (List ℕ)) → 0 < denominators terms → Once (labels_of terms) → ((t : List ℕ × Fraction) → Among t terms → m % t.1.1 ≡ 0) → IsDivided m (over m terms) terms
+IsDivided-over m terms positive is w = record {
+  once = is;
+  positive = positive;
+  there = λ t n.
+      let e = div-mul_cancel t.1.1 (dvd_of_mod-eq-zero t.1.1 (w t n)) in
+      sym (ap (λ z. z *ℤ pos t.1.1) (over-there m terms is t n)
+      ∙ product_assoc t.1.0 (pos (m / t.1.1)) (pos t.1.1)
+      ∙ ap (λ k. t.1.0 *ℤ pos k) e);
+  missing = λ label n. over-missing m terms label n;
+}
 
 -- the fractions stand for the list divided by D, in every number of variables
 pub expansion_divided : (D : ℕ) (whole : WholeTerms) (terms : Terms (List ℕ)) (f : ℕ → Poly) → IsDivided D whole terms → IsList whole f → (n : ℕ) → IsExpansionOf Basis.monomials terms n (f n) D

@@ -2,9 +2,11 @@ pub mod PowerSums
 pub mod PowerSumLists
 pub mod PowerSumCoefficients
 pub mod Splits
+pub mod Growths
 pub mod Powers
 pub mod SchurMajorants
 pub mod Majorants
+pub mod MajorantPairs
 pub mod Arrangements
 pub mod ExpressionTerms
 pub mod AtomTerms

@@ -218,6 +218,26 @@ bounded-times N M d e n f g i j b c = record {
       (majorant-times n (powers b.exponents n) (powers c.exponents n) f g (In-powers b.exponents n) (In-powers c.exponents n) i j b.majorant c.majorant);
 }
 
+pub bounded-weaken : (N M d e n : ℕ) (f : Poly) → N ≤ M → d ≤ e → IsBounded N d n f → IsBounded M e n f
+bounded-weaken N M d e n f h k b = record {
+  exponents = b.exponents;
+  few = omega (arith, b.few);
+  low = λ j m. omega (arith, b.low j m);
+  majorant = b.majorant;
+}
+
+-- what a majorant is bounded by bounds the polynomial
+pub bounded-majorant : (N d n : ℕ) (F f : Poly) → IsMajorant F f → IsBounded N d n F → IsBounded N d n f
+bounded-majorant N d n F f m b = record {
+  exponents = b.exponents;
+  few = b.few;
+  low = b.low;
+  majorant = λ α. through (coefficient f α) (coefficient F α) (coefficient (powers b.exponents n) α) (m α) (b.majorant α);
+}
+  where
+    through : (x y z : ℤ) → pos (nat_abs x) ≤ℤ y → pos (nat_abs y) ≤ℤ z → pos (nat_abs x) ≤ℤ z
+    through x y z h k = omega (arith, ints)
+
 pub bounded_respects : (N d n : ℕ) (f g : Poly) → Same f g → IsBounded N d n f → IsBounded N d n g
 bounded_respects N d n f g e b = record {
   exponents = b.exponents;

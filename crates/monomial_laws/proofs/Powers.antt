@@ -22,6 +22,7 @@ use Rattle.sym_model.proofs.PolynomialLaws.{times_assoc, one-times}
 use Rattle.sym_model.proofs.Monomials.{In-monomials}
 use Rattle.monomial_laws.specs.LoweredPart.{lowered}
 use Rattle.monomial_laws.proofs.PowerSums.{length-lowered, coefficient-power_sum_times}
+use Rattle.monomial_laws.proofs.Growths.{factorial-positive}
 use native.Mathlib.Nat.{mul-le-mul_left}
 use lib.IntN.{*ℤ-zero, zero-*ℤ, *ℤ_comm}
 
@@ -143,10 +144,6 @@ coefficient_power (suc d) n α long =
     by : (size α ≡ suc d) ⊎ (size α ≡ suc d → ⊥) → pos (size α) *ℤ cond (eqb (size α) (suc d)) (pos (factorial d)) (pos 0) ≡ cond (eqb (size α) (suc d)) (pos (suc d * factorial d)) (pos 0)
     by (inl e) = rw (eq-eqb (size α) (suc d) e) (ap (λ n. pos (n * factorial d)) e)
     by (inr n) = rw (ne_eqb (size α) (suc d) n) (*ℤ-zero (pos (size α)))
-
-factorial-positive : (d : ℕ) → 0 < factorial d
-factorial-positive zero = omega arith
-factorial-positive (suc d) = omega (arith, mul-le-mul_left (suc d) (factorial-positive d))
 
 pub factorials-positive : (α : List ℕ) → 0 < factorials α
 factorials-positive [] = omega arith

@@ -1,4 +1,5 @@
 -- The weight of an expression bounds every number of its conversion into m (specs/ExpressionTerms).
+--     coefficient_within_factorial   a coefficient is at most N times the factorial of the degree
 --     coefficient_within_growth      a coefficient is at most N times the growth at the degree
 --     product_within_growth          so is a coefficient of the product of two lists with absolute values
 --     weight-sum_left .. -product_right      no part of an expression has a greater weight than the whole
@@ -6,6 +7,7 @@ use Rattle.std.proofs.Common.{◌≡◌, ◌⊎◌, ℕ, zero, suc, ◌+◌, ◌
 use Rattle.std.specs.Prelude.{nat_abs, ◌≤ℤ◌}
 use Rattle.std.proofs.lemmas.Int.{ints}
 use Rattle.std.proofs.lemmas.Nat.{mul-le}
+use Rattle.std.proofs.Math.Nat.{pow-le-pow_left}
 use Rattle.std.proofs.lemmas.Bool.{cases_lt, cases_eq}
 use Rattle.sym_model.specs.Sum.{Among, Once}
 use Rattle.sym_model.specs.Polynomial.{Poly, coefficient, times}
@@ -22,24 +24,21 @@ use Rattle.sym_model.proofs.Exponents.{same_from, same_apart, same_or_not}
 use Rattle.sym_model.proofs.Polynomials.{coefficient_outside}
 use Rattle.monomial_laws.proofs.PowerSumCoefficients.{coefficient-monomial_terms}
 use Rattle.monomial_laws.proofs.Splits.{coefficient_times, length-splits, In-monomial_terms}
+use Rattle.monomial_laws.proofs.Growths.{factorial-mono}
 use Rattle.monomial_laws.proofs.Powers.{factorials-positive}
 use Rattle.monomial_laws.proofs.Majorants.{bounded-times, coefficient_bound, coefficient-higher}
 use Rattle.std.specs.Int.{◌∣◌}
 use Rattle.sym_model.specs.Canonical.{gcd}
 use Rattle.sym_model.proofs.GreatestCommonDivisors.{IsGcd-gcd}
-use native.Mathlib.Nat.{div-mul_cancel, dvd-mul_left, mul-le-mul_left, pow-suc, pow-zero}
+use native.Mathlib.Nat.{div-mul_cancel, dvd-mul_left, mul-le-mul_left, pow-suc}
 use lib.IntN.{+ℤ_idl}
 
 -- ---- the growth
 
-power-mono_base : (a b d : ℕ) → a ≤ b → a ^ d ≤ b ^ d
-power-mono_base a b zero h = rw (pow-zero a, pow-zero b) (omega arith)
-power-mono_base a b (suc d) h = let p = mul-le (a ^ d) a (b ^ d) b (power-mono_base a b d h) h in rw (pow-suc a d, pow-suc b d) p
-
 factorial-within : (d : ℕ) → factorial d ≤ suc d ^ d
 factorial-within zero = omega arith
 factorial-within (suc d) =
-    let p = power-mono_base (suc d) (suc (suc d)) d (omega arith) in
+    let p = pow-le-pow_left (let o : suc d ≤ suc (suc d) = omega arith in o) d in
     let q = factorial-within d in
     let r = mul-le (suc d) (factorial d) (suc (suc d)) (suc (suc d) ^ d) (omega arith) (omega arith) in
     rw (pow-suc (suc (suc d)) d) (omega arith)
@@ -55,7 +54,7 @@ factorial-within_growth (suc d) =
 growth-more : (d : ℕ) → growth Basis.monomials d ≤ growth Basis.monomials (suc d)
 growth-more zero = omega arith
 growth-more (suc d) =
-    let p = power-mono_base (suc d) (suc (suc d)) (suc d) (omega arith) in
+    let p = pow-le-pow_left (let o : suc d ≤ suc (suc d) = omega arith in o) (suc d) in
     let q = mul-le-mul_left (suc (suc d) ^ suc d) (let one : 1 ≤ suc (suc d) = omega arith in one) in
     rw (pow-suc (suc (suc d)) (suc d)) (omega arith)
 
@@ -70,6 +69,18 @@ pub growth-positive : (d : ℕ) → 0 < growth Basis.monomials d
 growth-positive d = let h = growth-mono 0 d (omega arith) in omega arith
 
 -- ---- coefficients
+
+-- no coefficient is more than the bound times the factorial of the degree
+pub coefficient_within_factorial : (N d n : ℕ) (f : Poly) → IsBounded N d n f → (α : List ℕ) → length α ≡ n → nat_abs (coefficient f α) ≤ N * factorial d
+coefficient_within_factorial N d n f b α e = by (cases_lt d (size α))
+  where
+    by : (d < size α) ⊎ (size α ≤ d) → nat_abs (coefficient f α) ≤ N * factorial d
+    by (inl h) = let z = ap nat_abs (coefficient-higher N d n f b α e h) in omega (arith, z)
+    by (inr h) =
+        let p = coefficient_bound N d n f b α e in
+        let q = mul-le-mul_left N (factorial-mono (size α) d h) in
+        let u = mul-le-mul_left (nat_abs (coefficient f α)) (factorials-positive α) in
+        omega arith
 
 -- what is bounded by N at the degree d has no coefficient above N times the growth at d
 pub coefficient_within_growth : (N d n : ℕ) (f : Poly) → IsBounded N d n f → (α : List ℕ) → length α ≡ n → nat_abs (coefficient f α) ≤ N * growth Basis.monomials d
