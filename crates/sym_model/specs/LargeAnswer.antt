@@ -52,6 +52,10 @@ abbrev pub is_past : ℤ → Bool
 is_past (pos n) = nat_le (2 ^ 127) n
 is_past (negsuc n) = false
 
+-- some Schur coefficient of the polynomial f in n variables is past 2^127 - 1
+abbrev pub HasPastSchurCoefficient : Poly → ℕ → Type 0
+HasPastSchurCoefficient f n = (c : ℤ) × IsSchurCoefficientOf f n c × IsTrue (is_past c)
+
 -- some defined coefficient of the command is past 2^127 - 1
 abbrev pub HasPastCoefficient : Command → Type 0
 HasPastCoefficient command = (c : ℤ) × IsDefinedCoefficient command c × IsTrue (is_past c)

@@ -33,6 +33,7 @@ pub mod DividedDifference
 pub mod Schubert
 pub mod DoubleSchubert
 pub mod Straightening
+pub mod Stanley
 pub mod Form
 pub mod Command
 pub mod CommandOffence
