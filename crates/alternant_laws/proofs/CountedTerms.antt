@@ -28,7 +28,7 @@ use Rattle.sym_model.proofs.WholeTerms.{pair_of_combined, combined_respects, rep
 use Rattle.tableau_laws.proofs.GoodReadings.{good_falls, total_good_contents}
 use Rattle.tableau_laws.proofs.FewerLetters.{restrict-skew_schur}
 use Rattle.tableau_laws.proofs.ColumnCounts.{contains_nothing, falling-resize, count_total}
-use Rattle.bender_knuth_laws.proofs.Exchanges.{length_content}
+use Rattle.alternant_laws.proofs.Exchanges.{length_content}
 use Rattle.alternant_laws.specs.GoodSums.{start_plus_content, good_schurs, ListsCounts}
 use Rattle.alternant_laws.proofs.FallingAlternants.{join_padded, without_last_zeros-resize, length-without_last_zeros, falls_from_test, coefficient_at_partition}
 use Rattle.alternant_laws.proofs.GoodAlternants.{good_sums}

@@ -13,9 +13,9 @@ use Rattle.sym_model.proofs.Exponents.{join_assoc, join_comm, length-join_same, 
 use Rattle.tableau_laws.specs.PaddedRows.{transposed}
 use Rattle.tableau_laws.specs.Grid.{may_precede, is_chain, may_stand_above}
 use Rattle.tableau_laws.proofs.ColumnCounts.{sum_at_start}
-use Rattle.bender_knuth_laws.proofs.Exchanges.{exchanged, exchanged-join, length_content}
-use Rattle.bender_knuth_laws.proofs.Stacks.{Misses}
-use Rattle.bender_knuth_laws.proofs.SymmetricSums.{left_tableaux, total_exchanged}
+use Rattle.alternant_laws.proofs.Exchanges.{exchanged, exchanged-join, length_content}
+use Rattle.alternant_laws.proofs.Stacks.{Misses}
+use Rattle.alternant_laws.proofs.SymmetricSums.{left_tableaux, total_exchanged}
 use Rattle.alternant_laws.proofs.Alternants.{opposite_is_zero}
 use Rattle.alternant_laws.proofs.Alternating.{inserting, alternating, alternating_swap}
 use Rattle.alternant_laws.proofs.OrderSums.{part-join, pair_alternant}

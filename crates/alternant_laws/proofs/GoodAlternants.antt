@@ -21,8 +21,8 @@ use Rattle.tableau_laws.proofs.ColumnSums.{of_good_columns, total_good_columns, 
 use Rattle.tableau_laws.proofs.FewerLetters.{pair-skew_schur}
 use Rattle.tableau_laws.proofs.GoodReadings.{total_good_tableaux}
 use Rattle.tableau_laws.proofs.ColumnCounts.{sum_at_start, falling-resize}
-use Rattle.bender_knuth_laws.proofs.Exchanges.{length_content}
-use Rattle.bender_knuth_laws.proofs.TableauInvolution.{symmetric-skew_schur}
+use Rattle.alternant_laws.proofs.Exchanges.{length_content}
+use Rattle.alternant_laws.proofs.TableauInvolution.{symmetric-skew_schur}
 use Rattle.alternant_laws.specs.GoodSums.{good_alternants}
 use Rattle.alternant_laws.proofs.Staircase.{length_staircase}
 use Rattle.alternant_laws.proofs.AlternantProducts.{alternant_times, pair_alternants_over}

@@ -16,7 +16,7 @@ use Rattle.tableau_laws.proofs.Grids.{pass-nothing, grid-transposed}
 use Rattle.tableau_laws.proofs.PatternFillings.{filling_tells, filling_lengths}
 use Rattle.tableau_laws.proofs.Contents.{content-append, content-transposed}
 use Rattle.tableau_laws.proofs.ColumnSums.{total_under}
-use Rattle.bender_knuth_laws.proofs.SymmetricSums.{is_left_of, stands_left, left_tableaux}
+use Rattle.alternant_laws.proofs.SymmetricSums.{is_left_of, stands_left, left_tableaux}
 
 -- ---- the sums
 

@@ -14,3 +14,11 @@ pub mod StraightShapes
 pub mod SchurProducts
 pub mod BoundedLetters
 pub mod CountedTerms
+pub mod Rows
+pub mod Stacks
+pub mod Exchanges
+pub mod SymmetricSums
+pub mod TableauInvolution
+pub mod SortedAlternants
+pub mod StraightenedMonomials
+pub mod EnoughPlaces

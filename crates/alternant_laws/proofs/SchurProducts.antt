@@ -21,7 +21,7 @@ use Rattle.tableau_laws.proofs.RowSums.{of_columns, total_columns}
 use Rattle.tableau_laws.proofs.Contents.{content-padded, content-transposed}
 use Rattle.tableau_laws.proofs.FewerLetters.{pair-skew_schur}
 use Rattle.tableau_laws.proofs.GoodReadings.{good_falls}
-use Rattle.bender_knuth_laws.proofs.Exchanges.{length_content}
+use Rattle.alternant_laws.proofs.Exchanges.{length_content}
 use Rattle.tableau_laws.proofs.ColumnCounts.{contains_nothing}
 use Rattle.alternant_laws.specs.GoodSums.{good_alternants, start_plus_content, good_schurs}
 use Rattle.alternant_laws.proofs.Staircase.{staircase_cancels}

@@ -18,7 +18,7 @@ use Rattle.tableau_laws.proofs.Grids.{length-transposed, falls_below}
 use Rattle.tableau_laws.proofs.RowSums.{pattern_lengths}
 use Rattle.tableau_laws.proofs.ColumnCounts.{contains_nothing, falling-resize}
 use Rattle.tableau_laws.proofs.ColumnSums.{over_columns-last}
-use Rattle.bender_knuth_laws.proofs.Exchanges.{length_content}
+use Rattle.alternant_laws.proofs.Exchanges.{length_content}
 use Rattle.alternant_laws.proofs.OrderSums.{part-join}
 use Rattle.alternant_laws.proofs.LeftColumns.{AreLong, falls_last, falls-transposed}
 use Rattle.alternant_laws.proofs.FailingColumns.{at_letter}

@@ -1,1 +1,3 @@
 pub mod GoodSums
+pub mod BenderKnuth
+pub mod StraightenedTerms

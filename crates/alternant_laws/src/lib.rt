@@ -1,11 +1,14 @@
-//! Laws of alternants, each for every number of variables.
+//! Laws of alternants and of the symmetry of Schur polynomials, each for every number of variables: the involutions of Bender and
+//! Knuth, Stembridge's identity, the Littlewood-Richardson rule, straightening.
 //!
 //! A law function takes nothing, answers nothing and does no work when it runs: its contract is
 //! the law.
 #![tactic(auto)]
 
+mod bender_knuth;
 mod classical;
 mod stembridge;
+mod straightening;
 
 ghost use Rattle.std.specs.Prelude.{◌≡◌, ℕ, pos, List, ◌∷◌, ◌++◌, length};
 ghost use Rattle.sym_model.specs.Polynomial.{Poly, Same, In, coefficient, nothing, negate, times};
@@ -13,9 +16,12 @@ ghost use Rattle.sym_model.specs.Leading.{Leads};
 ghost use Rattle.sym_model.specs.Symmetric.{Symmetric};
 ghost use Rattle.sym_model.specs.Alternant.{alternant, staircase, alternants_over};
 
-pub use bender_knuth_laws::bender_knuth_law;
+pub use bender_knuth::bender_knuth_law;
 pub use classical::classical_product_law;
 pub use stembridge::{counted_answers_law, littlewood_richardson_law, stembridge_law};
+pub use straightening::straighten_law;
+
+
 
 /// Exchanging two exponents of β changes the sign of the alternant a_β, and an alternant with two
 /// equal exponents is 0 (Macdonald, I.3).

@@ -19,8 +19,8 @@ use Rattle.sym_model.proofs.Sums.{total_ext, total_among, total_map, total_each,
 use Rattle.sym_model.proofs.Polynomials.{pair_determined, at_only, coefficient_pair}
 use Rattle.sym_model.proofs.WholeTerms.{pair_of_combined}
 use Rattle.monomial_laws.specs.ExpressionTerms.{in_monomials, over}
-use Rattle.straightening_laws.specs.StraightenedTerms.{straightened_term, straightened_terms}
-use Rattle.straightening_laws.proofs.EnoughPlaces.{enough_places}
+use Rattle.alternant_laws.specs.StraightenedTerms.{straightened_term, straightened_terms}
+use Rattle.alternant_laws.proofs.EnoughPlaces.{enough_places}
 use Rattle.basis_expand.specs.Tables.{IsTable}
 use Rattle.basis_expand.specs.LabelSizes.{AreWithin}
 use Rattle.basis_expand.proofs.Quotients.{Quotients}

@@ -17,7 +17,7 @@ use Rattle.monomial_laws.specs.Majorant.{IsBounded, IsMajorant, power}
 use Rattle.monomial_laws.proofs.ExpressionTerms.{list_respects, list-no_factor, list-factor}
 use Rattle.monomial_laws.proofs.Majorants.{majorant-monomials, bounded-atom, bounded_respects}
 use Rattle.monomial_laws.proofs.WeightBounds.{product_within_growth, growth-mono}
-use Rattle.monomial_products.specs.Products.{greatest_size}
+use Rattle.sparse_polys.specs.MonomialProducts.{greatest_size}
 use Rattle.basis_expand.specs.LabelSizes.{AreWithin}
 use Rattle.basis_expand.specs.Large.{ProductIsLarge}
 use Rattle.basis_expand.specs.Families.{polynomial_of}

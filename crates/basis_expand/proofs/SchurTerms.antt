@@ -14,8 +14,8 @@ use Rattle.sym_model.proofs.Sums.{total_map, total_none, total_only}
 use Rattle.sym_model.proofs.Exponents.{same_apart, same_from}
 use Rattle.sym_model.proofs.PartitionLists.{partitions_of-tells, Among-partitions_of, Once-FallsLexicographically, FallsLexicographically-partitions_within}
 use Rattle.monomial_laws.specs.ExpressionTerms.{IsList}
-use Rattle.schur_expansion_laws.specs.Kostka.{kostka}
-use Rattle.schur_expansion_laws.proofs.SchurLists.{list-schur, kostka-other_size}
+use Rattle.schur_laws.specs.Kostka.{kostka}
+use Rattle.schur_laws.proofs.SchurLists.{list-schur, kostka-other_size}
 use Rattle.basis_expand.specs.Tables.{found}
 use Rattle.basis_expand.proofs.WholeLists.{Finds, not_refused}
 use Rattle.basis_expand.proofs.PartitionTerms.{once_before}

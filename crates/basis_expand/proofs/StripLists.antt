@@ -6,8 +6,8 @@ use Rattle.std.proofs.Common.{◌≡◌, ℕ, zero, suc, ◌+◌, ◌-◌, ◌<�
 use Rattle.sym_model.specs.Sum.{each, Among}
 use Rattle.sym_model.specs.Partition.{IsPartition, ArePositive, part, in_front, without_last_zeros}
 use Rattle.partitions.specs.Limits.{IsWithinLimits}
-use Rattle.schur_expansion_laws.specs.Kostka.{below, strips_off}
-use Rattle.schur_expansion_laws.proofs.KostkaNumbers.{partition_tail, strips_off-tell, IsPartition-in_front, rows-in_front, size-in_front}
+use Rattle.schur_laws.specs.Kostka.{below, strips_off}
+use Rattle.schur_laws.proofs.KostkaNumbers.{partition_tail, strips_off-tell, IsPartition-in_front, rows-in_front, size-in_front}
 
 positive-without_last_zeros : (parts : List ℕ) → ArePositive parts → without_last_zeros parts ≡ parts
 positive-without_last_zeros [] h = refl

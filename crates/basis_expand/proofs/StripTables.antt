@@ -17,8 +17,8 @@ use Rattle.basis_expand.specs.Tables.{found, IsTable}
 use Rattle.basis_expand.proofs.WholeLists.{coefficient-whole}
 use Rattle.basis_expand.proofs.StripTerms.{natural-rest, natural-table, coefficient-strip_terms}
 use Rattle.sym_model.proofs.Polynomials.{coefficient_pair, pair_each, pair_determined}
-use Rattle.schur_expansion_laws.specs.Kostka.{strips_off, kostka}
-use Rattle.schur_expansion_laws.proofs.SchurLists.{kostka-not_negative, kostka-within, kostka-ones}
+use Rattle.schur_laws.specs.Kostka.{strips_off, kostka}
+use Rattle.schur_laws.proofs.SchurLists.{kostka-not_negative, kostka-within, kostka-ones}
 use Rattle.basis_expand.specs.Large.{HasLarge}
 use Rattle.basis_expand.specs.Strips.{terms_at, strip_terms, AreNatural}
 use lib.IntN.{+ℤ_idr}

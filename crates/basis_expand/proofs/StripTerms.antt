@@ -21,12 +21,12 @@ use Rattle.sparse_polys.specs.Refusal.{IsRefused}
 use Rattle.basis_expand.specs.Tables.{equal, found, IsTable}
 use Rattle.basis_expand.specs.Large.{HasLarge}
 use Rattle.basis_expand.specs.Strips.{terms_at, strip_terms, AreNatural, ArePartitions}
-use Rattle.schur_expansion_laws.specs.Kostka.{strips_off}
+use Rattle.schur_laws.specs.Kostka.{strips_off}
 use Rattle.basis_expand.proofs.WholeLists.{Finds, Finds-next, coefficient-whole, coefficient-numerators, found-among}
 use Rattle.basis_expand.proofs.TableSums.{IsRefused-size}
 use Rattle.basis_expand.proofs.PartitionTerms.{Among-after}
 use Rattle.basis_expand.proofs.Quotients.{numerators-whole}
-use Rattle.schur_expansion_laws.proofs.KostkaNumbers.{strips_off-tell}
+use Rattle.schur_laws.proofs.KostkaNumbers.{strips_off-tell}
 
 -- ---- one shape more
 

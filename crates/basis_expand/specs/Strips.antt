@@ -4,7 +4,7 @@ use Rattle.sym_model.specs.Sum.{each, Among}
 use Rattle.sym_model.specs.Partition.{IsPartition, in_front}
 use Rattle.sym_model.specs.WholeTerms.{WholeTerms}
 use Rattle.partitions.specs.Limits.{IsWithinLimits}
-use Rattle.schur_expansion_laws.specs.Kostka.{strips_off}
+use Rattle.schur_laws.specs.Kostka.{strips_off}
 
 -- each shape is within the limits, and is so with a row of this length above its first one
 abbrev pub AreBelow : ℕ → List (List ℕ) → Type 0

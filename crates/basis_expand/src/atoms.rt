@@ -15,7 +15,7 @@ use crate::cleared::Cleared;
 use crate::schur::schur;
 use crate::whole::{Whole, complete, elementary, is_whole, power_sum, single};
 use calc_base::{Basis, SumFault};
-use monomial_products::times_whole_in_m;
+use sparse_polys::times_whole_in_m;
 use partitions::Partition;
 use std::alloc::Global;
 

@@ -2,7 +2,7 @@
 ghost use Rattle.std.specs.Prelude.{◌≡◌, ◌+◌, ◌<◌, ◌≤◌, ◌^◌, ◌≤ℤ◌, pos, nat_abs};
 ghost use Rattle.sym_model.specs.Expression.{Tree, number, fraction, negation, sum, product};
 ghost use Rattle.monomial_laws.specs.ExpressionTerms.{HasDenominators};
-ghost use Rattle.monomial_products.specs.Products.{greatest_size};
+ghost use Rattle.sparse_polys.specs.MonomialProducts.{greatest_size};
 ghost use Rattle.basis_expand.specs.Clearing.{ClearsTo, IsConverted};
 
 use crate::cleared::Cleared;
@@ -10,7 +10,7 @@ use crate::denominators::{common_denominator, denominator_product};
 use crate::whole::{is_whole, single, sum_of};
 use calc_base::SumFault;
 use coeff_rings::Int;
-use monomial_products::times_whole_in_m;
+use sparse_polys::times_whole_in_m;
 use std::alloc::Global;
 
 /// A number over another.

@@ -9,7 +9,7 @@ ghost use Rattle.sym_model.specs.Weight.{growth};
 ghost use Rattle.sym_model.specs.WholeTerms.{numerators};
 ghost use Rattle.partitions.specs.Limits.{IsWithinLimits};
 ghost use Rattle.monomial_laws.specs.ExpressionTerms.{IsList};
-ghost use Rattle.schur_expansion_laws.specs.Kostka.{kostka};
+ghost use Rattle.schur_laws.specs.Kostka.{kostka};
 ghost use Rattle.basis_expand.specs.Large.{HasLarge};
 ghost use Rattle.basis_expand.specs.Strips.{terms_at, strip_terms, AreNatural, ArePartitions};
 

@@ -2,7 +2,7 @@
 ghost use Rattle.std.specs.Prelude.{◌≡◌, ◌++◌, map, IfOk, OnOk};
 ghost use Rattle.sym_model.specs.Partition.{in_front, part};
 ghost use Rattle.partitions.specs.Limits.{IsWithinLimits};
-ghost use Rattle.schur_expansion_laws.specs.Kostka.{strips_off};
+ghost use Rattle.schur_laws.specs.Kostka.{strips_off};
 ghost use Rattle.basis_expand.specs.Strips.{AreBelow};
 
 use calc_base::NoMemory;

@@ -1,3 +1,6 @@
 pub mod Parts
 pub mod NextLines
 pub mod Lines
+-- Lemmas of the crate.
+pub mod Words
+pub mod Blocks

@@ -3,3 +3,9 @@ pub mod BetaLists
 pub mod SortedLists
 pub mod BetaRemovals
 pub mod BetaLowerings
+pub mod Remainders
+pub mod Lowest
+pub mod Ends
+pub mod Windows
+pub mod AlcoveEnds
+pub mod ReducedSums

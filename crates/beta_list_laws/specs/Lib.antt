@@ -1,2 +1,5 @@
 pub mod StrictFall
 pub mod FullBetaList
+pub mod LowestList
+pub mod AlcoveEnd
+pub mod ReductionLists

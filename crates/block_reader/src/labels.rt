@@ -10,7 +10,7 @@ use crate::cutting::{after_first, after_first_two, cut};
 use crate::lists::list_of;
 use crate::numbers::number_of;
 use calc_base::NoMemory;
-use monomial_polys::{MonoFault, Monomial};
+use sparse_polys::{MonoFault, Monomial};
 use partitions::{PartFault, Partition};
 use perm_codes::{Perm, PermFault};
 use sparse_polys::{Label, Pair, Power};

@@ -26,12 +26,12 @@ use Rattle.sym_model.specs.CommandOffence.{Offence}
 use Rattle.sym_model.specs.Ending.{Ending, done, some_refused, syntax, range, past}
 use Rattle.sym_model.specs.Outcome.{ending_of}
 use Rattle.sym_model.specs.RefusalText.{offence_line}
-use Rattle.batch_ends.specs.declared.progress.Progress.{Progress}
+use Rattle.batch_lines.specs.declared.progress.Progress.{Progress}
 use Rattle.calc_app.specs.declared.batch.Turn.{Turn}
 use Rattle.calc_app.specs.declared.batch.Turn.TheVariants as turn
 use Rattle.calc_replies.specs.declared.outcome.Outcome.{Outcome}
 use Rattle.calc_replies.specs.declared.outcome.Outcome.TheVariants.{Answered, Refused, Large, Told}
-use Rattle.batch_ends.specs.Ends.{separator, is_done_status, progress_after, end_status, Finishes}
+use Rattle.batch_lines.specs.Ends.{separator, is_done_status, progress_after, end_status, Finishes}
 use Rattle.calc_app.specs.Batch.{RefusesLong, ComesOfLine, IsTurn, TakesTurn, EndsBatch}
 use Rattle.calc_replies.specs.Computed.{IsReplyTo, text_of, HasText, HasBlock, status_for}
 use Rattle.calc_app.specs.Top.{status_of, IsThrough, Leaves}

@@ -11,7 +11,7 @@ use Rattle.calc_language.specs.Reading.{IsFaultOf}
 use Rattle.expansion_printer.specs.declared.answer.Answer.{Answer}
 use Rattle.expansion_printer.specs.Answers.{plain_answer}
 use Rattle.expansion_printer.specs.Refusal.{refusal_text}
-use Rattle.one_line_laws.proofs.PrintedForms.{read_in-text}
+use Rattle.printing_laws.proofs.PrintedForms.{read_in-text}
 use Rattle.sym_model.specs.Answer.{Answer as PlainAnswer, answer as listed, IsPrintable}
 use Rattle.sym_model.specs.PrintedForm.{PrintedForm, printed_form, answer_text_in}
 use Rattle.calc_replies.specs.declared.form.Form.{Form}

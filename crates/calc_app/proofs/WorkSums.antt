@@ -18,9 +18,9 @@ use Rattle.sym_model.specs.Ending.{done}
 use Rattle.sym_model.specs.Entry.{SpellsWithoutOffence}
 use Rattle.sym_model.specs.Partition.{size}
 use Rattle.sym_model.specs.Workload.{terms_in, work_line, after_line, work_lines}
-use Rattle.work_lines.specs.declared.sums.Sums.{Sums}
-use Rattle.work_lines.specs.Kept.{Kept, kept_bytes, kept_length}
-use Rattle.work_lines.specs.Totals.{sums_over, sums_with, AreSmall, sums_text}
+use Rattle.batch_lines.specs.declared.sums.Sums.{Sums}
+use Rattle.batch_lines.specs.Kept.{Kept, kept_bytes, kept_length}
+use Rattle.batch_lines.specs.Totals.{sums_over, sums_with, AreSmall, sums_text}
 use Rattle.calc_replies.specs.declared.outcome.Outcome.{Outcome}
 use Rattle.calc_app.specs.Batch.{ComesOfLine}
 use Rattle.calc_replies.specs.Computed.{text_of, HasBlock}

@@ -3,13 +3,13 @@ use Rattle.std.specs.Prelude.{◌≡◌, ◌⊎◌, ℕ, ◌+◌, ◌≤◌, Lis
 use Rattle.calc_base.specs.declared.status.Status.{Status}
 use Rattle.calc_base.specs.declared.status.Status.TheVariants as status
 use Rattle.calc_base.specs.Puts.{Puts}
-use Rattle.batch_ends.specs.Ends.{status_where}
+use Rattle.batch_lines.specs.Ends.{status_where}
 use Rattle.calc_language.specs.BuiltCommands.{batch_entries}
 use Rattle.sym_model.specs.BatchLine.{BatchLine, batch_line}
 use Rattle.sym_model.specs.BatchOutcome.{Block, AreBlocks}
 use Rattle.sym_model.specs.Workload.{work_lines}
-use Rattle.work_lines.specs.declared.sums.Sums.{Sums}
-use Rattle.work_lines.specs.Totals.{sums_over, sums_with, AreSmall, sums_text}
+use Rattle.batch_lines.specs.declared.sums.Sums.{Sums}
+use Rattle.batch_lines.specs.Totals.{sums_over, sums_with, AreSmall, sums_text}
 
 -- the texts of blocks
 abbrev pub texts_of : List Block → List (List ℕ)

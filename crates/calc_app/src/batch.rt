@@ -4,17 +4,17 @@ ghost use Rattle.std.specs.Prelude.{◌≡◌, ◌≤◌, ◌++◌, [], Some, tr
 ghost use Rattle.batch_lines.specs.Reading.{ReadsNext};
 ghost use Rattle.calc_base.specs.Puts.{Puts};
 ghost use Rattle.sym_model.specs.BatchLine.{batch_line, too_long};
-ghost use Rattle.batch_ends.specs.Ends.{separator, progress_after};
+ghost use Rattle.batch_lines.specs.Ends.{separator, progress_after};
 ghost use Rattle.calc_app.specs.Batch.{ComesOfLine, TakesTurn, CutsTurn, CountsTurn, EndsBatch};
 ghost use Rattle.calc_language.specs.Reading.{IsWithinItsLimits, command_of};
 ghost use Rattle.calc_replies.specs.Computed.{IsReplyTo, RunsNoOther, text_of, HasText, HasBlock, status_for};
 
-use batch_ends::{Progress, at_end, finished, put_separator};
+use batch_lines::{Progress, at_end, finished, put_separator};
 use batch_lines::{LineFault, LineReader, Next};
 use calc_base::{CountSink, NoMemory, Place, Sink, Source, Status, WordsFault};
 use calc_language::{Command, read_line};
 use calc_replies::{Outcome, put_text, reply_by, status_if_put};
-use schubert_memo::Memo;
+use schubert_transition::Memo;
 use std::alloc::Global;
 
 /// The most bytes of a line before its line feed.

@@ -7,5 +7,5 @@ mod top;
 mod workload;
 
 pub use top::run;
-pub use work_lines::{LineBuf, work_line};
+pub use batch_lines::{LineBuf, work_line};
 pub use workload::work;

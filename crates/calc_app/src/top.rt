@@ -16,7 +16,7 @@ ghost use Rattle.calc_app.specs.Top.{Leaves, IsOutcome, RunsLines, PrintsAnswerT
 
 use crate::batch::batch;
 use crate::workload::work;
-use batch_ends::status_if;
+use batch_lines::status_if;
 use calc_base::{NoMemory, Sink, Source, Status, finish_if};
 use calc_replies::{Outcome, Task, put_text, status_if_put, task_of};
 use std::alloc::Global;

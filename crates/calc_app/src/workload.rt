@@ -2,17 +2,17 @@
 
 ghost use Rattle.std.specs.Prelude.{◌≡◌, ◌<◌, ◌≤◌, IfOk};
 ghost use Rattle.sym_model.specs.BatchLine.{batch_line};
-ghost use Rattle.work_lines.specs.Totals.{sums_with, AreSmall};
+ghost use Rattle.batch_lines.specs.Totals.{sums_with, AreSmall};
 ghost use Rattle.calc_replies.specs.Computed.{text_of, HasText, HasBlock};
 ghost use Rattle.calc_app.specs.Work.{AddsLine, AreSumsOf, PutsSums, EndsWork};
 
 use crate::batch::{line_outcome, new_memo};
-use batch_ends::status_if;
+use batch_lines::status_if;
 use calc_base::{NoMemory, Sink, Status, finish_if};
 use calc_replies::{Outcome, put_text};
-use schubert_memo::Memo;
+use schubert_transition::Memo;
 use std::alloc::Global;
-use work_lines::{BlockText, LineBuf, Sums, put_summary, work_line};
+use batch_lines::{BlockText, LineBuf, Sums, put_summary, work_line};
 
 /// Runs so many lines of the generator from the seed on, and puts the sums over their blocks.
 ///

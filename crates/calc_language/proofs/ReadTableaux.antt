@@ -10,7 +10,7 @@ use Rattle.sym_model.specs.Partition.{size}
 use Rattle.sym_model.specs.Schur.{letters_of, semistandard}
 use Rattle.sym_model.specs.Tableau.{IsTableau, IsStraightTableau, shape_of, are_letters}
 use Rattle.skew_shapes.specs.CellFillings.{filled_with, is_tableau}
-use Rattle.lattice_tableaux.proofs.EntryLimits.{filling_back}
+use Rattle.tableau_iter.proofs.EntryLimits.{filling_back}
 
 pub is_tableau_back : (outer inner : List ℕ) (rows : List (List ℕ)) → IsTableau outer inner rows → is_tableau (filled_with outer inner (column_reading outer inner rows)) ≡ true
 is_tableau_back outer inner rows t =

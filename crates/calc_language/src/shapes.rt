@@ -7,9 +7,9 @@ ghost use Rattle.calc_language.specs.Reading.{command_of};
 use crate::Command;
 use calc_base::WordsFault;
 use calc_words::{read_coef, read_coprod, read_skew};
-use factor_words::{read_fusion, read_mult, read_quantum};
+use calc_words::{read_fusion, read_mult, read_quantum};
 use std::alloc::Global;
-use tab_words::read_tab;
+use tableau_words::read_tab;
 
 /// The words of `mult`.
 pub(crate) fn mult(alloc: Global, words: &[String]) -> Result<Command, WordsFault>

@@ -3,7 +3,7 @@ ghost use Rattle.std.specs.Prelude.{◌≡◌, IfOk, map};
 ghost use Rattle.sym_model.specs.Tableau.{IsTableau};
 
 use calc_base::NoMemory;
-use lattice_tableaux::reading_of_rows;
+use tableau_iter::reading_of_rows;
 use partitions::Partition;
 use skew_shapes::{Skew, Tableau, TableauFault};
 use std::alloc::Global;

@@ -13,7 +13,7 @@ use crate::pairs::TableauPair;
 use crate::refusal::syntax;
 use crate::{Basis, Formula};
 use calc_base::{Word, WordsFault};
-use factor_lists::Factors;
+use partitions::Factors;
 use partitions::Partition;
 use perm_codes::Perm;
 use skew_shapes::Tableau;
@@ -109,7 +109,7 @@ pub enum Command {
 /// with its letters, `unrsk` with two tableaux, `rect` with two partitions and a tableau, `batch`, and `work` with its two
 /// numbers. Words that are no command are refused as `Syntax`, at the word where they go wrong, and in the word of an
 /// expression at the byte after its longest prefix that begins one. Otherwise the first offence is refused, as
-/// `factor_words::read_mult` and its like and `calc_expressions::read_expression` say.
+/// `calc_words::read_mult` and its like and `calc_expressions::read_expression` say.
 pub fn read_words(alloc: Global, words: &[String]) -> Result<Command, WordsFault>
     ensures read { IsRead (map string_bytes words.now) result }
     ensures within { IfOk result IsWithinItsLimits }

@@ -15,7 +15,7 @@ use crate::{insertion, listing, permutations, products, reductions};
 use calc_base::{NoMemory, WordsFault};
 use calc_language::{Command, read_words};
 use expansion_printer::Answer;
-use schubert_memo::Memo;
+use schubert_transition::Memo;
 use std::alloc::Global;
 
 /// What comes of the words of a command.

@@ -6,7 +6,7 @@ ghost use Rattle.calc_replies.specs.Computed.{IsReplyTo};
 use crate::outcome::{Outcome, as_block};
 use calc_base::{NoMemory, SumFault};
 use expansion_printer::Answer;
-use factor_lists::Factors;
+use partitions::Factors;
 use std::alloc::Global;
 
 /// The quantum product of shapes, among those with so many rows and columns.
@@ -19,7 +19,7 @@ pub(crate) fn quantum(
     requires { KeepsLimits (commands.quantum rows cols factors.now) }
     ensures { IsReplyTo (commands.quantum rows cols factors.now) result }
 {
-    match reduced_products::quantum(alloc, factors, rows, cols) {
+    match rim_hooks::quantum(alloc, factors, rows, cols) {
         Ok(terms) => Ok(as_block(Answer::Powers { terms })),
         Err(SumFault::Large) => Ok(Outcome::Large),
         Err(SumFault::NoMemory) => Err(NoMemory),
@@ -36,7 +36,7 @@ pub(crate) fn fusion(
     requires { KeepsLimits (commands.fusion rows level factors.now) }
     ensures { IsReplyTo (commands.fusion rows level factors.now) result }
 {
-    match reduced_products::fusion(alloc, factors, rows, level) {
+    match rim_hooks::fusion(alloc, factors, rows, level) {
         Ok(terms) => Ok(as_block(Answer::Product { terms })),
         Err(SumFault::Large) => Ok(Outcome::Large),
         Err(SumFault::NoMemory) => Err(NoMemory),

@@ -16,3 +16,8 @@ pub mod ForeignBytes
 pub mod LineWords
 pub mod WordJudging
 pub mod OptionWords
+pub mod FactorStanding
+pub mod FactorCuts
+pub mod FactorJudging
+pub mod FactorLimits
+pub mod FactorCommands

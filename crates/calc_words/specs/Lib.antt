@@ -11,3 +11,5 @@ pub mod LetterRules
 pub mod PermutationWords
 pub mod BatchWords
 pub mod LineBytes
+pub mod FactorWords
+pub mod ReadProducts

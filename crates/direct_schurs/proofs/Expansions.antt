@@ -16,8 +16,8 @@ use Rattle.sym_model.proofs.Ring.{ring, product_left_comm}
 use Rattle.sym_model.proofs.Polynomials.{pair_plus, pair_scale, pair_determined, same_from_pair, Same_trans, scale_respects, times_respects, Same_refl}
 use Rattle.sym_model.proofs.PolynomialLaws.{times-scale}
 use Rattle.monomial_laws.proofs.DividedTerms.{divides-denominators}
-use Rattle.monomial_products.specs.Products.{IsCommonDenominator}
-use Rattle.monomial_products.proofs.Expansions.{common-denominators}
+use Rattle.sparse_polys.specs.MonomialProducts.{IsCommonDenominator}
+use Rattle.sparse_polys.proofs.Expansions.{common-denominators}
 use Rattle.direct_schurs.specs.SchurLists.{IsTable, sum_at}
 use lib.IntN.{*ℤ_comm, *ℤ-zero}
 

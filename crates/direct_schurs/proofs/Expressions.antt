@@ -13,8 +13,8 @@ use Rattle.sym_model.proofs.Polynomials.{pair_plus, pair_scale, pair_negate, sam
 use Rattle.sym_model.proofs.PolynomialLaws.{times_comm}
 use Rattle.monomial_laws.specs.ExpressionTerms.{HasDenominators}
 use Rattle.monomial_laws.proofs.WeightBounds.{lcm-left, lcm-right, denominator-positive}
-use Rattle.monomial_products.specs.Products.{IsCommonDenominator}
-use Rattle.monomial_products.proofs.Expansions.{common-denominators}
+use Rattle.sparse_polys.specs.MonomialProducts.{IsCommonDenominator}
+use Rattle.sparse_polys.proofs.Expansions.{common-denominators}
 use Rattle.sparse_polys.specs.Combination.{IsMultipleOf, IsSumOf}
 use Rattle.std.proofs.lemmas.Nat.Gcd.{dvd_trans}
 use Rattle.std.proofs.Math.Nat.{dvd-mul_left, dvd-mul_right}

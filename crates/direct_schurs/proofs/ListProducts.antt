@@ -16,7 +16,7 @@ use Rattle.sym_model.proofs.PolynomialLaws.{times-scale, scale-times, one-times,
 use Rattle.sym_model.proofs.WholeTerms.{pair-combined, value_by-whole, denominators_of_whole}
 use Rattle.sparse_polys.specs.Combination.{terms_of}
 use Rattle.monomial_laws.specs.ExpressionTerms.{over}
-use Rattle.monomial_products.proofs.Expansions.{common-denominators}
+use Rattle.sparse_polys.proofs.Expansions.{common-denominators}
 use Rattle.direct_schurs.specs.SchurLists.{IsTable, Adds, product_at, row_at, products_at}
 use Rattle.direct_schurs.proofs.Expansions.{pair_cleared, expansion-from}
 use Rattle.direct_schurs.proofs.Tables.{common_of}

@@ -22,7 +22,7 @@ use Rattle.sparse_polys.specs.Combination.{HasMoreAt}
 use Rattle.sparse_polys.proofs.Steps.{IsCombination-empty}
 use Rattle.sym_model.specs.LabelLimits.{is_label}
 use Rattle.monomial_laws.proofs.ExpressionTerms.{list-monomial}
-use Rattle.monomial_products.proofs.Accumulating.{AreCleared-nothing}
+use Rattle.sparse_polys.proofs.Accumulating.{AreCleared-nothing}
 use Rattle.basis_expand.specs.LabelSizes.{AreWithin}
 use Rattle.basis_expand.proofs.Quotients.{checked-quotient, Quotients, Quotients-none, Quotients-next}
 use Rattle.basis_expand.proofs.DividedLists.{expansion-quotients, bounded-quotients, within-quotients}

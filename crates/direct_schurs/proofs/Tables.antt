@@ -22,9 +22,9 @@ use Rattle.sym_model.proofs.Exponents.{same_from, same_apart, same_or_not}
 use Rattle.sym_model.proofs.Polynomials.{coefficient_plus, coefficient_scale, pair_determined, pair_plus, pair_scale}
 use Rattle.sparse_polys.specs.Combination.{HasMoreAt, IsMultipleOf, IsSumOf}
 use Rattle.monomial_laws.specs.ExpressionTerms.{over}
-use Rattle.monomial_products.specs.Products.{coefficient_at, AreCleared, IsCommonDenominator}
-use Rattle.monomial_products.proofs.Accumulating.{lowest_at}
-use Rattle.monomial_products.proofs.Expansions.{coefficient-over, divides_terms}
+use Rattle.sparse_polys.specs.MonomialProducts.{coefficient_at, AreCleared, IsCommonDenominator}
+use Rattle.sparse_polys.proofs.Accumulating.{lowest_at}
+use Rattle.sparse_polys.proofs.Expansions.{coefficient-over, divides_terms}
 use Rattle.basis_expand.proofs.WholeLists.{equal_from, equal_apart}
 use Rattle.direct_schurs.specs.SchurLists.{IsTable, Adds, sum_at}
 use native.Mathlib.Nat.{mul-pos, dvd-mul_left}

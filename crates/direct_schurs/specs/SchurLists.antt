@@ -9,7 +9,7 @@ use Rattle.sym_model.specs.Expression.{Tree, cleared_value, denominator}
 use Rattle.sym_model.specs.LabelLimits.{is_label}
 use Rattle.sparse_polys.specs.Combination.{HasMoreAt, IsCombination}
 use Rattle.monomial_laws.specs.ExpressionTerms.{over}
-use Rattle.monomial_products.specs.Products.{AreCleared}
+use Rattle.sparse_polys.specs.MonomialProducts.{AreCleared}
 
 -- the list of terms is one that a table holds
 abbrev pub IsTable : Terms (List ℕ) → Type 0

@@ -6,7 +6,7 @@ ghost use Rattle.sym_model.specs.Partition.{rows, size};
 ghost use Rattle.sym_model.specs.Polynomial.{Poly, pair, times};
 ghost use Rattle.sym_model.specs.Schur.{schur};
 ghost use Rattle.coeff_rings.specs.Fractions.{scaled};
-ghost use Rattle.monomial_products.specs.Products.{AreCleared, IsCommonDenominator};
+ghost use Rattle.sparse_polys.specs.MonomialProducts.{AreCleared, IsCommonDenominator};
 ghost use Rattle.direct_schurs.specs.SchurLists.{Adds, IsTable, product_at, row_at};
 
 use calc_base::SumFault;

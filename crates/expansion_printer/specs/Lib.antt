@@ -3,3 +3,5 @@ pub mod Answers
 pub mod Refusal
 pub mod HeldTerms
 pub mod ReadingPlaces
+-- The definitions that the contracts cite.
+pub mod SignedTerms

@@ -3,7 +3,7 @@ ghost use Rattle.std.specs.Prelude.{◌≡◌};
 ghost use Rattle.expansion_printer.specs.Answers.{kind_of, kind_of_answer};
 
 use coeff_rings::{Frac, Int};
-use monomial_polys::Monomial;
+use sparse_polys::Monomial;
 use partitions::Partition;
 use perm_codes::Perm;
 use sparse_polys::{Pair, Power, Terms};

@@ -5,7 +5,7 @@ ghost use Rattle.sym_model.specs.Kind.{LabelRules, label_rules, expansion, pairs
 
 use crate::numbers::{put_label, put_number};
 use calc_base::{Sink, put_if};
-use monomial_polys::Monomial;
+use sparse_polys::Monomial;
 use partitions::Partition;
 use perm_codes::Perm;
 use sparse_polys::{Label, Pair, Power};

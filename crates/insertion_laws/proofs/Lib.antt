@@ -6,3 +6,9 @@ pub mod Removals
 pub mod LastSteps
 pub mod TableauRows
 pub mod WordsAndPairs
+pub mod RisingRows
+pub mod SlideSteps
+pub mod SlidOrder
+pub mod SlidLetters
+pub mod KeptOrder
+pub mod SlideKeeps

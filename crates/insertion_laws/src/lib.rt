@@ -1,9 +1,12 @@
-//! Laws of row insertion: the tableaux of a word, and the one word of a pair of tableaux.
+//! Laws of row insertion and of slides: the tableaux of a word, the one word of a pair of tableaux, and that a slide keeps
+//! semistandard tableaux.
 //!
 //! A law function takes nothing, answers nothing and does no work when it runs: its contract is
 //! the law.
 #![tactic(auto)]
 
+mod sliding;
 mod words;
 
+pub use sliding::slide_law;
 pub use words::{insertion_law, pair_law};

@@ -4,8 +4,8 @@ use Rattle.std.proofs.Math.ListN.{set}
 use Rattle.std.proofs.lemmas.List.{take-set, take_more_set, drop-set-lt, set_split, get_or-set_same, get_or-set_other, drop-drop, drop_more, length-take-le, get_or-drop, drop_all}
 use Rattle.sym_model.specs.Partition.{part}
 use Rattle.sym_model.specs.Slide.{moves_up, slid_rows}
-use Rattle.slide_laws.proofs.RisingRows.{first_row}
-use Rattle.slide_laws.proofs.SlideSteps.{place_below, slid-moves_left, slid-moves_left_last, slid-moves_up, slid-stops}
+use Rattle.insertion_laws.proofs.RisingRows.{first_row}
+use Rattle.insertion_laws.proofs.SlideSteps.{place_below, slid-moves_left, slid-moves_left_last, slid-moves_up, slid-stops}
 
 -- the rows after the slide has gone on from the empty cell at the place p of row n, both counted from 0
 abbrev pub slid_at : ℕ → ℕ → List ℕ → List (List ℕ) → List (List ℕ)

@@ -12,7 +12,7 @@ use Rattle.partitions.proofs.BetaSteps.{at-within-size}
 use Rattle.skew_shapes.specs.CellFillings.{IsFilling, entry_at, is_cell, place_in_row, row_of, with_entry, with_inner_cell}
 use Rattle.skew_shapes.proofs.CellRows.{cell_row, is_cell-from}
 use Rattle.skew_shapes.proofs.KeptRows.{IsSkew-inner_lowered}
-use Rattle.slide_laws.proofs.SlideKeeps.{corner-lowered, falls-at, length-row_lengths, row_lengths-at}
+use Rattle.insertion_laws.proofs.SlideKeeps.{corner-lowered, falls-at, length-row_lengths, row_lengths-at}
 use Rattle.jeu_de_taquin.specs.declared.empty_cell.Neighbour.{Neighbour}
 use Rattle.jeu_de_taquin.specs.declared.empty_cell.Neighbour.TheVariants.{Right, Below, Nobody}
 use Rattle.jeu_de_taquin.specs.EmptyCell.{next_of}

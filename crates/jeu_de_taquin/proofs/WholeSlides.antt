@@ -9,8 +9,8 @@ use Rattle.sym_model.specs.Schur.{row_lengths, contains, letters_of}
 use Rattle.sym_model.specs.Slide.{HasInnerCorner, IsReached, lowered_at, outer_parts, slide, slid_rows}
 use Rattle.sym_model.specs.Tableau.{SkewFilling}
 use Rattle.skew_shapes.specs.CellFillings.{IsFilling, IsTableauWithin, is_tableau, place_in_row, row_of, with_inner_cell, without_outer_cell}
-use Rattle.slide_laws.proofs.KeptOrder.{rows_from}
-use Rattle.slide_laws.proofs.SlideKeeps.{corner-lowered, corner_row, slide-keeps}
+use Rattle.insertion_laws.proofs.KeptOrder.{rows_from}
+use Rattle.insertion_laws.proofs.SlideKeeps.{corner-lowered, corner_row, slide-keeps}
 use Rattle.jeu_de_taquin.specs.EmptyCell.{slid_from}
 use Rattle.jeu_de_taquin.proofs.Neighbours.{count-row, count-rows}
 

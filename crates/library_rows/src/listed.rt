@@ -6,7 +6,7 @@ use partitions::Partition;
 use row_texts::{line, said};
 use skew_shapes::{HorizontalStrips, Skew};
 use std::alloc::Global;
-use strip_lists::VerticalStrips;
+use skew_shapes::VerticalStrips;
 use tableau_iter::Fillings;
 
 /// Prints the rows of the crates `strip_lists` and `tableau_iter`, and of the horizontal strips.

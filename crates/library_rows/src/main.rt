@@ -1,15 +1,24 @@
-//! Calls of the library with their answers, a line a row: numbers, partitions, permutations, tables, strips and
-//! tableaux. What it prints is
-//! compared with `stdout`, whose lines were written from the definitions and from outside values.
+//! Calls of the library with their answers, a line a row, for what no contract says: that memory is found, and the call answers.
+//! What it prints is compared with `stdout`, whose lines were written from the definitions and from outside values.
 #![tactic(auto)]
 
+mod expressions;
+mod factors;
+mod hooks;
+mod kept;
 mod listed;
 mod made;
+mod nesting;
 mod partition_rows;
 mod permutation_rows;
+mod plain;
+mod printing;
+mod products;
 mod scalar_rows;
 mod shapes;
+mod strips;
 mod table_rows;
+mod texts;
 
 fn main(rt: HostRuntime) -> anyhow::Result<()> {
     scalar_rows::print(&rt)?;
@@ -17,5 +26,14 @@ fn main(rt: HostRuntime) -> anyhow::Result<()> {
     permutation_rows::print(&rt)?;
     table_rows::print(&rt)?;
     listed::print(&rt)?;
-    made::print(&rt)
+    made::print(&rt)?;
+    expressions::print(&rt)?;
+    nesting::print(&rt)?;
+    texts::print(&rt)?;
+    products::print(&rt)?;
+    hooks::print(&rt)?;
+    strips::print(&rt)?;
+    kept::print(&rt)?;
+    factors::print(&rt)?;
+    plain::print(&rt)
 }

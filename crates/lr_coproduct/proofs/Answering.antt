@@ -17,8 +17,8 @@ use Rattle.sym_model.proofs.Polynomials.{pair_beside, coefficient_plus, coeffici
 use Rattle.sym_model.proofs.Ring.{one-product}
 use Rattle.sym_model.proofs.Sums.{total_ext, total_same_members}
 use Rattle.sym_model.proofs.WholeTerms.{pair_of_combined, denominators_of_whole, value_by-whole, represents-whole}
-use Rattle.coproduct_laws.specs.InnerShapes.{shapes_inside}
-use Rattle.coproduct_laws.proofs.Coproducts.{coproduct}
+use Rattle.schur_laws.specs.InnerShapes.{shapes_inside}
+use Rattle.schur_laws.proofs.Coproducts.{coproduct}
 use Rattle.lr_coproduct.specs.PairTerms.{pair_sum, second_sum}
 use Rattle.lr_coproduct.specs.InnerShapeList.{ListsShapesInside}
 use Rattle.lr_coproduct.proofs.InnerLists.{partitions_inside, part_among, among_part, once_partitions_inside}

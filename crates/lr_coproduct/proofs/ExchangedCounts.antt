@@ -18,8 +18,8 @@ use Rattle.tableau_laws.proofs.ColumnCounts.{total_readings_by_columns}
 use Rattle.tableau_laws.proofs.GoodReadings.{total_good_contents}
 use Rattle.alternant_laws.specs.GoodSums.{start_plus_content}
 use Rattle.alternant_laws.proofs.CountedTerms.{good_terms, coefficient_counts, nothing_times, schur_coefficient_of_schur, skew_coefficients}
-use Rattle.duality_laws.proofs.Duality.{rows_inside}
-use Rattle.duality_laws.proofs.ProductCounts.{product_by_shape, product_outside, product_exchanged}
+use Rattle.schur_laws.proofs.Duality.{rows_inside}
+use Rattle.schur_laws.proofs.ProductCounts.{product_by_shape, product_outside, product_exchanged}
 use Rattle.lr_product.proofs.GoodCounts.{product_count-other_size}
 
 -- ---- the exchange

@@ -28,7 +28,7 @@ use Rattle.sym_model.proofs.Sums.{Among_from_append, Among_from_map, Among-appen
 use Rattle.sparse_polys.specs.Combination.{are_terms, IsCanonicalList}
 use Rattle.sparse_polys.proofs.Coefficients.{is_reduced-lowest}
 use Rattle.alternant_laws.proofs.CountedTerms.{skew_coefficients, skew_meets}
-use Rattle.duality_laws.proofs.Duality.{rows_inside}
+use Rattle.schur_laws.proofs.Duality.{rows_inside}
 use Rattle.lr_product.proofs.GoodCounts.{contains-tells, contains-from}
 use Rattle.lr_coproduct.specs.InnerShapeList.{IsInPrintedOrder, ListsShapesInside, IsCountAbove}
 use Rattle.lr_coproduct.specs.SkewLists.{IsSkewList, HaveSkewLists}

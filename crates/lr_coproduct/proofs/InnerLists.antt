@@ -9,9 +9,9 @@ use Rattle.sym_model.proofs.Sums.{Among-each, Among-map, Among_from_map, Once-ma
 use Rattle.lr_product.proofs.GoodCounts.{contains-tells}
 use Rattle.partitions.specs.Limits.{IsWithinLimits}
 use Rattle.alternant_laws.proofs.FallingAlternants.{resize-without_last_zeros, without_last_zeros-resize, length-without_last_zeros}
-use Rattle.coproduct_laws.specs.InnerShapes.{up_to, shapes_inside}
-use Rattle.coproduct_laws.proofs.Coproducts.{map-append, map-map}
-use Rattle.coproduct_laws.proofs.InnerShapeLists.{inside-tells, same-without_last_zeros, partition_inside}
+use Rattle.schur_laws.specs.InnerShapes.{up_to, shapes_inside}
+use Rattle.schur_laws.proofs.Coproducts.{map-append, map-map}
+use Rattle.schur_laws.proofs.InnerShapeLists.{inside-tells, same-without_last_zeros, partition_inside}
 
 -- the partitions inside
 abbrev pub partitions_inside : List ℕ → List (List ℕ)

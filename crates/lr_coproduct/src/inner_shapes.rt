@@ -3,7 +3,7 @@ ghost use Rattle.std.specs.Prelude.{◌≡◌, ◌+◌, ◌≤◌, List, [], ◌
 ghost use Rattle.std.specs.List.Sorted.{IsPermutation};
 ghost use Rattle.sym_model.specs.Partition.{Falls, IsPartition, columns, size, without_last_zeros};
 ghost use Rattle.sym_model.specs.PrintedOrder.{printed_order};
-ghost use Rattle.coproduct_laws.specs.InnerShapes.{shapes_inside};
+ghost use Rattle.schur_laws.specs.InnerShapes.{shapes_inside};
 ghost use Rattle.lr_coproduct.specs.InnerShapeList.{IsInPrintedOrder, ListsShapesInside, IsCountAbove};
 
 use calc_base::NoMemory;

@@ -31,7 +31,7 @@ use Rattle.alternant_laws.specs.GoodSums.{ListsCounts, start_plus_content}
 use Rattle.alternant_laws.proofs.CountedTerms.{good_terms, coefficient_counts, no_long_labels, product_coefficients, skew_coefficients, nothing_times, mult_meets, skew_meets}
 use Rattle.alternant_laws.proofs.Degrees.{coefficient-other_degree, times-of_degree, alternant-of_degree, schur-of_degree}
 use Rattle.alternant_laws.proofs.ClassicalProducts.{classical_product-coefficient, classical_product-term}
-use Rattle.duality_laws.proofs.Duality.{contains_places, contains_from_places}
+use Rattle.schur_laws.proofs.Duality.{contains_places, contains_from_places}
 use Rattle.lr_product.specs.WeighedSum.{comes_to, VanishesOutside}
 use Rattle.lr_product.specs.Capped.{Agree}
 use Rattle.lr_product.specs.Counts.{good_count, IsPastSomewhere}

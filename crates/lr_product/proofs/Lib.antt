@@ -15,3 +15,9 @@ mod Pruned
 mod CountedLists
 pub mod GoodCounts
 mod MixedNumbers
+mod TableLists
+mod CountSums
+mod PastCoefficients
+mod FactorSums
+mod Partial
+mod NothingLeft

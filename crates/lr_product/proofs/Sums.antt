@@ -10,7 +10,7 @@ use Rattle.sym_model.specs.Schur.{contains}
 use Rattle.sym_model.specs.GoodTableau.{product_count}
 use Rattle.tableau_laws.specs.Grid.{pass_by_place}
 use Rattle.tableau_laws.specs.ColumnFold.{column_lines, is_sum}
-use Rattle.duality_laws.proofs.ProductCounts.{product_by_shape}
+use Rattle.schur_laws.proofs.ProductCounts.{product_by_shape}
 use Rattle.lr_product.specs.WeighedSum.{at_state, weighed, over_states, comes_to, VanishesOutside}
 use Rattle.lr_product.specs.Capped.{Agree}
 use Rattle.lr_product.proofs.Agreeing.{agree_same, agree_then}

@@ -4,3 +4,5 @@ pub mod Extension
 pub mod ColumnLine
 pub mod Counts
 pub mod Mixing
+pub mod ProductOfFactors
+pub mod Tables

@@ -1,4 +1,4 @@
-//! Products of Schur polynomials, skew Schur polynomials and their coefficients, as counts of good tableaux.
+//! Products of two to eight Schur polynomials, skew Schur polynomials and their coefficients, as counts of good tableaux.
 //!
 //! The tableaux are counted column by column from the rightmost to the leftmost, in a table from the sum reached and the
 //! column added last to the number of ways.
@@ -8,7 +8,9 @@ mod coefficient;
 mod columns;
 mod counts;
 mod extension;
+mod factor_product;
 mod letters;
+mod next_factor;
 mod product;
 mod skew_expansion;
 mod state;
@@ -16,5 +18,6 @@ mod step;
 mod table;
 
 pub use coefficient::coef;
+pub use factor_product::mult_all;
 pub use product::mult;
 pub use skew_expansion::skew;

@@ -16,7 +16,7 @@ use Rattle.sym_model.specs.Polynomial.{same}
 use Rattle.sym_model.specs.WholeTerms.{AreWhole}
 use Rattle.sparse_polys.specs.Combination.{coefficient}
 use Rattle.sparse_polys.specs.Refusal.{IsRefused}
-use Rattle.monomial_polys.proofs.ClearedSums.{nat_abs-is}
+use Rattle.sparse_polys.proofs.ClearedSums.{nat_abs-is}
 use Rattle.schubert_transition.specs.TermLists.{equal, over, only, IsTable}
 use Rattle.schubert_transition.proofs.TermSums.{whole_found, over_at}
 use Rattle.monk_product.specs.Monk.{mass, AreShort, over_covers, greatest_length, count_of}

@@ -5,9 +5,9 @@ use Rattle.sym_model.specs.Polynomial.{join}
 use Rattle.sym_model.specs.Partition.{size, in_front, without_last_zeros}
 use Rattle.sym_model.proofs.SortedParts.{size-without_last_zeros}
 use Rattle.schubert_laws.proofs.Swaps.{default_free}
-use Rattle.monomial_polys.specs.Limits.{IsWithinLimits}
-use Rattle.monomial_polys.specs.Raised.{raised}
-use Rattle.monomial_polys.proofs.ExponentOrder.{front_tail, trimmed_once}
+use Rattle.sparse_polys.specs.Limits.{IsWithinLimits}
+use Rattle.sparse_polys.specs.Raised.{raised}
+use Rattle.sparse_polys.proofs.ExponentOrder.{front_tail, trimmed_once}
 
 pub last_positive : (e : List ℕ) → without_last_zeros e ≡ e → 0 < length e → 0 < get_or e (length e - 1) 0
 last_positive [] t h = absurd (omega arith)

@@ -14,7 +14,7 @@ use Rattle.sym_model.proofs.Sums.{total_zero, total_among}
 use Rattle.sym_model.proofs.Exponents.{join_assoc, resize-join, fits_in-join}
 use Rattle.sym_model.proofs.Polynomials.{pair_ext, pair_determined, pair_plus, pair_negate, pair_each}
 use Rattle.schubert_laws.proofs.MonkFromOne.{monk_in}
-use Rattle.monomial_polys.specs.Raised.{raised}
+use Rattle.sparse_polys.specs.Raised.{raised}
 use Rattle.schubert_transition.specs.TermLists.{over, IsTable}
 use Rattle.schubert_transition.specs.Transitions.{acted}
 use Rattle.schubert_transition.proofs.Monomials.{unit, pair_variable}

@@ -5,7 +5,7 @@ ghost use Rattle.monk_product.specs.Pending.{value_of, growth, steps, ArePending
 
 use crate::monk::Sum;
 use calc_base::NoMemory;
-use monomial_polys::Monomial;
+use sparse_polys::Monomial;
 use sparse_polys::Lin;
 use std::alloc::Global;
 use std::cmp::Ordering;

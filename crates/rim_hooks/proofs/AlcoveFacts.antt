@@ -13,11 +13,11 @@ use Rattle.partitions.specs.Limits.{IsWithinLimits}
 use Rattle.beta_list_laws.specs.StrictFall.{FallsStrictly}
 use Rattle.beta_list_laws.proofs.BetaLists.{length-beta, beta_strict, size-beta, size-from_beta, from_beta_partition, rows-from_beta, beta-from_beta}
 use Rattle.beta_list_laws.proofs.NeighbourExchanges.{length-sorted}
-use Rattle.reduction_laws.specs.LowestList.{alike}
-use Rattle.reduction_laws.specs.AlcoveEnd.{remainders, up, match_in, IsAlcoveEnd}
-use Rattle.reduction_laws.proofs.Remainders.{alike-remainder}
-use Rattle.reduction_laws.proofs.Windows.{alcove_only, up_is, size-multiple, size-next, size_above, size_remainders, has_alike, lacks_alike, alike_once}
-use Rattle.reduction_laws.proofs.AlcoveEnds.{alcove_none, alcove_found, end_found, alcove_sign}
+use Rattle.beta_list_laws.specs.LowestList.{alike}
+use Rattle.beta_list_laws.specs.AlcoveEnd.{remainders, up, match_in, IsAlcoveEnd}
+use Rattle.beta_list_laws.proofs.Remainders.{alike-remainder}
+use Rattle.beta_list_laws.proofs.Windows.{alcove_only, up_is, size-multiple, size-next, size_above, size_remainders, has_alike, lacks_alike, alike_once}
+use Rattle.beta_list_laws.proofs.AlcoveEnds.{alcove_none, alcove_found, end_found, alcove_sign}
 use Rattle.rim_hooks.specs.AlcoveOf.{IsAlcoveOf}
 use Rattle.rim_hooks.specs.Sorting.{Sorts}
 use Rattle.rim_hooks.specs.Turns.{AreTurned}

@@ -10,8 +10,8 @@ use Rattle.partitions.specs.Limits.{IsWithinLimits}
 use Rattle.beta_list_laws.specs.StrictFall.{FallsStrictly}
 use Rattle.beta_list_laws.proofs.BetaLists.{length-beta, beta_strict}
 use Rattle.beta_list_laws.proofs.NeighbourExchanges.{length-sorted}
-use Rattle.reduction_laws.specs.LowestList.{lowest, end_of, power_of, end_sign, reduction_by_remainders}
-use Rattle.reduction_laws.proofs.Ends.{goes_to_end, goes_cells, goes_partition, goes_rows, wide, narrow, reduces_by_remainders, reduces_only}
+use Rattle.beta_list_laws.specs.LowestList.{lowest, end_of, power_of, end_sign, reduction_by_remainders}
+use Rattle.beta_list_laws.proofs.Ends.{goes_to_end, goes_cells, goes_partition, goes_rows, wide, narrow, reduces_by_remainders, reduces_only}
 use Rattle.rim_hooks.specs.Signs.{sign_of}
 use Rattle.rim_hooks.specs.Sorting.{Sorts}
 use Rattle.rim_hooks.specs.declared.sorted.Sorted.{Sorted}

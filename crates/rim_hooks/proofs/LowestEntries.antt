@@ -5,9 +5,9 @@ use Rattle.std.proofs.lemmas.List.{get_or-set_same, get_or-set_other, get_or-rep
 use Rattle.std.proofs.Math.Nat.{mod-lt, mod-mod, mod-eq_of_lt}
 use Rattle.beta_list_laws.specs.StrictFall.{FallsStrictly}
 use Rattle.beta_list_laws.proofs.BetaLists.{strict_tail}
-use Rattle.reduction_laws.specs.LowestList.{alike, lowest}
-use Rattle.reduction_laws.proofs.Remainders.{alike-here, alike-past, alike-remainder}
-use Rattle.reduction_laws.proofs.Lowest.{lowered_below}
+use Rattle.beta_list_laws.specs.LowestList.{alike, lowest}
+use Rattle.beta_list_laws.proofs.Remainders.{alike-here, alike-past, alike-remainder}
+use Rattle.beta_list_laws.proofs.Lowest.{lowered_below}
 use Rattle.rim_hooks.specs.Counts.{Counts}
 use Rattle.rim_hooks.specs.Sorting.{Sorts}
 use Rattle.rim_hooks.specs.declared.sorted.Sorted.{Sorted}

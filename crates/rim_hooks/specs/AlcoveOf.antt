@@ -1,7 +1,7 @@
 -- What the reduction of a partition into the alcove is, by the remainders of its beta list.
 use Rattle.std.specs.Prelude.{◌≡◌, ℕ, false, ℤ, List, map}
 use Rattle.sym_model.specs.BetaList.{beta, has_equal_entries, sorting_sign}
-use Rattle.reduction_laws.specs.AlcoveEnd.{remainders, match_in, IsAlcoveEnd}
+use Rattle.beta_list_laws.specs.AlcoveEnd.{remainders, match_in, IsAlcoveEnd}
 
 -- no two entries of the beta list of shape leave one remainder modulo n; the beta list of end is the only strictly falling
 -- list with its sum, its remainders and a spread below n; and the sign is that of the order in which the entries of the one

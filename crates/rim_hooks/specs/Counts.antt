@@ -1,6 +1,6 @@
 -- Tables by remainders (this project's own).
 use Rattle.std.specs.Prelude.{◌≡◌, ℕ, ◌<◌, List, length, slice_index}
-use Rattle.reduction_laws.specs.LowestList.{alike}
+use Rattle.beta_list_laws.specs.LowestList.{alike}
 
 -- the table of 512 places has at each remainder modulo n how many entries of the list leave it
 pub record Counts (n : ℕ) (table list : List ℕ) : Type 0 where

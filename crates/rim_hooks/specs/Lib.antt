@@ -4,3 +4,7 @@ pub mod Counts
 pub mod Reduced
 pub mod Turns
 pub mod AlcoveOf
+pub mod Collected
+pub mod ReducedLists
+pub mod FactorRows
+pub mod HeavySteps

@@ -2,7 +2,7 @@
 use Rattle.std.specs.Prelude.{◌≡◌, ℕ, ◌+◌, ◌*◌, ◌≤◌, false, List, length}
 use Rattle.sym_model.specs.Partition.{size}
 use Rattle.sym_model.specs.BetaList.{has_equal_entries}
-use Rattle.reduction_laws.specs.AlcoveEnd.{remainders}
+use Rattle.beta_list_laws.specs.AlcoveEnd.{remainders}
 use Rattle.rim_hooks.specs.Counts.{Counts}
 use Rattle.rim_hooks.specs.declared.reflections.Turns.{Turns}
 

@@ -3,7 +3,7 @@ ghost use Rattle.std.specs.Prelude.{◌≡◌, ◌+◌, ◌*◌, ◌<◌, ◌≤
 ghost use Rattle.sym_model.specs.Partition.{rows, size};
 ghost use Rattle.sym_model.specs.BetaList.{beta, has_equal_entries};
 ghost use Rattle.sym_model.specs.AlcoveReduction.{alcove_reduction};
-ghost use Rattle.reduction_laws.specs.AlcoveEnd.{remainders, up};
+ghost use Rattle.beta_list_laws.specs.AlcoveEnd.{remainders, up};
 ghost use Rattle.rim_hooks.specs.AlcoveOf.{IsAlcoveOf};
 ghost use Rattle.rim_hooks.specs.Reduced.{signed_partition};
 ghost use Rattle.rim_hooks.specs.Sorting.{Sorts};

@@ -5,7 +5,7 @@ ghost use Rattle.sym_model.specs.PlaceOrders.{minus_one_to};
 ghost use Rattle.sym_model.specs.RimHookReduction.{ReducesTo};
 ghost use Rattle.sym_model.specs.Target.{Reduction};
 ghost use Rattle.beta_list_laws.specs.StrictFall.{FallsStrictly};
-ghost use Rattle.reduction_laws.specs.LowestList.{lowest, reduction_by_remainders};
+ghost use Rattle.beta_list_laws.specs.LowestList.{lowest, reduction_by_remainders};
 ghost use Rattle.rim_hooks.specs.Reduced.{reduction};
 ghost use Rattle.rim_hooks.specs.Signs.{sign_of};
 ghost use Rattle.rim_hooks.specs.Sorting.{Sorts};

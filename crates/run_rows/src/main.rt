@@ -1,10 +1,15 @@
-//! Runs of the calculator whose sink or source fails, with how each ended, a line a row: no fault is hidden. What it prints is
-//! compared with `stdout`. Which pieces a text is put in is the printer's own; that one fault is counted, that the status tells
-//! of it, and that what was put begins the text of the run without a fault, is what the lines show.
+//! Runs of the calculator, and calls of sources and sinks, that fail in mid-stream, with how each ended, a line a row: no fault is
+//! hidden. What it prints is compared with `stdout`. Which pieces a text is put in is the printer's own; that one fault is counted,
+//! that the status tells of it, and that what was put begins the text of the run without a fault, is what the lines show.
 #![tactic(auto)]
 
 mod faults;
+mod narrow;
+mod sinks;
+mod sources;
 
 fn main(rt: HostRuntime) -> anyhow::Result<()> {
-    faults::print(&rt)
+    faults::print(&rt)?;
+    sources::print(&rt)?;
+    sinks::print(&rt)
 }

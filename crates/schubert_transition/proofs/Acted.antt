@@ -15,7 +15,7 @@ use Rattle.sym_model.proofs.Sums.{total_zero}
 use Rattle.sym_model.proofs.Exponents.{same_true, same_refl, join_comm, join_assoc, join_zeros, length-resize, resize-nil, resize-join, fits_in-join, fits_in_length}
 use Rattle.sym_model.proofs.Polynomials.{pair_ext, pair_in, pair_determined, pair_one, at_only, In_restrict}
 use Rattle.schubert_laws.proofs.LowerPermutations.{identity_is_one}
-use Rattle.monomial_polys.specs.Raised.{raised}
+use Rattle.sparse_polys.specs.Raised.{raised}
 use Rattle.schubert_transition.specs.Transitions.{shown, acted}
 use Rattle.schubert_transition.proofs.Monomials.{unit, pair_transition, pair_variable, HasMonomials}
 use lib.IntN.{+ℤ_idl}

@@ -7,7 +7,7 @@ use Rattle.sym_model.specs.Permutation.{times_swap, covers_down, IsOneLine, IsTr
 use Rattle.sym_model.specs.Expansion.{Fraction, Terms}
 use Rattle.sym_model.proofs.Sums.{total_append, Among-append_right, total_exchange, total_ext, total_add, total_scale}
 use Rattle.sym_model.proofs.Ring.{distributes_left}
-use Rattle.monomial_polys.specs.Raised.{raised}
+use Rattle.sparse_polys.specs.Raised.{raised}
 use Rattle.schubert_transition.specs.TermLists.{over, only}
 use Rattle.schubert_transition.specs.Transitions.{IsShort, acted}
 use Rattle.schubert_transition.specs.Todo.{HasLargeValue}

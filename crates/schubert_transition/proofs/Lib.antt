@@ -11,3 +11,4 @@ pub mod CoverSums
 pub mod CoverSteps
 pub mod FinalSums
 pub mod LoopSteps
+pub mod KeptEntries

@@ -1,3 +1,5 @@
 pub mod TermLists
 pub mod Transitions
 pub mod Todo
+-- The definitions that the contracts cite.
+pub mod Kept

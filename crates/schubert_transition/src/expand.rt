@@ -5,7 +5,7 @@ ghost use Rattle.sym_model.specs.Partition.{size};
 ghost use Rattle.sym_model.specs.Permutation.{IsTransition, covers_down};
 ghost use Rattle.sym_model.specs.PlaceOrders.{inversions};
 ghost use Rattle.sym_model.specs.Sum.{total, Among};
-ghost use Rattle.monomial_polys.specs.Raised.{raised};
+ghost use Rattle.sparse_polys.specs.Raised.{raised};
 ghost use Rattle.schubert_transition.specs.TermLists.{over, AreTerms};
 ghost use Rattle.schubert_transition.specs.Todo.{value_of, load, IsWaiting, AreWaiting, HasLargeValue};
 ghost use Rattle.schubert_transition.specs.Transitions.{IsShort, acted, weight};
@@ -14,7 +14,7 @@ use crate::sums::{add_all, add_times_var};
 use crate::todo::{Waiting, index_of};
 use calc_base::SumFault;
 use coeff_rings::Int;
-use monomial_polys::Poly;
+use sparse_polys::Poly;
 use perm_codes::Perm;
 use std::alloc::Global;
 

@@ -1,11 +1,13 @@
-//! Schubert polynomials by the transition rule.
+//! Schubert polynomials by the transition rule, and a bounded store of those that were asked for.
 #![tactic(auto)]
 
 mod expand;
+mod memo;
 mod places;
 mod sums;
 mod todo;
 mod top;
 
+pub use memo::Memo;
 pub use places::transition_places;
 pub use top::{schubert, schubert_terms};

@@ -5,12 +5,12 @@ ghost use Rattle.sym_model.specs.LabelLimits.{is_monomial_label};
 ghost use Rattle.sym_model.specs.Partition.{size};
 ghost use Rattle.sym_model.specs.Sum.{Among};
 ghost use Rattle.sym_model.specs.WholeTerms.{AreWhole};
-ghost use Rattle.monomial_polys.specs.Raised.{raised};
+ghost use Rattle.sparse_polys.specs.Raised.{raised};
 ghost use Rattle.schubert_transition.specs.TermLists.{over, AreTerms, HasLarge, IsTable};
 
 use calc_base::SumFault;
 use coeff_rings::Int;
-use monomial_polys::Poly;
+use sparse_polys::Poly;
 
 /// Adds a polynomial.
 pub(crate) fn add_all(sum: &mut Poly<Int>, terms: &Poly<Int>) -> Result<(), SumFault>

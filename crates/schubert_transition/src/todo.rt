@@ -6,7 +6,7 @@ ghost use Rattle.schubert_transition.specs.Todo.{value_of, load, AreWaiting, Has
 
 use calc_base::NoMemory;
 use coeff_rings::Int;
-use monomial_polys::Poly;
+use sparse_polys::Poly;
 use perm_codes::Perm;
 use sparse_polys::Lin;
 use std::alloc::Global;

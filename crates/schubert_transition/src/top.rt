@@ -21,7 +21,7 @@ use crate::sums::{add_all, is_whole};
 use crate::todo::Waiting;
 use calc_base::SumFault;
 use coeff_rings::{Int, Scalar};
-use monomial_polys::{Monomial, Poly};
+use sparse_polys::{Monomial, Poly};
 use perm_codes::Perm;
 use sparse_polys::{Lin, Terms};
 use std::alloc::Global;

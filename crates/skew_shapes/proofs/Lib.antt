@@ -6,3 +6,8 @@ pub mod FilledReadings
 pub mod RowOrder
 pub mod StandardNumbers
 pub mod StripLists
+pub mod ShapeLists
+pub mod LoneShapes
+pub mod AddedShapes
+pub mod RemovedShapes
+pub mod ListerSteps

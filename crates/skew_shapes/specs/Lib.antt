@@ -3,3 +3,7 @@ pub mod CellFillings
 pub mod Rows
 pub mod RowTests
 pub mod HorizontalStrips
+pub mod VerticalStrips
+pub mod HookLists
+pub mod AddedHooks
+pub mod RemovedHooks

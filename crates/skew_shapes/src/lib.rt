@@ -1,20 +1,27 @@
 //! Skew shapes, and fillings of them: semistandard tableaux, standard tableaux, and numbers in cells with no rule among
-//! them; and the shapes that a horizontal strip makes of a partition.
+//! them; and the shapes that a strip or a rim hook makes of a partition, one at a time.
 #![tactic(auto)]
 
 mod fault;
 mod filled;
+mod hooks_added;
+mod hooks_removed;
 mod horizontal_strips;
+mod lengths;
 mod order;
 mod places;
 mod skew;
 mod standard;
 mod tableau;
+mod vertical_strips;
 
 pub use calc_base::Word;
 pub use fault::TableauFault;
 pub use filled::Filled;
+pub use hooks_added::HooksAdded;
+pub use hooks_removed::HooksRemoved;
 pub use horizontal_strips::HorizontalStrips;
 pub use skew::Skew;
 pub use standard::Standard;
 pub use tableau::Tableau;
+pub use vertical_strips::VerticalStrips;

@@ -2,3 +2,10 @@ pub mod Combination
 pub mod Refusal
 pub mod Labels
 pub mod Following
+pub mod Limits
+pub mod Ties
+pub mod Raised
+pub mod Products
+pub mod Ways
+pub mod Search
+pub mod MonomialProducts

@@ -25,11 +25,11 @@ use Rattle.coeff_rings.specs.Fractions.{scaled, whole}
 use Rattle.coeff_rings.specs.Room.{magnitude}
 use Rattle.coeff_rings.specs.Proved.Divisors.{divides_other_factor, coprime_without, divisor_positive}
 use Rattle.sparse_polys.specs.Combination.{terms_of}
-use Rattle.monomial_polys.specs.Products.{cleared_sum}
-use Rattle.monomial_polys.proofs.ListSteps.{sum_next, absolute_next, rows_sizes}
-use Rattle.monomial_products.specs.Products.{coefficient_at, greatest_size, AreCleared}
-use Rattle.monomial_products.proofs.Accumulating.{AreCleared-nothing}
-use Rattle.monomial_products.proofs.Expansions.{least-denominators}
+use Rattle.sparse_polys.specs.Products.{cleared_sum}
+use Rattle.sparse_polys.proofs.ListSteps.{sum_next, absolute_next, rows_sizes}
+use Rattle.sparse_polys.specs.MonomialProducts.{coefficient_at, greatest_size, AreCleared}
+use Rattle.sparse_polys.proofs.Accumulating.{AreCleared-nothing}
+use Rattle.sparse_polys.proofs.Expansions.{least-denominators}
 use Rattle.strip_rules.specs.Adding.{AddsProduct, Overflows, in_schurs}
 use Rattle.strip_rules.proofs.ShapeSums.{IsTable}
 use native.Mathlib.Nat.{mul-le-mul_left, pow-zero, le-div_iff_mul-le}

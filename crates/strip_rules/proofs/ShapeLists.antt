@@ -10,10 +10,10 @@ use Rattle.sym_model.proofs.PartitionLists.{Once-FallsLexicographically}
 use Rattle.strip_laws.proofs.RimHooks.{hook_rows, height_of_rows}
 use Rattle.partitions.specs.Limits.{IsWithinLimits}
 use Rattle.skew_shapes.specs.HorizontalStrips.{AreHorizontalStrips}
-use Rattle.strip_lists.specs.VerticalStrips.{AreVerticalStrips}
-use Rattle.hook_lists.specs.HookLists.{AreHooksAdded}
-use Rattle.strip_product_laws.specs.StripLists.{ListsEach, AddsHorizontalStrip, AddsVerticalStrip, AddsRimHook}
-use Rattle.strip_product_laws.proofs.StripShapes.{holds_get}
+use Rattle.skew_shapes.specs.VerticalStrips.{AreVerticalStrips}
+use Rattle.skew_shapes.specs.HookLists.{AreHooksAdded}
+use Rattle.product_laws.specs.StripLists.{ListsEach, AddsHorizontalStrip, AddsVerticalStrip, AddsRimHook}
+use Rattle.product_laws.proofs.StripShapes.{holds_get}
 use Rattle.strip_rules.specs.Adding.{AreSmall}
 
 pub horizontal_list : (k : ℕ) (parts : List ℕ) (list : List (List ℕ)) → AreHorizontalStrips parts k list → ListsEach (AddsHorizontalStrip k parts) list

@@ -25,10 +25,10 @@ use Rattle.sparse_polys.specs.Combination.{IsCombination, HasMoreAt}
 use Rattle.sparse_polys.specs.Labels.{same_partition}
 use Rattle.sparse_polys.specs.Refusal.{IsRefused}
 use Rattle.sparse_polys.proofs.Totals.{total-more, carried}
-use Rattle.monomial_polys.specs.Products.{cleared_sum}
-use Rattle.monomial_polys.proofs.ClearedSums.{size-here}
-use Rattle.monomial_products.specs.Products.{coefficient_at, AreCleared}
-use Rattle.monomial_products.proofs.Accumulating.{lowest_at, triangle, scaled-nothing, Overflows-term}
+use Rattle.sparse_polys.specs.Products.{cleared_sum}
+use Rattle.sparse_polys.proofs.ClearedSums.{size-here}
+use Rattle.sparse_polys.specs.MonomialProducts.{coefficient_at, AreCleared}
+use Rattle.sparse_polys.proofs.Accumulating.{lowest_at, triangle, scaled-nothing, Overflows-term}
 use Rattle.strip_rules.specs.Adding.{IsDenominator, AddsShapes, Overflows}
 use Rattle.strip_rules.specs.Room.{AreWithin}
 use lib.IntN.{+ℤ_idr, *ℤ-zero, zero-*ℤ}

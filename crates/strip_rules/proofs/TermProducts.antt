@@ -20,12 +20,12 @@ use Rattle.sym_model.proofs.Polynomials.{pair_ext, pair_plus, pair_scale, pair_e
 use Rattle.coeff_rings.specs.Fractions.{scaled}
 use Rattle.coeff_rings.specs.Room.{magnitude}
 use Rattle.coeff_rings.specs.Proved.Cleared.{unsigned_abs-scaled}
-use Rattle.monomial_polys.specs.Products.{cleared_sum}
-use Rattle.monomial_products.proofs.Expansions.{common-denominators}
-use Rattle.strip_product_laws.specs.StripLists.{ListsEach, AddsHorizontalStrip, AddsVerticalStrip, AddsRimHook}
-use Rattle.strip_product_laws.proofs.Pieri.{horizontal, vertical}
-use Rattle.strip_product_laws.proofs.RimHookSums.{rim_hooks}
-use Rattle.strip_product_laws.proofs.StripCounts.{hooks_within}
+use Rattle.sparse_polys.specs.Products.{cleared_sum}
+use Rattle.sparse_polys.proofs.Expansions.{common-denominators}
+use Rattle.product_laws.specs.StripLists.{ListsEach, AddsHorizontalStrip, AddsVerticalStrip, AddsRimHook}
+use Rattle.product_laws.proofs.Pieri.{horizontal, vertical}
+use Rattle.product_laws.proofs.RimHookSums.{rim_hooks}
+use Rattle.product_laws.proofs.StripCounts.{hooks_within}
 use Rattle.strip_rules.specs.Adding.{AddsShapes, AddsProduct, in_schurs}
 use Rattle.strip_rules.proofs.ShapeSums.{IsTable}
 use native.Mathlib.Nat.{mul-le-mul_left, pow-suc, pow-zero}

@@ -11,8 +11,8 @@ use Rattle.sym_model.specs.Expansion.{Fraction, Terms}
 use Rattle.sym_model.specs.ListWeight.{absolute_sum}
 use Rattle.coeff_rings.specs.Fractions.{scaled}
 use Rattle.coeff_rings.specs.Room.{magnitude}
-use Rattle.monomial_polys.specs.Products.{cleared_sum}
-use Rattle.monomial_products.specs.Products.{coefficient_at, AreCleared}
+use Rattle.sparse_polys.specs.Products.{cleared_sum}
+use Rattle.sparse_polys.specs.MonomialProducts.{coefficient_at, AreCleared}
 use Rattle.strip_rules.specs.Room.{AreWithin}
 
 -- q is a positive multiple of the denominator of c

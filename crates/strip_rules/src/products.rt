@@ -9,7 +9,7 @@ ghost use Rattle.sym_model.specs.ListWeight.{list_weight};
 ghost use Rattle.sym_model.specs.Partition.{size, rows};
 ghost use Rattle.sym_model.specs.Polynomial.{times};
 ghost use Rattle.sparse_polys.specs.Combination.{IsCombination};
-ghost use Rattle.monomial_products.specs.Products.{greatest_size};
+ghost use Rattle.sparse_polys.specs.MonomialProducts.{greatest_size};
 ghost use Rattle.strip_rules.specs.Adding.{IsAdded};
 ghost use Rattle.strip_rules.specs.Factors.{polynomial_of};
 ghost use Rattle.strip_rules.specs.Room.{AreWithin, HasRoom};

@@ -8,19 +8,19 @@ ghost use Rattle.sym_model.specs.Strip.{height};
 ghost use Rattle.sym_model.specs.Sum.{Among, Once};
 ghost use Rattle.coeff_rings.specs.Fractions.{scaled, InLowestTerms};
 ghost use Rattle.coeff_rings.specs.Room.{magnitude};
-ghost use Rattle.monomial_products.specs.Products.{AreCleared};
+ghost use Rattle.sparse_polys.specs.MonomialProducts.{AreCleared};
 ghost use Rattle.partitions.specs.Limits.{IsWithinLimits};
 ghost use Rattle.strip_rules.specs.Room.{AreWithin};
 ghost use Rattle.strip_rules.specs.Adding.{IsDenominator, AreSmall, AddsShapes, Overflows, IsAdded};
 
 use calc_base::{Lister, SumFault};
 use coeff_rings::Ring;
-use hook_lists::HooksAdded;
+use skew_shapes::HooksAdded;
 use partitions::Partition;
 use skew_shapes::HorizontalStrips;
 use sparse_polys::Lin;
 use std::alloc::Global;
-use strip_lists::VerticalStrips;
+use skew_shapes::VerticalStrips;
 
 /// Adds a coefficient at each of the shapes that are still to come.
 fn add_each<R: Ring, L: Lister>(

@@ -13,3 +13,8 @@ pub mod FittingWords
 pub mod LetterChoice
 pub mod Boards
 pub mod Starts
+pub mod RowLengths
+pub mod Membership
+pub mod EntryLimits
+pub mod Letters
+pub mod Tests

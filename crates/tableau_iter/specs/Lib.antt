@@ -3,3 +3,5 @@ pub mod Positions
 pub mod Listings
 pub mod Fits
 pub mod NextLetters
+pub mod ReadRows
+pub mod LatticeWords

@@ -8,7 +8,7 @@ use Rattle.std.proofs.lemmas.List.{take_more, length-map}
 use Rattle.sym_model.specs.Sum.{Among}
 use Rattle.sym_model.specs.ExpressionOffence.{OffenceKind, is_wide, literal, range, shape, rank}
 use Rattle.sym_model.specs.CommandOffence.{Offence, Rule, first_offence, offences_by, offences_after, left_of, falls, stays, stands_in, entry_above, when, is_outside, greatest_letter}
-use Rattle.written_tableau_laws.specs.JudgedRows.{is_too_much, is_too_long, cell_rule, is_disordered, is_no_record}
+use Rattle.word_laws.specs.JudgedRows.{is_too_much, is_too_long, cell_rule, is_disordered, is_no_record}
 use Rattle.calc_words.specs.declared.offence.Kind.{Kind}
 use Rattle.calc_words.specs.declared.offence.Kind.TheVariants.{Literal, Shape}
 use Rattle.tableau_words.specs.FoundOffences.{kind_of, kind_by, left_at, is_disordered_at, is_no_record_at, gathered}

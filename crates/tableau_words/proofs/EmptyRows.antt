@@ -5,7 +5,7 @@ use Rattle.sym_model.specs.Sum.{Among, each}
 use Rattle.sym_model.specs.ExpressionOffence.{shape}
 use Rattle.sym_model.specs.CommandOffence.{Offence, PlacedRow, first_offence, empty_row_offences}
 use Rattle.sym_model.specs.WordForms.{numbers}
-use Rattle.written_tableau_laws.specs.WrittenRows.{row_text, rows_at}
+use Rattle.word_laws.specs.WrittenRows.{row_text, rows_at}
 use Rattle.calc_words.proofs.FirstOffences.{first-head, no_later_word}
 
 abbrev Words : Type 0

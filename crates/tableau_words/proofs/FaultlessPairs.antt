@@ -10,7 +10,7 @@ use Rattle.sym_model.specs.CommandOffence.{Offence, first_offence, offences_by, 
 use Rattle.sym_model.specs.Grammar.{insertion_offences, filled_offences}
 use Rattle.sym_model.specs.WordForms.{numbers}
 use Rattle.word_laws.proofs.FirstOffences.{empty-none}
-use Rattle.written_tableau_laws.specs.WrittenRows.{row_text, rows_at, left_at}
+use Rattle.word_laws.specs.WrittenRows.{row_text, rows_at, left_at}
 use Rattle.tableau_words.specs.WrittenPairs.{IsWrittenPair}
 use Rattle.tableau_words.proofs.EmptyRows.{empties}
 use Rattle.tableau_words.proofs.FaultlessRows.{faultless_letters, faultless_order, faultless_lengths}

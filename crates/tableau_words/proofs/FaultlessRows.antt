@@ -10,7 +10,7 @@ use Rattle.sym_model.specs.Tableau.{are_letters}
 use Rattle.sym_model.specs.ExpressionOffence.{shape, literal, range, is_wide}
 use Rattle.sym_model.specs.CommandOffence.{Offence, offences_by, offences_after, entry_rule, row_offences, order_offences, when, is_outside, greatest_letter, falls, stays, left_of, entry_above}
 use Rattle.sym_model.specs.WordForms.{numbers}
-use Rattle.written_tableau_laws.specs.WrittenRows.{row_text, rows_at, left_at, left_behind}
+use Rattle.word_laws.specs.WrittenRows.{row_text, rows_at, left_at, left_behind}
 use Rattle.calc_words.proofs.WrittenLists.{none_append, none_next, not_when, not_either, inside}
 
 abbrev Words : Type 0

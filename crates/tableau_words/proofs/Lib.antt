@@ -9,3 +9,5 @@ pub mod SkewJudging
 pub mod FaultlessRows
 pub mod SkewTableaux
 pub mod FaultlessPairs
+pub mod TabStanding
+pub mod TabJudging

@@ -14,11 +14,11 @@ use Rattle.sym_model.specs.Grammar.{insertion_offences, filled_offences, unrsk_e
 use Rattle.sym_model.specs.WordForms.{tableau_words, numbers, placed_rows, tableau_rows, shape_offences}
 use Rattle.sym_model.specs.Form.{words_of}
 use Rattle.word_laws.proofs.FirstOffences.{first-among, empty-none}
-use Rattle.written_tableau_laws.specs.WrittenRows.{row_text, further_text, rows_text, tableau_written, rows_at, left_at}
-use Rattle.written_tableau_laws.specs.JudgedRows.{earlier, inserted, recorded, cell_rule, is_disordered}
-use Rattle.written_tableau_laws.proofs.EarlierOffences.{first_of_both, tally_append, first_alike}
-use Rattle.written_tableau_laws.proofs.JudgedRows.{inserted_first, recorded_first}
-use Rattle.written_tableau_laws.proofs.LeftShapes.{left_shape}
+use Rattle.word_laws.specs.WrittenRows.{row_text, further_text, rows_text, tableau_written, rows_at, left_at}
+use Rattle.word_laws.specs.JudgedRows.{earlier, inserted, recorded, cell_rule, is_disordered}
+use Rattle.word_laws.proofs.EarlierOffences.{first_of_both, tally_append, first_alike}
+use Rattle.word_laws.proofs.JudgedRows.{inserted_first, recorded_first}
+use Rattle.word_laws.proofs.LeftShapes.{left_shape}
 use Rattle.calc_base.specs.declared.words.WordsFault.{WordsFault}
 use Rattle.tableau_words.specs.declared.found.Found.{Found}
 use Rattle.tableau_words.specs.FoundOffences.{offence_of, at_most_entry}

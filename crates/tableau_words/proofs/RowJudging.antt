@@ -10,8 +10,8 @@ use Rattle.sym_model.specs.ExpressionOffence.{shape}
 use Rattle.sym_model.specs.PrintedBlock.{decimal_value}
 use Rattle.sym_model.specs.CommandOffence.{Offence, Rule, first_offence, offences_by}
 use Rattle.sym_model.specs.WordForms.{numbers}
-use Rattle.written_tableau_laws.specs.WrittenRows.{row_text, further_text, rows_at, left_behind, left_at}
-use Rattle.written_tableau_laws.specs.JudgedRows.{cell_rule, is_disordered, is_no_record, inserted, recorded, skewed}
+use Rattle.word_laws.specs.WrittenRows.{row_text, further_text, rows_at, left_behind, left_at}
+use Rattle.word_laws.specs.JudgedRows.{cell_rule, is_disordered, is_no_record, inserted, recorded, skewed}
 use Rattle.tableau_words.specs.declared.found.Found.{Found}
 use Rattle.tableau_words.specs.FoundOffences.{offence_of, found_of, gathered}
 use Rattle.calc_words.proofs.FirstOffences.{within, first-append, none-append}

@@ -6,7 +6,7 @@ use Rattle.sym_model.specs.Polynomial.{same}
 use Rattle.sym_model.specs.Form.{Form, empty, sequence, EachOf, is_number_word, derivatives, awaits_next}
 use Rattle.sym_model.specs.WordForms.{the, partition_words, row_words, tableau_words}
 use Rattle.word_laws.specs.Reading.{is_expression}
-use Rattle.written_tableau_laws.specs.WrittenRows.{row_text, further_text, rows_text}
+use Rattle.word_laws.specs.WrittenRows.{row_text, further_text, rows_text}
 use Rattle.calc_words.specs.NumberRuns.{IsNumber, BeginsOtherwise}
 use Rattle.calc_words.specs.Standing.{GoesAs, WrongAt}
 use Rattle.tableau_words.specs.TableauWords.{RowEnds, IsRowFirst, further_rows, followed, Follows, WrongTableau, AreRowsFirst, AreRows, AreTwoTableaux}

@@ -14,10 +14,10 @@ use Rattle.sym_model.specs.CommandOffence.{Offence, PlacedRow, first_offence, of
 use Rattle.sym_model.specs.Grammar.{rect_entry, rect_offends, inner_offences}
 use Rattle.sym_model.specs.WordForms.{tableau_words, numbers, partition, placed_rows, shape_offences}
 use Rattle.word_laws.proofs.FirstOffences.{first-among, empty-none}
-use Rattle.written_tableau_laws.specs.WrittenRows.{rows_text, tableau_written, rows_at, left_at}
-use Rattle.written_tableau_laws.specs.JudgedRows.{earlier, skewed}
-use Rattle.written_tableau_laws.proofs.EarlierOffences.{first_of_both, tally_append, first_alike}
-use Rattle.written_tableau_laws.proofs.JudgedRows.{skewed_first}
+use Rattle.word_laws.specs.WrittenRows.{rows_text, tableau_written, rows_at, left_at}
+use Rattle.word_laws.specs.JudgedRows.{earlier, skewed}
+use Rattle.word_laws.proofs.EarlierOffences.{first_of_both, tally_append, first_alike}
+use Rattle.word_laws.proofs.JudgedRows.{skewed_first}
 use Rattle.calc_base.specs.declared.words.WordsFault.{WordsFault}
 use Rattle.calc_base.specs.declared.words.WordsFault.TheVariants.{Syntax, Literal, Range, Shape, NoMemory}
 use Rattle.tableau_words.specs.AskedLengths.{asked_lengths}

@@ -9,7 +9,7 @@ use Rattle.sym_model.specs.Form.{EachOf}
 use Rattle.sym_model.specs.CommandOffence.{first_offence, offences_by, offences_after, inside_rule, entry_rule, row_offences, order_offences, rows_in}
 use Rattle.sym_model.specs.WordForms.{numbers, shape_offences}
 use Rattle.word_laws.proofs.FirstOffences.{empty-none}
-use Rattle.written_tableau_laws.specs.WrittenRows.{rows_text, rows_at}
+use Rattle.word_laws.specs.WrittenRows.{rows_text, rows_at}
 use Rattle.tableau_words.specs.AskedLengths.{asked_lengths}
 use Rattle.calc_words.specs.NumberRuns.{IsNumber}
 use Rattle.tableau_words.specs.SkewWords.{skew_offences}

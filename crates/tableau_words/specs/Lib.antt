@@ -8,3 +8,4 @@ pub mod RefusedFirst
 pub mod AskedLengths
 pub mod SkewTotals
 pub mod WrittenPairs
+pub mod TabWords

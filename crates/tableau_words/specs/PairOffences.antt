@@ -4,7 +4,7 @@ use Rattle.sym_model.specs.Partition.{size}
 use Rattle.sym_model.specs.CommandOffence.{Offence, PlacedRow, judged_against, standard_offences, rows_in}
 use Rattle.sym_model.specs.Grammar.{insertion_offences, filled_offences}
 use Rattle.sym_model.specs.WordForms.{numbers, shape_offences}
-use Rattle.written_tableau_laws.specs.WrittenRows.{rows_text, rows_at}
+use Rattle.word_laws.specs.WrittenRows.{rows_text, rows_at}
 
 -- of the rows of the first and their entries, and of the words and the rows of the second, which begin at the word
 abbrev pub offences_of_pair : List PlacedRow → List (List ℕ) → ℕ → List (List ℕ) → List PlacedRow → List Offence

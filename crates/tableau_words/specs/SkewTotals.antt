@@ -4,7 +4,7 @@ use Rattle.sym_model.specs.Schur.{row_lengths}
 use Rattle.sym_model.specs.CommandOffence.{Offence, PlacedRow, part_offences, judged_against, row_offences, entry_rule, order_offences}
 use Rattle.sym_model.specs.Grammar.{inner_offences}
 use Rattle.sym_model.specs.WordForms.{numbers, partition, shape_offences}
-use Rattle.written_tableau_laws.specs.WrittenRows.{rows_text, rows_at}
+use Rattle.word_laws.specs.WrittenRows.{rows_text, rows_at}
 
 -- of the words of the shapes, and of the words and the rows of the tableau, which begin at the word
 abbrev pub offences_of_skew : List (List ℕ) → List (List ℕ) → ℕ → List (List ℕ) → List PlacedRow → List Offence

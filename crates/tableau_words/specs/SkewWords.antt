@@ -5,7 +5,7 @@ use Rattle.sym_model.specs.CommandOffence.{Offence, row_offences, entry_rule, or
 use Rattle.sym_model.specs.Form.{EachOf}
 use Rattle.sym_model.specs.Schur.{row_lengths}
 use Rattle.sym_model.specs.WordForms.{shape_offences}
-use Rattle.written_tableau_laws.specs.WrittenRows.{rows_text, rows_at}
+use Rattle.word_laws.specs.WrittenRows.{rows_text, rows_at}
 use Rattle.calc_words.specs.NumberRuns.{IsNumber}
 use Rattle.tableau_words.specs.declared.skew_tableaux.SkewRows.{SkewRows}
 

@@ -3,7 +3,7 @@ use Rattle.std.specs.Prelude.{◌≡◌, ℕ, ◌<◌, List, [], ◌∷◌, ◌+
 use Rattle.sym_model.specs.Form.{Form, sequence, many, EachOf, derivatives}
 use Rattle.sym_model.specs.WordForms.{the, row_words, tableau_words}
 use Rattle.word_laws.specs.Reading.{is_expression}
-use Rattle.written_tableau_laws.specs.WrittenRows.{row_text, rows_text}
+use Rattle.word_laws.specs.WrittenRows.{row_text, rows_text}
 use Rattle.calc_words.specs.NumberRuns.{IsNumber, BeginsOtherwise}
 use Rattle.calc_words.specs.Standing.{WrongAt}
 

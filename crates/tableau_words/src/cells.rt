@@ -4,7 +4,7 @@ ghost use Rattle.sym_model.specs.CommandOffence.{first_offence, offences_by, is_
 ghost use Rattle.sym_model.specs.ExpressionOffence.{is_wide};
 ghost use Rattle.sym_model.specs.PrintedBlock.{decimal_value};
 ghost use Rattle.sym_model.specs.WordForms.{numbers as numbers_of};
-ghost use Rattle.written_tableau_laws.specs.JudgedRows.{is_too_much, is_too_long, cell_rule, is_disordered, is_no_record};
+ghost use Rattle.word_laws.specs.JudgedRows.{is_too_much, is_too_long, cell_rule, is_disordered, is_no_record};
 ghost use Rattle.tableau_words.specs.FoundOffences.{found_of, kind_by, is_disordered_at, is_no_record_at, gathered, left_at};
 ghost use Rattle.calc_words.specs.PartRules.{range_or_shape};
 

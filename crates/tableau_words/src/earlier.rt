@@ -2,7 +2,7 @@
 ghost use Rattle.std.specs.Prelude.{◌≡◌, ℕ, Option, Err};
 ghost use Rattle.sym_model.specs.CommandOffence.{Offence, is_no_later};
 ghost use Rattle.sym_model.specs.ExpressionOffence.{rank as rank_of};
-ghost use Rattle.written_tableau_laws.specs.JudgedRows.{earlier as earlier_of_both};
+ghost use Rattle.word_laws.specs.JudgedRows.{earlier as earlier_of_both};
 ghost use Rattle.tableau_words.specs.FoundOffences.{kind_of, offence_of, found_of};
 
 use crate::found::Found;

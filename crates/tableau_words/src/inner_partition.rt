@@ -5,7 +5,7 @@ ghost use Rattle.sym_model.specs.Partition.{part};
 ghost use Rattle.sym_model.specs.Schur.{contains};
 ghost use Rattle.sym_model.specs.PrintedBlock.{decimal_value};
 ghost use Rattle.sym_model.specs.WordForms.{numbers as numbers_of, partition};
-ghost use Rattle.written_tableau_laws.specs.JudgedRows.{earlier as earlier_of_both};
+ghost use Rattle.word_laws.specs.JudgedRows.{earlier as earlier_of_both};
 ghost use Rattle.tableau_words.specs.FoundOffences.{found_of, kind_of, offence_of};
 ghost use Rattle.calc_words.specs.Reading.{IsJudged};
 ghost use Rattle.tableau_words.specs.RefusedFirst.{IsRefusalOf};

@@ -8,7 +8,7 @@ ghost use Rattle.sym_model.specs.Grammar.{unrsk_entry, filled_offences};
 ghost use Rattle.sym_model.specs.Partition.{size};
 ghost use Rattle.sym_model.specs.SyntaxPlace.{IsSyntaxPlace};
 ghost use Rattle.sym_model.specs.WordForms.{numbers as numbers_of};
-ghost use Rattle.written_tableau_laws.specs.WrittenRows.{further_text, rows_text, rows_at, left_at};
+ghost use Rattle.word_laws.specs.WrittenRows.{further_text, rows_text, rows_at, left_at};
 ghost use Rattle.tableau_words.specs.FoundOffences.{found_of, at_most_entry};
 ghost use Rattle.calc_words.specs.NumberRuns.{IsNumber};
 ghost use Rattle.tableau_words.specs.ReadTableaux.{AreFillings, word_of_pair, first_rows_of, second_rows_of};

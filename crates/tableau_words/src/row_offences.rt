@@ -5,8 +5,8 @@ ghost use Rattle.sym_model.specs.Partition.{part, size};
 ghost use Rattle.sym_model.specs.CommandOffence.{first_offence, empty_row_offences};
 ghost use Rattle.sym_model.specs.Grammar.{insertion_offences};
 ghost use Rattle.sym_model.specs.WordForms.{numbers as numbers_of};
-ghost use Rattle.written_tableau_laws.specs.WrittenRows.{row_text, further_text, rows_at, left_at};
-ghost use Rattle.written_tableau_laws.specs.JudgedRows.{inserted, recorded, skewed};
+ghost use Rattle.word_laws.specs.WrittenRows.{row_text, further_text, rows_at, left_at};
+ghost use Rattle.word_laws.specs.JudgedRows.{inserted, recorded, skewed};
 ghost use Rattle.tableau_words.specs.FoundOffences.{found_of};
 
 use crate::cells::{Bounds, Columns, ordered_offence, recorded_offence};

@@ -9,7 +9,7 @@ ghost use Rattle.sym_model.specs.Form.{EachOf};
 ghost use Rattle.sym_model.specs.Grammar.{rect_entry};
 ghost use Rattle.sym_model.specs.SyntaxPlace.{IsSyntaxPlace};
 ghost use Rattle.sym_model.specs.WordForms.{numbers as numbers_of, partition};
-ghost use Rattle.written_tableau_laws.specs.WrittenRows.{further_text};
+ghost use Rattle.word_laws.specs.WrittenRows.{further_text};
 ghost use Rattle.tableau_words.specs.AskedLengths.{asked_lengths};
 ghost use Rattle.tableau_words.specs.FoundOffences.{at_most_entry};
 ghost use Rattle.calc_words.specs.NumberRuns.{IsNumber};

@@ -13,3 +13,6 @@ pub mod Stands
 pub mod ShapedTableaux
 pub mod NumberLists
 pub mod TargetLetters
+pub mod EarlierOffences
+pub mod JudgedRows
+pub mod LeftShapes

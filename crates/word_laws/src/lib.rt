@@ -1,12 +1,15 @@
-//! Laws of the words of commands: where words go wrong, that they spell one command, which offence comes first, and
-//! worked examples.
+//! Laws of the words of commands: where words go wrong, that they spell one command, which offence comes first, what the words
+//! of a tableau are, and worked examples.
 //!
-//! A law function takes nothing, answers nothing and does no work when it runs: its contract is the law.
+//! A law function takes nothing, answers nothing and does no work when it runs: its contract is
+//! the law.
 #![tactic(auto)]
 
 mod batch_lines;
 mod commands;
 mod refused_words;
+mod rows_judged;
+mod shapes_left;
 mod tableau_shapes;
 
 pub use batch_lines::batch_lines_law;
@@ -14,4 +17,6 @@ pub use commands::{command_offence_law, one_command_law, syntax_place_law, words
 pub use refused_words::{
     refused_expressions_law, refused_lists_law, refused_tableaux_law, words_that_go_wrong_law,
 };
+pub use rows_judged::{earlier_offence_law, judged_rows_law};
+pub use shapes_left::left_shape_law;
 pub use tableau_shapes::tableau_shape_law;

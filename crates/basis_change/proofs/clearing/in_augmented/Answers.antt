@@ -3,7 +3,7 @@ use Rattle.std.specs.Map.Iter.{deref_pair}
 use Rattle.std.proofs.lemmas.List.{map-append}
 use Rattle.sym_model.specs.Expansion.{Fraction, Terms}
 use Rattle.sparse_polys.proofs.Steps.{all_done, error_is}
-use Rattle.monomial_products.proofs.Rows.{list_whole, list_among}
+use Rattle.sparse_polys.proofs.Rows.{list_whole, list_among}
 use Rattle.basis_change.specs.declared.mixed.MixedLabel.{MixedLabel}
 use Rattle.basis_change.specs.Mixed.{Mixed, mixed, Added, Overflows}
 use Rattle.basis_change.specs.Clearing.{cleared_number, cleared_terms}

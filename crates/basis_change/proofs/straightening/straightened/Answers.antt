@@ -5,7 +5,7 @@ use Rattle.sym_model.specs.Sum.{each}
 use Rattle.sym_model.specs.Partition.{size}
 use Rattle.sym_model.specs.Expansion.{Fraction, Terms}
 use Rattle.sparse_polys.proofs.Steps.{error_is}
-use Rattle.monomial_products.proofs.Rows.{list_whole, list_among}
+use Rattle.sparse_polys.proofs.Rows.{list_whole, list_among}
 use Rattle.basis_change.specs.Mixed.{Mixed, Added}
 use Rattle.basis_change.specs.Clearing.{scaled}
 use Rattle.basis_change.specs.Arranging.{straight_terms, OverflowsSomewhere}

@@ -7,7 +7,7 @@ use Rattle.sym_model.specs.LabelLimits.{is_label}
 use Rattle.sym_model.specs.WholeTerms.{numerators}
 use Rattle.sparse_polys.specs.Combination.{terms_of, HasMoreAt}
 use Rattle.sparse_polys.proofs.Steps.{all_done, error_is, IsCombination-empty}
-use Rattle.monomial_products.proofs.Rows.{list_whole}
+use Rattle.sparse_polys.proofs.Rows.{list_whole}
 use Rattle.basis_expand.specs.Tables.{equal, found, IsTable}
 use Rattle.basis_expand.proofs.Quotients.{Quotients, Quotients-none, Quotients-next, coefficient-before, not_refused_quotient, numerators-whole}
 use Rattle.basis_expand.proofs.division.divided.Goals as goal

@@ -4,7 +4,7 @@ use Rattle.sym_model.specs.PartitionList.{partitions_of}
 use Rattle.sym_model.specs.Polynomial.{Same}
 use Rattle.sym_model.specs.WholeTerms.{numerators}
 use Rattle.sparse_polys.proofs.Steps.{error_is, all_done}
-use Rattle.schur_expansion_laws.specs.Kostka.{kostka}
+use Rattle.schur_laws.specs.Kostka.{kostka}
 use Rattle.basis_expand.proofs.WholeLists.{Finds, Finds-next, more_as, Same-from_look_ups}
 use Rattle.basis_expand.proofs.PartitionTerms.{listed_on, IsWithinLimits-listed, listed_next}
 use Rattle.basis_expand.proofs.SchurTerms.{numbered, numbered-push, refused_number, list-numbered}

@@ -7,8 +7,8 @@ use Rattle.sym_model.specs.Polynomial.{Same}
 use Rattle.sym_model.specs.WholeTerms.{WholeTerms, numerators}
 use Rattle.sparse_polys.specs.Combination.{terms_of}
 use Rattle.sparse_polys.proofs.Steps.{error_is}
-use Rattle.monomial_products.proofs.Rows.{list_whole}
-use Rattle.schur_expansion_laws.specs.Kostka.{strips_off}
+use Rattle.sparse_polys.proofs.Rows.{list_whole}
+use Rattle.schur_laws.specs.Kostka.{strips_off}
 use Rattle.basis_expand.specs.Strips.{strip_terms}
 use Rattle.basis_expand.proofs.StripTerms.{entries, natural-at, natural-strips, natural-table, partitions-strips, strips-step, large-strips}
 use Rattle.basis_expand.proofs.schur.stripped.Goals as goal

@@ -1,6 +1,6 @@
 use Rattle.std.proofs.Common.{◌≡◌, length}
 use Rattle.sym_model.specs.Sum.{each}
-use Rattle.schur_expansion_laws.specs.Kostka.{below}
+use Rattle.schur_laws.specs.Kostka.{below}
 use Rattle.basis_expand.proofs.StripLists.{with_cells}
 use Rattle.basis_expand.proofs.strips.+strips_off.Given as goal
 

@@ -2,9 +2,9 @@ use Rattle.std.proofs.Common.{◌≡◌, Bool, true, false, ◌++◌, refl, sym,
 use Rattle.batch_lines.specs.Reading.{Reading}
 use Rattle.batch_lines.specs.declared.next.LineFault.{LineFault}
 use Rattle.calc_base.specs.Puts.{Puts}
-use Rattle.batch_ends.specs.declared.progress.Progress.{Progress}
+use Rattle.batch_lines.specs.declared.progress.Progress.{Progress}
 use Rattle.calc_app.specs.declared.batch.Turn.{Turn}
-use Rattle.batch_ends.specs.Ends.{separator}
+use Rattle.batch_lines.specs.Ends.{separator}
 use Rattle.calc_app.specs.Batch.{TakesTurn, CutsTurn, CountsTurn}
 use Rattle.calc_replies.specs.Computed.{text_of}
 use Rattle.calc_app.proofs.LinesRead.{fewer_left}

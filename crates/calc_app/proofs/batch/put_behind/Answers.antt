@@ -1,7 +1,7 @@
 use Rattle.std.proofs.Common.{◌≡◌, Bool, true, rules, tests, subst}
 use Rattle.calc_base.proofs.PutsLaws.{Puts-then}
 use Rattle.calc_base.specs.Puts.{Puts}
-use Rattle.batch_ends.specs.Ends.{separator}
+use Rattle.batch_lines.specs.Ends.{separator}
 use Rattle.calc_app.proofs.batch.put_behind.Goals as goal
 
 pub returns-clause-goes : goal.returns-clause-goes

@@ -4,8 +4,8 @@ use Rattle.sym_model.specs.Partition.{cells}
 use Rattle.sym_model.specs.Schur.{row_lengths}
 use Rattle.strip_laws.proofs.Containment.{contains-tells}
 use Rattle.skew_shapes.specs.CellFillings.{filled_with, is_tableau}
-use Rattle.lattice_tableaux.proofs.EntryLimits.{filling_back}
-use Rattle.lattice_tableaux.proofs.Tests.{reading_count}
+use Rattle.tableau_iter.proofs.EntryLimits.{filling_back}
+use Rattle.tableau_iter.proofs.Tests.{reading_count}
 use Rattle.calc_language.proofs.ReadTableaux.{is_tableau_back}
 use Rattle.calc_language.proofs.tableaux.tableau_of.Goals as goal
 

@@ -2,7 +2,7 @@ use Rattle.std.proofs.Common.{subst, List, ℕ}
 use Rattle.std.specs.Prelude.{nat_eq}
 use Rattle.std.specs.Cmp.Lexicographic.{pointwise}
 use Rattle.sparse_polys.specs.Combination.{HasMoreAt}
-use Rattle.monomial_products.proofs.StepWays.{on_ok}
+use Rattle.sparse_polys.proofs.StepWays.{on_ok}
 use Rattle.direct_schurs.proofs.Tables.{Adds-term}
 use Rattle.direct_schurs.proofs.products.add_multiple.Goals as goal
 

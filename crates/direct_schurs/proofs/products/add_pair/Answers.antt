@@ -10,7 +10,7 @@ use Rattle.sym_model.specs.WholeTerms.{WholeTerms, AreWhole, numerators}
 use Rattle.sparse_polys.specs.Combination.{terms_of}
 use Rattle.basis_expand.proofs.Quotients.{numerators-whole}
 use Rattle.basis_expand.proofs.WholeLists.{AreWhole-terms_of}
-use Rattle.monomial_products.proofs.StepWays.{on_ok}
+use Rattle.sparse_polys.proofs.StepWays.{on_ok}
 use Rattle.direct_schurs.specs.SchurLists.{product_at}
 use Rattle.direct_schurs.proofs.ListProducts.{counted, listed_next, listed_product, nothing_left, nothing_right}
 use Rattle.direct_schurs.proofs.Tables.{Adds-none, Adds-term, Adds-then, Adds-same}

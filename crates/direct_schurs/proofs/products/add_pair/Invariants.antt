@@ -4,7 +4,7 @@ use Rattle.std.specs.Vec.Iter.{into_iter_items}
 use Rattle.coeff_rings.specs.Fractions.{scaled}
 use Rattle.sym_model.specs.Polynomial.{pair}
 use Rattle.sym_model.specs.Schur.{schur}
-use Rattle.monomial_products.specs.Products.{AreCleared}
+use Rattle.sparse_polys.specs.MonomialProducts.{AreCleared}
 use Rattle.direct_schurs.specs.SchurLists.{Adds}
 use Rattle.direct_schurs.proofs.products.add_pair.Given as goal
 

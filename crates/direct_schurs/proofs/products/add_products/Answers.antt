@@ -7,7 +7,7 @@ use Rattle.coeff_rings.specs.Fractions.{scaled}
 use Rattle.coeff_rings.specs.Proved.Cleared.{product-cleared}
 use Rattle.sparse_polys.specs.Combination.{terms_of}
 use Rattle.sparse_polys.proofs.Steps.{all_done}
-use Rattle.monomial_products.proofs.Rows.{list_whole, list_among}
+use Rattle.sparse_polys.proofs.Rows.{list_whole, list_among}
 use Rattle.direct_schurs.specs.SchurLists.{Adds, row_at, product_at}
 use Rattle.direct_schurs.proofs.ListProducts.{row_next, terms_next}
 use Rattle.direct_schurs.proofs.Tables.{Adds-none, Adds-then}

@@ -4,7 +4,7 @@ use Rattle.std.specs.Map.Iter.{deref_pair}
 use Rattle.coeff_rings.specs.Fractions.{scaled}
 use Rattle.sym_model.specs.Expansion.{Fraction}
 use Rattle.sparse_polys.specs.Combination.{terms_of}
-use Rattle.monomial_products.specs.Products.{AreCleared, IsCommonDenominator}
+use Rattle.sparse_polys.specs.MonomialProducts.{AreCleared, IsCommonDenominator}
 use Rattle.direct_schurs.specs.SchurLists.{Adds, row_at}
 use Rattle.direct_schurs.proofs.products.add_products.Given as goal
 

@@ -4,9 +4,9 @@ use Rattle.std.proofs.lemmas.List.{map-append}
 use Rattle.sym_model.specs.Expansion.{Terms, Fraction, denominators}
 use Rattle.sparse_polys.specs.Combination.{terms_of}
 use Rattle.sparse_polys.proofs.Steps.{all_done}
-use Rattle.monomial_products.proofs.Accumulating.{AreCleared-nothing}
-use Rattle.monomial_products.proofs.Expansions.{common-denominators}
-use Rattle.monomial_products.proofs.Rows.{list_whole, list_among}
+use Rattle.sparse_polys.proofs.Accumulating.{AreCleared-nothing}
+use Rattle.sparse_polys.proofs.Expansions.{common-denominators}
+use Rattle.sparse_polys.proofs.Rows.{list_whole, list_among}
 use Rattle.coeff_rings.specs.Fractions.{scaled}
 use Rattle.direct_schurs.specs.SchurLists.{Adds, row_at, products_at}
 use Rattle.direct_schurs.proofs.ListProducts.{products_next, terms_next, product-list}

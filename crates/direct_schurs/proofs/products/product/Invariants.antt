@@ -2,7 +2,7 @@ use Rattle.std.proofs.Common.{◌≡◌, ℕ, ◌*◌, ◌++◌, [], map}
 use Rattle.std.specs.Map.Iter.{deref_pair}
 use Rattle.sym_model.specs.Expansion.{Fraction}
 use Rattle.sparse_polys.specs.Combination.{terms_of}
-use Rattle.monomial_products.specs.Products.{IsCommonDenominator}
+use Rattle.sparse_polys.specs.MonomialProducts.{IsCommonDenominator}
 use Rattle.direct_schurs.specs.SchurLists.{Adds, products_at}
 use Rattle.direct_schurs.proofs.products.product.Given as goal
 

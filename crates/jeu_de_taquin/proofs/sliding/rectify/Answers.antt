@@ -2,7 +2,7 @@ use Rattle.std.proofs.Common.{◌<◌, ap, sym, subst, ◌∙◌, ℕ, List, ari
 use Rattle.sym_model.specs.Partition.{size}
 use Rattle.sym_model.specs.Slide.{IsReached, slide}
 use Rattle.sym_model.specs.Tableau.{SkewFilling}
-use Rattle.slide_laws.proofs.SlideKeeps.{slide-smaller}
+use Rattle.insertion_laws.proofs.SlideKeeps.{slide-smaller}
 use Rattle.jeu_de_taquin.proofs.WholeSlides.{last_corner_at, reached-next}
 use Rattle.jeu_de_taquin.proofs.sliding.rectify.Goals as goal
 

@@ -1,6 +1,6 @@
 use Rattle.std.proofs.Common.{◌≡◌, ℕ, ◌+◌, ◌≤◌, List, [], ◌∷◌, ◌++◌, append_assoc, map, length, length-append, sym, ap, ◌∙◌, subst, arith}
 use Rattle.sym_model.specs.Partition.{Falls, size, without_last_zeros}
-use Rattle.coproduct_laws.specs.InnerShapes.{shapes_inside}
+use Rattle.schur_laws.specs.InnerShapes.{shapes_inside}
 use Rattle.lr_coproduct.proofs.InnerLists.{limits_front, falls_next, size_append, listed_from, listed_next, below_it}
 use Rattle.lr_coproduct.proofs.inner_shapes.+add_shapes.Goals as goal
 

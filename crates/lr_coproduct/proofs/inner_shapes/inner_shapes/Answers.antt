@@ -1,6 +1,6 @@
 use Rattle.std.proofs.Common.{◌≡◌, ℕ, List, ◌++◌, map, ap, ap₂, ◌∙◌}
 use Rattle.sym_model.specs.Partition.{without_last_zeros}
-use Rattle.coproduct_laws.specs.InnerShapes.{shapes_inside}
+use Rattle.schur_laws.specs.InnerShapes.{shapes_inside}
 use Rattle.lr_coproduct.proofs.InnerLists.{partitions_inside}
 use Rattle.lr_coproduct.proofs.SortedShapes.{sorted_shapes}
 use Rattle.lr_coproduct.proofs.inner_shapes.inner_shapes.Goals as goal

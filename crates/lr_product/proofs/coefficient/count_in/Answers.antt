@@ -1,5 +1,5 @@
 use Rattle.std.proofs.Common.{◌∙◌, ap, arith, pos}
-use Rattle.duality_laws.proofs.ProductCounts.{product_exchanged}
+use Rattle.schur_laws.proofs.ProductCounts.{product_exchanged}
 use Rattle.lr_product.proofs.Results.{if_answered, on_answered}
 use Rattle.lr_product.proofs.coefficient.count_in.Goals as goal
 

@@ -3,7 +3,7 @@ use Rattle.sym_model.specs.Partition.{rows}
 use Rattle.sym_model.specs.GoodTableau.{product_count}
 use Rattle.alternant_laws.specs.GoodSums.{ListsCounts}
 use Rattle.lr_product.specs.Counts.{good_count, IsPastSomewhere}
-use Rattle.duality_laws.proofs.ProductCounts.{product_count-none}
+use Rattle.schur_laws.proofs.ProductCounts.{product_count-none}
 use Rattle.lr_product.proofs.GoodCounts.{none_counted, same_product, lists_in, fits_in, past_in}
 use Rattle.lr_product.proofs.Results.{if_answered, on_answered, on_any}
 use Rattle.lr_product.proofs.product.counts_in.Goals as goal

@@ -1,8 +1,8 @@
 use Rattle.std.proofs.Common.{ℕ, List, length, sym, ap, ◌∙◌, subst, arith}
 use Rattle.std.specs.Prelude.{IfOk, Result, Ok, Err}
 use Rattle.sym_model.specs.Partition.{without_last_zeros}
-use Rattle.monomial_polys.specs.Limits.{IsWithinLimits}
-use Rattle.monomial_polys.specs.Raised.{raised}
+use Rattle.sparse_polys.specs.Limits.{IsWithinLimits}
+use Rattle.sparse_polys.specs.Raised.{raised}
 use Rattle.monk_product.proofs.Dividing.{last_positive, divided, limits_lowered, entry_read, list_written}
 use Rattle.monk_product.proofs.product.divided_by_last.Goals as goal
 

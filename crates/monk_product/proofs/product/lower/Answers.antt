@@ -2,8 +2,8 @@ use Rattle.std.proofs.Common.{◌≡◌, ℕ, ◌+◌, ◌-◌, ◌*◌, ◌^◌
 use Rattle.std.proofs.lemmas.Int.{ints}
 use Rattle.sym_model.specs.Partition.{size}
 use Rattle.sym_model.specs.Expansion.{Terms}
-use Rattle.monomial_polys.specs.Raised.{raised}
-use Rattle.monomial_polys.proofs.Raising.{size-raised, length-raised}
+use Rattle.sparse_polys.specs.Raised.{raised}
+use Rattle.sparse_polys.proofs.Raising.{size-raised, length-raised}
 use Rattle.schubert_transition.specs.TermLists.{over}
 use Rattle.schubert_transition.specs.Transitions.{acted}
 use Rattle.schubert_transition.proofs.TodoLists.{among_at}

@@ -1,6 +1,6 @@
 use Rattle.std.proofs.Common.{sym, ◌∙◌, ap, subst, arith, to_z, of_z, w8, map}
 use Rattle.sym_model.specs.BetaList.{has_equal_entries}
-use Rattle.reduction_laws.specs.AlcoveEnd.{remainders, up}
+use Rattle.beta_list_laws.specs.AlcoveEnd.{remainders, up}
 use Rattle.rim_hooks.specs.Sorting.{Sorts}
 use Rattle.rim_hooks.proofs.CoreFacts.{kept_sign}
 use Rattle.rim_hooks.proofs.AlcoveFacts.{entries_few, alcove_equal, holds_window, window_small, alcove_few, alcove_limits, alcove_some, alcove_told}

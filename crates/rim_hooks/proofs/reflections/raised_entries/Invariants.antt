@@ -1,5 +1,5 @@
 use Rattle.std.proofs.Common.{map, drop}
-use Rattle.reduction_laws.specs.AlcoveEnd.{up}
+use Rattle.beta_list_laws.specs.AlcoveEnd.{up}
 use Rattle.rim_hooks.specs.Sorting.{Sorts}
 use Rattle.rim_hooks.proofs.reflections.raised_entries.Given as goal
 

@@ -3,7 +3,7 @@ use Rattle.sym_model.specs.PlaceOrders.{inversions}
 use Rattle.schubert_transition.specs.TermLists.{over, AreTerms}
 use Rattle.schubert_transition.specs.Transitions.{acted}
 use Rattle.schubert_transition.specs.Todo.{value_of}
-use Rattle.monomial_polys.specs.Raised.{raised}
+use Rattle.sparse_polys.specs.Raised.{raised}
 use Rattle.schubert_transition.proofs.TodoLists.{among_at, load_set}
 use Rattle.schubert_transition.proofs.WaitingSums.{on_ok, entry, set_value, set_waiting, set_large, large_as}
 use Rattle.schubert_transition.proofs.expand.add_waiting_times_var.Goals as goal

@@ -7,7 +7,7 @@ use Rattle.sym_model.specs.Permutation.{IsTransition, times_swap, covers_down}
 use Rattle.sym_model.specs.Expansion.{Terms}
 use Rattle.schubert_laws.proofs.LowerPermutations.{transition_lowers, transition_covers_lower}
 use Rattle.sparse_polys.proofs.Steps.{error_is}
-use Rattle.monomial_polys.specs.Raised.{raised}
+use Rattle.sparse_polys.specs.Raised.{raised}
 use Rattle.schubert_transition.specs.TermLists.{over, AreTerms}
 use Rattle.schubert_transition.specs.Transitions.{IsShort, acted, rank, weight}
 use Rattle.schubert_transition.specs.Todo.{value_of}

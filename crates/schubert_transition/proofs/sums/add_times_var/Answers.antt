@@ -9,8 +9,8 @@ use Rattle.sym_model.specs.LabelLimits.{is_monomial_label}
 use Rattle.sparse_polys.specs.Combination.{coefficient, HasMoreAt}
 use Rattle.sparse_polys.specs.Refusal.{IsRefused}
 use Rattle.sparse_polys.proofs.Steps.{error_is}
-use Rattle.monomial_polys.specs.Raised.{raised}
-use Rattle.monomial_polys.proofs.Raising.{length-raised, size-raised}
+use Rattle.sparse_polys.specs.Raised.{raised}
+use Rattle.sparse_polys.proofs.Raising.{length-raised, size-raised}
 use Rattle.schubert_transition.specs.TermLists.{equal, over}
 use Rattle.schubert_transition.proofs.TermSums.{over_more, terms_more, refused_more}
 use Rattle.schubert_transition.proofs.SumSteps.{terms, whole_list, here_among, so_far_next, sum_next, large_next}

@@ -2,7 +2,7 @@ use Rattle.std.proofs.Common.{◌≡◌, ℕ, ◌+◌, ◌≤◌, List, ◌++◌
 use Rattle.std.specs.Map.Iter.{deref_pair}
 use Rattle.coeff_rings.specs.Fractions.{whole}
 use Rattle.sparse_polys.specs.Combination.{terms_of}
-use Rattle.monomial_polys.specs.Raised.{raised}
+use Rattle.sparse_polys.specs.Raised.{raised}
 use Rattle.schubert_transition.specs.TermLists.{over, AreTerms}
 use Rattle.schubert_transition.proofs.sums.add_times_var.Given as goal
 

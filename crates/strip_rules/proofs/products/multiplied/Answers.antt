@@ -6,9 +6,9 @@ use Rattle.sym_model.specs.Expansion.{Terms, denominators}
 use Rattle.sym_model.specs.ListWeight.{common_denominator}
 use Rattle.sparse_polys.specs.Combination.{terms_of}
 use Rattle.sparse_polys.proofs.Steps.{all_done, error_is}
-use Rattle.monomial_polys.proofs.ListSteps.{list_whole, list_among, so_far_next}
-use Rattle.monomial_products.specs.Products.{greatest_size}
-use Rattle.monomial_products.proofs.Expansions.{common-denominators, least-denominators, divides_terms}
+use Rattle.sparse_polys.proofs.ListSteps.{list_whole, list_among, so_far_next}
+use Rattle.sparse_polys.specs.MonomialProducts.{greatest_size}
+use Rattle.sparse_polys.proofs.Expansions.{common-denominators, least-denominators, divides_terms}
 use Rattle.strip_rules.specs.Factors.{polynomial_of}
 use Rattle.strip_rules.specs.Room.{AreWithin}
 use Rattle.strip_rules.proofs.TermProducts.{list_value, expansion}

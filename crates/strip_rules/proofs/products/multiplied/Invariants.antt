@@ -1,7 +1,7 @@
 use Rattle.std.proofs.Common.{◌≡◌, ℕ, ◌+◌, ◌++◌, map}
 use Rattle.std.specs.Map.Iter.{deref_pair}
 use Rattle.sparse_polys.specs.Combination.{terms_of}
-use Rattle.monomial_products.specs.Products.{greatest_size, IsCommonDenominator}
+use Rattle.sparse_polys.specs.MonomialProducts.{greatest_size, IsCommonDenominator}
 use Rattle.strip_rules.specs.Factors.{polynomial_of}
 use Rattle.strip_rules.specs.Room.{AreWithin}
 use Rattle.strip_rules.proofs.ListProducts.{AddsList}

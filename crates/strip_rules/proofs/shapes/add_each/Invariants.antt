@@ -1,6 +1,6 @@
 use Rattle.std.proofs.Common.{◌≡◌, ℕ, List, ◌++◌, length, pos}
 use Rattle.coeff_rings.specs.Fractions.{scaled}
-use Rattle.monomial_products.specs.Products.{AreCleared}
+use Rattle.sparse_polys.specs.MonomialProducts.{AreCleared}
 use Rattle.strip_rules.specs.Room.{AreWithin}
 use Rattle.strip_rules.specs.Adding.{IsDenominator, AreSmall, AddsShapes}
 use Rattle.strip_rules.proofs.shapes.add_each.Given as goal

@@ -9,7 +9,7 @@ use Rattle.coeff_rings.specs.Proved.Cleared.{unsigned_abs-scaled}
 use Rattle.sparse_polys.specs.Combination.{HasMoreAt}
 use Rattle.sparse_polys.specs.Refusal.{IsRefused}
 use Rattle.sparse_polys.proofs.Steps.{error_is, all_done}
-use Rattle.monomial_products.specs.Products.{coefficient_at}
+use Rattle.sparse_polys.specs.MonomialProducts.{coefficient_at}
 use Rattle.strip_rules.specs.Adding.{AddsShapes, AreSmall, Overflows}
 use Rattle.strip_rules.proofs.ShapeSums.{AddsShapes-none, AddsShapes-next, size-signed, refused_next, AreWithin-next, fresh_next, among_next, next_on, so_far_on, before_next}
 use Rattle.strip_rules.proofs.Signs.{sign_size, height_here}

@@ -2,7 +2,7 @@ use Rattle.std.proofs.Common.{◌≡◌, ℕ, List, ◌++◌, ◌-◌, length}
 use Rattle.sym_model.specs.PlaceOrders.{minus_one_to}
 use Rattle.sym_model.specs.Strip.{height}
 use Rattle.coeff_rings.specs.Fractions.{scaled}
-use Rattle.monomial_products.specs.Products.{AreCleared}
+use Rattle.sparse_polys.specs.MonomialProducts.{AreCleared}
 use Rattle.strip_rules.specs.Room.{AreWithin}
 use Rattle.strip_rules.specs.Adding.{IsDenominator, AreSmall, AddsShapes}
 use Rattle.strip_rules.proofs.shapes.add_each_hook.Given as goal

@@ -5,7 +5,7 @@ use Rattle.sym_model.specs.Strip.{height}
 use Rattle.sym_model.specs.Sum.{total}
 use Rattle.sym_model.specs.Polynomial.{pair}
 use Rattle.sym_model.specs.Schur.{schur}
-use Rattle.monomial_polys.proofs.ClearedSums.{on_ok}
+use Rattle.sparse_polys.proofs.ClearedSums.{on_ok}
 use Rattle.strip_rules.proofs.ShapeLists.{hook_list, hook_around, height_positive, shape_limits, shapes_small}
 use Rattle.strip_rules.proofs.TermProducts.{hooks_value, hook_count, AddsProduct-from}
 use Rattle.strip_rules.proofs.shapes.add_rim_hooks.Goals as goal

@@ -1,7 +1,7 @@
 use Rattle.std.proofs.Common.{pos}
 use Rattle.sym_model.specs.Bases.{elementary_of}
-use Rattle.monomial_polys.proofs.ClearedSums.{on_ok}
-use Rattle.strip_product_laws.proofs.StripCounts.{vertical_count}
+use Rattle.sparse_polys.proofs.ClearedSums.{on_ok}
+use Rattle.product_laws.proofs.StripCounts.{vertical_count}
 use Rattle.strip_rules.proofs.ShapeLists.{vertical_list, vertical_around, shape_limits, shapes_small}
 use Rattle.strip_rules.proofs.TermProducts.{columns_value, AddsProduct-from}
 use Rattle.strip_rules.proofs.shapes.add_vertical.Goals as goal

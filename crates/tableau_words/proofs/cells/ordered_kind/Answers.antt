@@ -3,7 +3,7 @@ use Rattle.std.specs.Prelude.{string_bytes}
 use Rattle.sym_model.specs.PrintedBlock.{decimal_value}
 use Rattle.sym_model.specs.WordForms.{numbers}
 use Rattle.sym_model.specs.CommandOffence.{is_outside, greatest_letter}
-use Rattle.written_tableau_laws.specs.JudgedRows.{is_too_much, is_too_long}
+use Rattle.word_laws.specs.JudgedRows.{is_too_much, is_too_long}
 use Rattle.calc_words.specs.NumberRuns.{narrow}
 use Rattle.tableau_words.specs.FoundOffences.{is_disordered_at}
 use Rattle.calc_words.specs.declared.offence.Kind.TheVariants.{Shape}

@@ -2,7 +2,7 @@ use Rattle.std.proofs.Common.{◌≡◌, map}
 use Rattle.std.specs.Prelude.{string_bytes}
 use Rattle.sym_model.specs.CommandOffence.{first_offence, offences_by}
 use Rattle.sym_model.specs.WordForms.{numbers}
-use Rattle.written_tableau_laws.specs.JudgedRows.{cell_rule, is_disordered}
+use Rattle.word_laws.specs.JudgedRows.{cell_rule, is_disordered}
 use Rattle.tableau_words.proofs.CellJudging.{from_place}
 use Rattle.tableau_words.proofs.cells.ordered_offence.Given as goal
 

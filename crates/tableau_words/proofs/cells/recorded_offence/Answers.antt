@@ -4,7 +4,7 @@ use Rattle.sym_model.specs.ExpressionOffence.{is_wide}
 use Rattle.sym_model.specs.PrintedBlock.{decimal_value}
 use Rattle.sym_model.specs.WordForms.{numbers}
 use Rattle.sym_model.specs.CommandOffence.{is_outside, greatest_letter}
-use Rattle.written_tableau_laws.specs.JudgedRows.{is_too_much, is_no_record}
+use Rattle.word_laws.specs.JudgedRows.{is_too_much, is_no_record}
 use Rattle.tableau_words.specs.FoundOffences.{kind_by, gathered}
 use Rattle.calc_words.proofs.Judging.{counted}
 use Rattle.tableau_words.proofs.CellJudging.{next_place, no_record_there}

@@ -2,8 +2,8 @@ use Rattle.std.proofs.Common.{◌≡◌, ◌++◌, true, ℕ, List, map, sym, ap
 use Rattle.std.specs.Prelude.{string_bytes}
 use Rattle.sym_model.specs.CommandOffence.{first_offence, offences_by, inside_rule, part_offences}
 use Rattle.sym_model.specs.WordForms.{numbers, partition}
-use Rattle.written_tableau_laws.specs.JudgedRows.{earlier}
-use Rattle.written_tableau_laws.proofs.EarlierOffences.{first_of_both}
+use Rattle.word_laws.specs.JudgedRows.{earlier}
+use Rattle.word_laws.proofs.EarlierOffences.{first_of_both}
 use Rattle.tableau_words.specs.FoundOffences.{found_of}
 use Rattle.tableau_words.specs.RefusedFirst.{IsRefusalOf}
 use Rattle.tableau_words.proofs.InsideJudging.{refusal_judged, judged_refusal}

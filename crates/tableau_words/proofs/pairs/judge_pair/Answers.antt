@@ -4,7 +4,7 @@ use Rattle.std.proofs.lemmas.List.{length-map}
 use Rattle.sym_model.specs.CommandOffence.{rows_in, first_offence, standard_offences}
 use Rattle.sym_model.specs.WordForms.{numbers}
 use Rattle.sym_model.specs.Partition.{size}
-use Rattle.written_tableau_laws.specs.WrittenRows.{rows_at, left_at}
+use Rattle.word_laws.specs.WrittenRows.{rows_at, left_at}
 use Rattle.tableau_words.specs.FoundOffences.{found_of, offence_of}
 use Rattle.tableau_words.specs.PairOffences.{pair_offences}
 use Rattle.tableau_words.specs.ReadTableaux.{AreFillings, second_rows_of}

@@ -2,8 +2,8 @@ use Rattle.std.proofs.Common.{map, sym, ap, ◌∙◌, []}
 use Rattle.std.specs.Prelude.{string_bytes}
 use Rattle.sym_model.specs.Partition.{size}
 use Rattle.sym_model.specs.CommandOffence.{first_offence}
-use Rattle.written_tableau_laws.specs.WrittenRows.{rows_at, left_at}
-use Rattle.written_tableau_laws.specs.JudgedRows.{earlier, recorded}
+use Rattle.word_laws.specs.WrittenRows.{rows_at, left_at}
+use Rattle.word_laws.specs.JudgedRows.{earlier, recorded}
 use Rattle.tableau_words.specs.FoundOffences.{found_of}
 use Rattle.tableau_words.proofs.PairJudging.{recording_first}
 use Rattle.tableau_words.proofs.pairs.recording_offence.Goals as goal

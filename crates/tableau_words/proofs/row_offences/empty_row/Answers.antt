@@ -2,7 +2,7 @@ use Rattle.std.proofs.Common.{◌≡◌, ◌+◌, map, length, drop, [], ◌∷�
 use Rattle.std.specs.Prelude.{string_bytes}
 use Rattle.std.proofs.lemmas.List.{length-map}
 use Rattle.sym_model.specs.CommandOffence.{first_offence}
-use Rattle.written_tableau_laws.specs.WrittenRows.{row_text, rows_at}
+use Rattle.word_laws.specs.WrittenRows.{row_text, rows_at}
 use Rattle.tableau_words.proofs.RowJudging.{rows_next, room_next}
 use Rattle.tableau_words.proofs.EmptyRows.{empties, two_rows, one_row, empty_first, empty_later}
 use Rattle.calc_words.proofs.LastStanding.{no_more, some_more}

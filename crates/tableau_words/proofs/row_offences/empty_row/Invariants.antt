@@ -1,7 +1,7 @@
 use Rattle.std.proofs.Common.{◌≡◌, ◌+◌, ◌<◌, ◌^◌, map, length, drop}
 use Rattle.std.specs.Prelude.{string_bytes}
 use Rattle.sym_model.specs.CommandOffence.{first_offence, empty_row_offences}
-use Rattle.written_tableau_laws.specs.WrittenRows.{further_text, rows_at}
+use Rattle.word_laws.specs.WrittenRows.{further_text, rows_at}
 use Rattle.tableau_words.proofs.EmptyRows.{empties}
 use Rattle.tableau_words.proofs.row_offences.empty_row.Given as goal
 

@@ -1,10 +1,10 @@
 use Rattle.std.proofs.Common.{map, sym, ap, ◌∙◌, [], None}
 use Rattle.std.specs.Prelude.{string_bytes}
 use Rattle.sym_model.specs.CommandOffence.{first_offence, empty_row_offences}
-use Rattle.written_tableau_laws.specs.WrittenRows.{rows_at}
-use Rattle.written_tableau_laws.specs.JudgedRows.{inserted, earlier}
-use Rattle.written_tableau_laws.proofs.EarlierOffences.{first_of_both}
-use Rattle.written_tableau_laws.proofs.JudgedRows.{inserted_first}
+use Rattle.word_laws.specs.WrittenRows.{rows_at}
+use Rattle.word_laws.specs.JudgedRows.{inserted, earlier}
+use Rattle.word_laws.proofs.EarlierOffences.{first_of_both}
+use Rattle.word_laws.proofs.JudgedRows.{inserted_first}
 use Rattle.tableau_words.specs.FoundOffences.{found_of}
 use Rattle.tableau_words.proofs.row_offences.insertion_offence.Goals as goal
 

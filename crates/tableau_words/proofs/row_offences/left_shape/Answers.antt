@@ -2,7 +2,7 @@ use Rattle.std.proofs.Common.{◌≡◌, ◌+◌, ◌-◌, map, length, take, dr
 use Rattle.std.specs.Prelude.{string_bytes}
 use Rattle.std.proofs.lemmas.List.{length-map}
 use Rattle.sym_model.specs.CommandOffence.{first_offence}
-use Rattle.written_tableau_laws.specs.WrittenRows.{row_text, left_at}
+use Rattle.word_laws.specs.WrittenRows.{row_text, left_at}
 use Rattle.tableau_words.proofs.RowJudging.{rows_next, no_rows, room_next, row_width}
 use Rattle.std.proofs.Common.{min}
 use Rattle.std.proofs.Common.{cond, ◌==◌}

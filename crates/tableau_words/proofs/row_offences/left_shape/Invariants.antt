@@ -1,7 +1,7 @@
 use Rattle.std.proofs.Common.{◌≡◌, ◌+◌, ◌<◌, ◌^◌, map, length, drop}
 use Rattle.std.specs.Prelude.{string_bytes}
 use Rattle.sym_model.specs.CommandOffence.{first_offence}
-use Rattle.written_tableau_laws.specs.WrittenRows.{further_text, left_at}
+use Rattle.word_laws.specs.WrittenRows.{further_text, left_at}
 use Rattle.tableau_words.proofs.row_offences.left_shape.Given as goal
 
 abbrev pub invariant-loop-i : goal.invariant-loop-i

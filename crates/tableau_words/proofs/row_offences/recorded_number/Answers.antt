@@ -4,8 +4,8 @@ use Rattle.std.proofs.lemmas.List.{length-map}
 use Rattle.sym_model.specs.PrintedBlock.{decimal_value}
 use Rattle.sym_model.specs.CommandOffence.{first_offence, offences_by}
 use Rattle.sym_model.specs.WordForms.{numbers}
-use Rattle.written_tableau_laws.specs.WrittenRows.{row_text, rows_at}
-use Rattle.written_tableau_laws.specs.JudgedRows.{recorded, cell_rule, is_no_record}
+use Rattle.word_laws.specs.WrittenRows.{row_text, rows_at}
+use Rattle.word_laws.specs.JudgedRows.{recorded, cell_rule, is_no_record}
 use Rattle.tableau_words.specs.FoundOffences.{found_of, gathered}
 use Rattle.calc_words.proofs.Judging.{counted}
 use Rattle.tableau_words.proofs.CellJudging.{map_take, row_there, rows_count}

@@ -3,8 +3,8 @@ use Rattle.std.specs.Prelude.{string_bytes}
 use Rattle.std.proofs.lemmas.List.{length-map}
 use Rattle.sym_model.specs.CommandOffence.{first_offence, offences_by}
 use Rattle.sym_model.specs.WordForms.{numbers}
-use Rattle.written_tableau_laws.specs.WrittenRows.{row_text, rows_at}
-use Rattle.written_tableau_laws.specs.JudgedRows.{skewed, cell_rule, is_disordered}
+use Rattle.word_laws.specs.WrittenRows.{row_text, rows_at}
+use Rattle.word_laws.specs.JudgedRows.{skewed, cell_rule, is_disordered}
 use Rattle.tableau_words.specs.FoundOffences.{found_of}
 use Rattle.tableau_words.proofs.RowJudging.{rows_next, skewed_next, room_next, row_width, drop_next}
 use Rattle.tableau_words.proofs.row_offences.skewed_number.Goals as goal

@@ -2,8 +2,8 @@ use Rattle.std.proofs.Common.{◌≡◌, ◌+◌, ◌<◌, ◌^◌, map, length,
 use Rattle.std.specs.Prelude.{string_bytes}
 use Rattle.sym_model.specs.CommandOffence.{first_offence}
 use Rattle.sym_model.specs.WordForms.{numbers}
-use Rattle.written_tableau_laws.specs.WrittenRows.{further_text, rows_at}
-use Rattle.written_tableau_laws.specs.JudgedRows.{skewed}
+use Rattle.word_laws.specs.WrittenRows.{further_text, rows_at}
+use Rattle.word_laws.specs.JudgedRows.{skewed}
 use Rattle.tableau_words.proofs.row_offences.skewed_number.Given as goal
 
 abbrev pub invariant-loop-i : goal.invariant-loop-i

@@ -1,6 +1,6 @@
 use Rattle.std.proofs.Common.{◌+◌, map, length, drop, ap, ◌∙◌, arith}
 use Rattle.std.specs.Prelude.{string_bytes}
-use Rattle.written_tableau_laws.specs.WrittenRows.{further_text}
+use Rattle.word_laws.specs.WrittenRows.{further_text}
 use Rattle.tableau_words.proofs.RowJudging.{rows_next, further_length}
 use Rattle.tableau_words.proofs.row_offences.text_length.Goals as goal
 

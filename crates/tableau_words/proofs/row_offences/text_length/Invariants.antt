@@ -1,6 +1,6 @@
 use Rattle.std.proofs.Common.{◌≡◌, ◌+◌, map, length, drop}
 use Rattle.std.specs.Prelude.{string_bytes}
-use Rattle.written_tableau_laws.specs.WrittenRows.{further_text}
+use Rattle.word_laws.specs.WrittenRows.{further_text}
 use Rattle.tableau_words.proofs.row_offences.text_length.Given as goal
 
 abbrev pub invariant-loop-row : goal.invariant-loop-row

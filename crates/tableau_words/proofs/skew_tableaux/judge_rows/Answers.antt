@@ -3,8 +3,8 @@ use Rattle.std.specs.Prelude.{string_bytes}
 use Rattle.std.proofs.lemmas.List.{length-map}
 use Rattle.sym_model.specs.CommandOffence.{first_offence, rows_in}
 use Rattle.sym_model.specs.WordForms.{numbers}
-use Rattle.written_tableau_laws.specs.WrittenRows.{rows_at, left_at}
-use Rattle.written_tableau_laws.specs.JudgedRows.{earlier, skewed}
+use Rattle.word_laws.specs.WrittenRows.{rows_at, left_at}
+use Rattle.word_laws.specs.JudgedRows.{earlier, skewed}
 use Rattle.tableau_words.specs.AskedLengths.{asked_lengths}
 use Rattle.tableau_words.specs.FoundOffences.{found_of, at_most_entry}
 use Rattle.tableau_words.specs.SkewWords.{AreSkewRows, skew_offences}

@@ -1,0 +1,193 @@
+-- The words of a line, piece by piece.
+use Rattle.std.proofs.Common.{◌≡◌, ◌≤◌, ◌<◌, ℕ, zero, suc, ◌+◌, ◌-◌, min, max, List, [], ◌∷◌, ◌++◌, append_assoc, append-nil, map, length, refl, sym, ap, ◌∙◌, arith}
+use Rattle.std.specs.Prelude.{codes, decimal}
+use Rattle.std.proofs.lemmas.Fmt.{length-decimal-le}
+use Rattle.sym_model.specs.Partition.{without_last_zeros}
+use Rattle.sym_model.specs.Sum.{each}
+use Rattle.sym_model.specs.TableauText.{separated}
+use Rattle.sym_model.specs.Permutation.{letters_by_code}
+use Rattle.sym_model.specs.PlaceOrders.{places}
+use Rattle.sym_model.specs.Workload.{draw, after_draws, drawn, partition_drawn, code_drawn, words_drawn, work_line}
+use Rattle.batch_lines.specs.Parts.{behind_spaces, past}
+
+pub one_digit : (n : ℕ) → n < 10 → length (decimal n) ≤ 1
+one_digit n h = length-decimal-le 1 n (omega arith) h (omega (arith, h))
+
+-- ---- three numbers that fall, without the zeros at their end
+
+pub kept_none : (a b c : ℕ) → b ≤ a → c ≤ b → a ≡ 0 → without_last_zeros (a ∷ b ∷ c ∷ []) ≡ []
+kept_none zero zero zero h k e = refl
+kept_none zero zero (suc c) h k e = absurd (omega (arith, k))
+kept_none zero (suc b) c h k e = absurd (omega (arith, h))
+kept_none (suc a) b c h k e = absurd (omega (arith, e))
+
+pub kept_one : (a b c : ℕ) → c ≤ b → (a ≡ 0 → ⊥) → b ≡ 0 → without_last_zeros (a ∷ b ∷ c ∷ []) ≡ a ∷ []
+kept_one zero b c k n e = absurd (n refl)
+kept_one (suc a) zero zero k n e = refl
+kept_one (suc a) zero (suc c) k n e = absurd (omega (arith, k))
+kept_one (suc a) (suc b) c k n e = absurd (omega (arith, e))
+
+pub kept_two : (a b c : ℕ) → (b ≡ 0 → ⊥) → c ≡ 0 → without_last_zeros (a ∷ b ∷ c ∷ []) ≡ a ∷ b ∷ []
+kept_two a zero c n e = absurd (n refl)
+kept_two zero (suc b) zero n e = refl
+kept_two (suc a) (suc b) zero n e = refl
+kept_two a (suc b) (suc c) n e = absurd (omega (arith, e))
+
+pub kept_three : (a b c : ℕ) → (c ≡ 0 → ⊥) → without_last_zeros (a ∷ b ∷ c ∷ []) ≡ a ∷ b ∷ c ∷ []
+kept_three a b zero n = absurd (n refl)
+kept_three zero zero (suc c) n = refl
+kept_three zero (suc b) (suc c) n = refl
+kept_three (suc a) zero (suc c) n = refl
+kept_three (suc a) (suc b) (suc c) n = refl
+
+-- ---- words with a space between them are a word and further ones behind spaces
+
+abbrev pub word : ℕ → List ℕ
+word n = codes " " ++ decimal n
+
+behind_two : (old a b : List ℕ) → (old ++ a) ++ b ≡ old ++ (a ++ b)
+behind_two old a b = append_assoc old a b
+
+spaced : (first : List ℕ) (words : List (List ℕ)) → separated (codes " ") (first ∷ words) ≡ first ++ each (λ w. codes " " ++ w) words
+spaced first [] = sym (append-nil first)
+spaced first (w ∷ words) =
+    ap (λ t. first ++ (codes " " ++ t)) (spaced w words)
+    ∙ ap (λ t. first ++ t) (sym (append_assoc (codes " ") w (each (λ v. codes " " ++ v) words)))
+
+each_numbers : (numbers : List ℕ) (more : List (List ℕ)) → each (λ w. codes " " ++ w) (map decimal numbers ++ more)
+    ≡ behind_spaces numbers ++ each (λ w. codes " " ++ w) more
+each_numbers [] more = refl
+each_numbers (n ∷ numbers) more =
+    ap (λ t. (codes " " ++ decimal n) ++ t) (each_numbers numbers more)
+    ∙ sym (append_assoc (codes " " ++ decimal n) (behind_spaces numbers) (each (λ w. codes " " ++ w) more))
+
+-- a name, numbers, a sign and other numbers
+pub between_text : (name sign : List ℕ) (first second : List ℕ)
+    → separated (codes " ") (name ∷ (map decimal first ++ (sign ∷ map decimal second)))
+    ≡ name ++ (behind_spaces first ++ ((codes " " ++ sign) ++ behind_spaces second))
+between_text name sign first second =
+    spaced name (map decimal first ++ (sign ∷ map decimal second))
+    ∙ ap (λ t. name ++ t) (each_numbers first (sign ∷ map decimal second))
+    ∙ ap (λ t. name ++ (behind_spaces first ++ ((codes " " ++ sign) ++ t))) (last second)
+  where
+    last : (numbers : List ℕ) → each (λ w. codes " " ++ w) (map decimal numbers) ≡ behind_spaces numbers
+    last [] = refl
+    last (n ∷ numbers) = ap (λ t. (codes " " ++ decimal n) ++ t) (last numbers)
+
+-- a name and numbers
+pub alone_text : (name numbers : List ℕ) → separated (codes " ") (name ∷ map decimal numbers) ≡ name ++ behind_spaces numbers
+alone_text name numbers = spaced name (map decimal numbers) ∙ ap (λ t. name ++ t) (last numbers)
+  where
+    last : (numbers : List ℕ) → each (λ w. codes " " ++ w) (map decimal numbers) ≡ behind_spaces numbers
+    last [] = refl
+    last (n ∷ numbers) = ap (λ t. (codes " " ++ decimal n) ++ t) (last numbers)
+
+-- ---- four letters by their code
+
+abbrev R : ℕ → ℕ → ℕ → ℕ
+R a c q = past (past (c + 1) (min (a + 1) q)) (max (a + 1) q)
+
+abbrev four_letters : ℕ → ℕ → ℕ → List ℕ
+four_letters p q r = p ∷ q ∷ r ∷ (10 - p - q - r) ∷ []
+
+letters_are : (a b c : ℕ) → a < 4 → b < 3 → c < 2
+    → four_letters (a + 1) (past (b + 1) (a + 1)) (R a c (past (b + 1) (a + 1))) ≡ letters_by_code (a ∷ b ∷ c ∷ 0 ∷ []) (places 4)
+letters_are zero zero zero h k l = refl
+letters_are zero zero (suc zero) h k l = refl
+letters_are zero zero (suc (suc c)) h k l = absurd (omega (arith, l))
+letters_are zero (suc zero) zero h k l = refl
+letters_are zero (suc zero) (suc zero) h k l = refl
+letters_are zero (suc zero) (suc (suc c)) h k l = absurd (omega (arith, l))
+letters_are zero (suc (suc zero)) zero h k l = refl
+letters_are zero (suc (suc zero)) (suc zero) h k l = refl
+letters_are zero (suc (suc zero)) (suc (suc c)) h k l = absurd (omega (arith, l))
+letters_are zero (suc (suc (suc b))) c h k l = absurd (omega (arith, k))
+letters_are (suc zero) zero zero h k l = refl
+letters_are (suc zero) zero (suc zero) h k l = refl
+letters_are (suc zero) zero (suc (suc c)) h k l = absurd (omega (arith, l))
+letters_are (suc zero) (suc zero) zero h k l = refl
+letters_are (suc zero) (suc zero) (suc zero) h k l = refl
+letters_are (suc zero) (suc zero) (suc (suc c)) h k l = absurd (omega (arith, l))
+letters_are (suc zero) (suc (suc zero)) zero h k l = refl
+letters_are (suc zero) (suc (suc zero)) (suc zero) h k l = refl
+letters_are (suc zero) (suc (suc zero)) (suc (suc c)) h k l = absurd (omega (arith, l))
+letters_are (suc zero) (suc (suc (suc b))) c h k l = absurd (omega (arith, k))
+letters_are (suc (suc zero)) zero zero h k l = refl
+letters_are (suc (suc zero)) zero (suc zero) h k l = refl
+letters_are (suc (suc zero)) zero (suc (suc c)) h k l = absurd (omega (arith, l))
+letters_are (suc (suc zero)) (suc zero) zero h k l = refl
+letters_are (suc (suc zero)) (suc zero) (suc zero) h k l = refl
+letters_are (suc (suc zero)) (suc zero) (suc (suc c)) h k l = absurd (omega (arith, l))
+letters_are (suc (suc zero)) (suc (suc zero)) zero h k l = refl
+letters_are (suc (suc zero)) (suc (suc zero)) (suc zero) h k l = refl
+letters_are (suc (suc zero)) (suc (suc zero)) (suc (suc c)) h k l = absurd (omega (arith, l))
+letters_are (suc (suc zero)) (suc (suc (suc b))) c h k l = absurd (omega (arith, k))
+letters_are (suc (suc (suc zero))) zero zero h k l = refl
+letters_are (suc (suc (suc zero))) zero (suc zero) h k l = refl
+letters_are (suc (suc (suc zero))) zero (suc (suc c)) h k l = absurd (omega (arith, l))
+letters_are (suc (suc (suc zero))) (suc zero) zero h k l = refl
+letters_are (suc (suc (suc zero))) (suc zero) (suc zero) h k l = refl
+letters_are (suc (suc (suc zero))) (suc zero) (suc (suc c)) h k l = absurd (omega (arith, l))
+letters_are (suc (suc (suc zero))) (suc (suc zero)) zero h k l = refl
+letters_are (suc (suc (suc zero))) (suc (suc zero)) (suc zero) h k l = refl
+letters_are (suc (suc (suc zero))) (suc (suc zero)) (suc (suc c)) h k l = absurd (omega (arith, l))
+letters_are (suc (suc (suc zero))) (suc (suc (suc b))) c h k l = absurd (omega (arith, k))
+letters_are (suc (suc (suc (suc a)))) b c h k l = absurd (omega (arith, h))
+
+pub letters_so : (a b c q m x n r : ℕ) → a < 4 → b < 3 → c < 2 → q ≡ past (b + 1) (a + 1) → m ≡ min (a + 1) q → x ≡ past (c + 1) m
+    → n ≡ max (a + 1) q → r ≡ past x n → four_letters (a + 1) q r ≡ letters_by_code (a ∷ b ∷ c ∷ 0 ∷ []) (places 4)
+letters_so a b c q m x n r h k l eq em ex en er =
+    let third : r ≡ R a c q =
+    er ∙ ap (λ y. past y n) (ex ∙ ap (past (c + 1)) em) ∙ ap (past (past (c + 1) (min (a + 1) q))) en in
+    ap (four_letters (a + 1) q) third
+    ∙ ap (λ y. four_letters (a + 1) y (R a c y)) eq
+    ∙ letters_are a b c h k l
+
+pub four_words : (old : List ℕ) (p q r s : ℕ)
+    → (((old ++ word p) ++ word q) ++ word r) ++ word s ≡ old ++ behind_spaces (p ∷ q ∷ r ∷ s ∷ [])
+four_words old p q r s =
+    append_assoc ((old ++ word p) ++ word q) (word r) (word s)
+    ∙ append_assoc (old ++ word p) (word q) (word r ++ word s)
+    ∙ append_assoc old (word p) (word q ++ (word r ++ word s))
+    ∙ ap (λ t. old ++ (word p ++ (word q ++ (word r ++ t)))) (sym (append-nil (word s)))
+
+-- ---- whole lines
+
+kind_is : (x k kind : ℕ) → k ≡ drawn 1 5 x → k ≡ kind → separated (codes " ") (words_drawn kind (draw x)) ≡ work_line x
+kind_is x k kind d e = ap (λ j. separated (codes " ") (words_drawn j (draw x))) (sym e ∙ d)
+
+pub mult_line : (x s k : ℕ) (out : List ℕ) → k ≡ drawn 1 5 x → k ≡ 0 → s ≡ draw x
+    → out ≡ codes "mult" ++ (behind_spaces (partition_drawn 3 s) ++ (codes " -" ++ behind_spaces (partition_drawn 3 (after_draws 3 s))))
+    → out ≡ work_line x
+mult_line x s k out d e f text =
+    text
+    ∙ ap (λ y. codes "mult" ++ (behind_spaces (partition_drawn 3 y) ++ (codes " -" ++ behind_spaces (partition_drawn 3 (after_draws 3 y))))) f
+    ∙ sym (between_text (codes "mult") (codes "-") (partition_drawn 3 (draw x)) (partition_drawn 3 (after_draws 3 (draw x))))
+    ∙ kind_is x k 0 d e
+
+pub skew_line : (x s k : ℕ) (out : List ℕ) → k ≡ drawn 1 5 x → k ≡ 1 → s ≡ draw x
+    → out ≡ codes "skew" ++ (behind_spaces (partition_drawn 4 s) ++ (codes " /" ++ behind_spaces (partition_drawn 2 (after_draws 3 s))))
+    → out ≡ work_line x
+skew_line x s k out d e f text =
+    text
+    ∙ ap (λ y. codes "skew" ++ (behind_spaces (partition_drawn 4 y) ++ (codes " /" ++ behind_spaces (partition_drawn 2 (after_draws 3 y))))) f
+    ∙ sym (between_text (codes "skew") (codes "/") (partition_drawn 4 (draw x)) (partition_drawn 2 (after_draws 3 (draw x))))
+    ∙ kind_is x k 1 d e
+
+abbrev letters_drawn : ℕ → List ℕ
+letters_drawn x = letters_by_code (code_drawn x) (places 4)
+
+pub schubmult_line : (x s t k : ℕ) (empty named first signed out : List ℕ) → k ≡ drawn 1 5 x → k ≡ 3 → s ≡ draw x → t ≡ after_draws 3 s
+    → empty ≡ [] → named ≡ empty ++ codes "schubmult" → first ≡ named ++ behind_spaces (letters_drawn s) → signed ≡ first ++ codes " -"
+    → out ≡ signed ++ behind_spaces (letters_drawn t) → out ≡ work_line x
+schubmult_line x s t k empty named first signed out d e f g h0 h1 h2 h3 h4 =
+    let words : List ℕ → List ℕ → List ℕ = λ u v. codes "schubmult" ++ (behind_spaces u ++ (codes " -" ++ behind_spaces v)) in
+    let same : t ≡ after_draws 3 (draw x) = g ∙ ap (after_draws 3) f in
+    h4
+    ∙ ap (λ y. y ++ behind_spaces (letters_drawn t)) (h3 ∙ ap (λ y. y ++ codes " -") (h2 ∙ ap (λ y. y ++ behind_spaces (letters_drawn s)) (h1 ∙ ap (λ y. y ++ codes "schubmult") h0)))
+    ∙ append_assoc (codes "schubmult" ++ behind_spaces (letters_drawn s)) (codes " -") (behind_spaces (letters_drawn t))
+    ∙ append_assoc (codes "schubmult") (behind_spaces (letters_drawn s)) (codes " -" ++ behind_spaces (letters_drawn t))
+    ∙ ap (λ y. words (letters_drawn y) (letters_drawn t)) f
+    ∙ ap (λ y. words (letters_drawn (draw x)) (letters_drawn y)) same
+    ∙ sym (between_text (codes "schubmult") (codes "-") (letters_drawn (draw x)) (letters_drawn (after_draws 3 (draw x))))
+    ∙ kind_is x k 3 d e

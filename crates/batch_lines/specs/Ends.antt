@@ -1,0 +1,42 @@
+-- How far a batch is, and how it ends (this project's own).
+use Rattle.std.specs.Prelude.{◌≡◌, ℕ, List, [], Bool, true, false, ◌&&◌, codes, cond, Option}
+use Rattle.calc_base.specs.declared.status.Status.{Status}
+use Rattle.calc_base.specs.declared.status.Status.TheVariants as status
+use Rattle.calc_base.specs.Puts.{Puts}
+use Rattle.batch_lines.specs.declared.progress.Progress.{Progress}
+
+-- what stands in front of a block: nothing in front of the first one, and the line `--` in front of the others
+abbrev pub separator : Bool → List ℕ
+separator true = []
+separator false = codes "--\n"
+
+-- whether the status says that the line was not refused
+abbrev pub is_done_status : Status → Bool
+is_done_status status.Done = true
+is_done_status status.SomeRefused = false
+is_done_status status.Syntax = false
+is_done_status status.Range = false
+is_done_status status.Past = false
+is_done_status status.SinkFault = false
+is_done_status status.SourceFault = false
+is_done_status status.NoMemory = false
+
+-- how far a batch is, after one block more
+abbrev pub progress_after : Progress → Status → Progress
+progress_after progress answer = record { is_first = false; is_done = progress.is_done && is_done_status answer }
+
+-- the status at the end, where neither the source nor the sink fails
+abbrev pub end_status : Progress → Status
+end_status progress = cond progress.is_done status.Done status.SomeRefused
+
+-- the status at the end: the one that goes with what was put, or that the sink failed
+abbrev pub status_where : Bool → Status → Status
+status_where well answer = cond well answer status.SinkFault
+
+-- The sink is finished, and the answer is the status; or that failed.
+pub record Finishes {K : Type 0} (written : K → Option (List ℕ)) (count : K → Option ℕ) (faults : K → ℕ) (settled : K → Bool)
+    (old new : K) (answer result : Status) : Type 0 where
+  pub well : Bool
+  pub puts : Puts written count faults true old well new []
+  pub settles : well ≡ true → settled new ≡ true
+  pub is : result ≡ status_where well answer

@@ -1,0 +1,92 @@
+//! A sink that keeps one block.
+
+ghost use Rattle.std.specs.Prelude.{◌≡◌, [], false, OnOk, OnErr, is_ok, refl};
+ghost use Rattle.calc_base.specs.Fault.{CountsFaults};
+ghost use Rattle.calc_base.specs.Sink.{Appends, AppendsPrefix};
+ghost use Rattle.batch_lines.specs.Kept.{kept_bytes, kept_length};
+
+use calc_base::{Sink, SinkFault};
+use std::alloc::Global;
+use std::marker::Model;
+
+/// A sink that keeps the bytes of one block. A put fails only where memory is refused, and then appends nothing.
+#[derive(Drop)]
+pub struct BlockText {
+    bytes: Vec<u8>,
+    faults: u64,
+    finished: bool,
+}
+
+impl Model for BlockText {
+    ghost use Rattle.batch_lines.specs.Kept.{Kept};
+
+    ghost Value = { Kept };
+
+    ghost view = { λ t. record { bytes = t.bytes.items; failed = t.faults; finished = t.finished } };
+}
+
+impl BlockText {
+    /// A sink without bytes, which takes no memory yet.
+    pub fn new(alloc: Global) -> BlockText
+        ensures bytes { result.bytes ≡ [] }
+        ensures faults { result.failed ≡ 0 }
+        ensures settled { result.finished ≡ false }
+    {
+        BlockText {
+            bytes: Vec::new(alloc),
+            faults: 0,
+            finished: false,
+        }
+    }
+
+    /// Drops the bytes and keeps their memory for the next block. It hides no fault.
+    pub fn clear(&mut self)
+        ensures bytes { self.new.bytes ≡ [] }
+        ensures faults { self.new.failed ≡ self.old.failed }
+        ensures settled { self.new.finished ≡ self.old.finished }
+    {
+        self.bytes.clear();
+    }
+
+    /// The bytes.
+    pub fn bytes(&self) -> &[u8]
+        ensures { result.now ≡ self.now.bytes }
+    {
+        self.bytes.as_slice()
+    }
+}
+
+impl Sink for BlockText {
+    ghost written = { kept_bytes };
+
+    ghost length = { kept_length };
+
+    ghost faults = { λ t. t.failed };
+
+    ghost settled = { λ t. t.finished };
+
+    fn put(&mut self, bytes: &[u8]) -> Result<(), SinkFault>
+        ensures ok { OnOk result (Appends kept_bytes kept_length self.old self.new bytes.now) }
+        ensures err { OnErr result (AppendsPrefix kept_bytes kept_length self.old self.new bytes.now) }
+        ensures counts { CountsFaults self.old.failed self.new.failed result }
+        ensures settled { self.new.finished ≡ false }
+    {
+        self.finished = false;
+        if self.bytes.extend_from_slice(bytes).is_err() {
+            self.faults = self.faults.saturating_add(1);
+            return Err(SinkFault);
+        }
+        Ok(())
+    }
+
+    fn finish(&mut self) -> Result<(), SinkFault>
+        ensures same { Appends kept_bytes kept_length self.old self.new [] }
+        ensures counts { CountsFaults self.old.failed self.new.failed result }
+        ensures settled { self.new.finished ≡ is_ok result }
+    {
+        self.finished = true;
+        Ok(())
+    }
+
+    ghost counted = { λ t. refl };
+}

@@ -1,0 +1,27 @@
+//! What stands between two blocks, and the end of the sink.
+ghost use Rattle.std.specs.Prelude.{◌≡◌, true};
+ghost use Rattle.calc_base.specs.Puts.{Puts};
+ghost use Rattle.batch_lines.specs.Ends.{separator, status_where, Finishes};
+
+use calc_base::{Sink, Status, finish_if};
+
+/// Puts the line `--`, but not in front of the first block, and answers whether all went well.
+pub fn put_separator<K: Sink>(is_first: bool, sink: &mut K) -> bool
+    ensures { Puts K.written K.length K.faults true sink.old result sink.new (separator is_first) }
+{
+    is_first || sink.put(b"--\n").is_ok()
+}
+
+/// Finishes the sink, and answers the status, or that the sink failed.
+pub fn finished<K: Sink>(status: Status, sink: &mut K) -> Status
+    ensures { Finishes K.written K.length K.faults K.settled sink.old sink.new status result }
+{
+    status_if(finish_if(true, sink), status)
+}
+
+/// The status of a command or a batch: that which goes with its text, or that the sink failed.
+pub fn status_if(well: bool, status: Status) -> Status
+    ensures { result ≡ status_where well status }
+{
+    if well { status } else { Status::SinkFault }
+}

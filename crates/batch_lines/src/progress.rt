@@ -1,0 +1,42 @@
+//! How far a batch is.
+ghost use Rattle.std.specs.Prelude.{◌≡◌};
+ghost use Rattle.batch_lines.specs.Ends.{is_done_status, progress_after, end_status};
+
+use calc_base::Status;
+
+/// How far a batch is.
+#[derive(Clone, Copy, Debug)]
+pub struct Progress {
+    /// Whether the next block is the first one.
+    pub is_first: bool,
+    /// Whether no line was refused.
+    pub is_done: bool,
+}
+
+impl Progress {
+    /// Counts a block more, with the status that goes with it.
+    pub fn count(&mut self, status: Status)
+        ensures { self.new ≡ progress_after self.old status }
+    {
+        self.is_first = false;
+        self.is_done = self.is_done && is_done(status);
+    }
+}
+
+/// Whether the status says that a line was not refused.
+fn is_done(status: Status) -> bool
+    ensures { result ≡ is_done_status status }
+{
+    matches!(status, Status::Done)
+}
+
+/// The status where all lines were read and put: `Done` where none was refused, and `SomeRefused` otherwise.
+pub fn at_end(progress: Progress) -> Status
+    ensures { result ≡ end_status progress }
+{
+    if progress.is_done {
+        Status::Done
+    } else {
+        Status::SomeRefused
+    }
+}

@@ -1,5 +1,0 @@
-pub mod Rows
-pub mod Stacks
-pub mod Exchanges
-pub mod SymmetricSums
-pub mod TableauInvolution

@@ -1,0 +1,257 @@
+-- Lists in a window of n numbers from t on.
+--     up_low, up_high, up-remainder     the least number of at least t with a remainder
+--     up_is                             it is each number of the window with that remainder
+--     alcove_only                       a list with a spread below n is determined by its sum and its remainders
+use Rattle.std.proofs.Common.{◌≡◌, ℕ, zero, suc, ◌+◌, ◌-◌, ◌*◌, ◌/◌, ◌%◌, ◌||◌, Bool, true, false, ◌<◌, ◌≤◌, ◌⊎◌, inl, inr, cond, List, [], ◌∷◌, ◌++◌, map, length, get_or, refl, sym, ◌∙◌, ap, ap₂, arith}
+use Rattle.std.proofs.lemmas.Bool.{cases_lt, cases_eq, eq-eqb}
+use Rattle.std.proofs.lemmas.List.{length-map}
+use Rattle.std.proofs.Math.Nat.{add-mod_right, add-mul-mod_self_left, mod-add-div', mod-lt, mod-mod}
+use Rattle.sym_model.specs.Partition.{size}
+use Rattle.sym_model.specs.Bases.{has}
+use Rattle.sym_model.specs.BetaList.{has_equal_entries, sorted_falling}
+use Rattle.sym_model.specs.AlcoveReduction.{spread}
+use Rattle.beta_list_laws.specs.StrictFall.{FallsStrictly}
+use Rattle.beta_list_laws.proofs.NeighbourExchanges.{sort_reach, sorted-exchange, sorted-falling, size-sorted, length-sorted}
+use Rattle.sym_model.proofs.SortedParts.{has_here, has_past}
+use Rattle.beta_list_laws.specs.LowestList.{alike}
+use Rattle.beta_list_laws.specs.AlcoveEnd.{remainders, IsAlcoveEnd, past, up}
+use Rattle.beta_list_laws.proofs.Remainders.{alike_same, test_unlike, alike-here, alike-past}
+use Rattle.beta_list_laws.proofs.Lowest.{strict_falls}
+
+-- ---- the least number past t with a remainder
+
+record InWindow (n t x u : ℕ) : Type 0 where
+  low : t ≤ u
+  high : u < t + n
+  remainder : u % n ≡ x % n
+
+past-here : (n t u : ℕ) → u ≡ t → past n t u ≡ t + n
+past-here n t u e = ap (λ v. cond v (t + n) u) (eq-eqb u t e)
+
+past-other : (n t u : ℕ) → (u ≡ t → ⊥) → past n t u ≡ u
+past-other n t u d = ap (λ v. cond v (t + n) u) (test_unlike u t d)
+
+up_window : (n t x : ℕ) → 1 ≤ n → InWindow n t x (up n t x)
+up_window n zero x h = record { low = omega arith; high = let l = mod-lt x h in omega arith; remainder = mod-mod x n }
+up_window n (suc t) x h = by (up n t x) (up_window n t x h) (cases_eq (up n t x) t)
+  where
+    by : (u : ℕ) → InWindow n t x u → (u ≡ t) ⊎ (u ≡ t → ⊥) → InWindow n (suc t) x (past n t u)
+    by u w (inl e) =
+        let p = past-here n t u e in
+        let r = w.remainder in
+        record { low = omega arith; high = omega arith; remainder = ap (λ v. v % n) p ∙ add-mod_right t n ∙ ap (λ v. v % n) (sym e) ∙ r }
+    by u w (inr d) =
+        let p = past-other n t u d in
+        let a = w.low in
+        let b = w.high in
+        record { low = omega arith; high = omega arith; remainder = ap (λ v. v % n) p ∙ w.remainder }
+
+pub up_low : (n t x : ℕ) → 1 ≤ n → t ≤ up n t x
+up_low n t x h = (up_window n t x h).low
+
+pub up_high : (n t x : ℕ) → 1 ≤ n → up n t x < t + n
+up_high n t x h = (up_window n t x h).high
+
+pub up-remainder : (n t x : ℕ) → 1 ≤ n → up n t x % n ≡ x % n
+up-remainder n t x h = (up_window n t x h).remainder
+
+-- a number of the window is the least with its remainder
+pub up_is : (n t x u : ℕ) → 1 ≤ n → t ≤ u → u < t + n → u % n ≡ x % n → up n t x ≡ u
+up_is n t x u h a b e = alike_same n t (up n t x) u (up-remainder n t x h ∙ sym e) (up_low n t x h) (up_high n t x h) a b
+
+past_above : (n t u : ℕ) → u ≤ past n t u
+past_above n t u = elim (cases_eq u t) [ inl e ↦ (let p = past-here n t u e in omega arith) | inr d ↦ (let p = past-other n t u d in omega arith) ]
+
+up_rises : (n t d x : ℕ) → up n t x ≤ up n (t + d) x
+up_rises n t zero x = let e : t ≡ t + 0 = omega arith in let c = ap (λ m. up n m x) e in omega arith
+up_rises n t (suc d) x =
+    let e : suc (t + d) ≡ t + suc d = omega arith in
+    let c = ap (λ m. up n m x) e in
+    let a = up_rises n t d x in
+    let b = past_above n (t + d) (up n (t + d) x) in
+    omega arith
+
+-- ---- lists
+
+pub map_up_same : (n t : ℕ) (s : List ℕ) (d : ℕ) → size (map (up n t) s) ≤ size (map (up n (t + d)) s)
+map_up_same n t [] d = omega arith
+map_up_same n t (x ∷ s) d = let a = up_rises n t d x in let b = map_up_same n t s d in omega arith
+
+same_where_sums : (n t : ℕ) (s : List ℕ) (d : ℕ) → size (map (up n t) s) ≡ size (map (up n (t + d)) s) → map (up n t) s ≡ map (up n (t + d)) s
+same_where_sums n t [] d e = refl
+same_where_sums n t (x ∷ s) d e =
+    let a = up_rises n t d x in
+    let b = map_up_same n t s d in
+    ap₂ ◌∷◌ (omega arith) (same_where_sums n t s d (omega arith))
+
+pub map_append : (f : ℕ → ℕ) (s t : List ℕ) → map f (s ++ t) ≡ map f s ++ map f t
+map_append f [] t = refl
+map_append f (x ∷ s) t = ap (λ l. f x ∷ l) (map_append f s t)
+
+-- sorting before values are taken changes no sorted list of values
+pub sorted-map-exchange : (f : ℕ → ℕ) (left : List ℕ) (a b : ℕ) (right : List ℕ) → sorted_falling (map f (left ++ (a ∷ b ∷ right))) ≡ sorted_falling (map f (left ++ (b ∷ a ∷ right)))
+sorted-map-exchange f left a b right =
+    ap sorted_falling (map_append f left (a ∷ b ∷ right))
+    ∙ sorted-exchange (map f left) (f a) (f b) (map f right)
+    ∙ ap sorted_falling (sym (map_append f left (b ∷ a ∷ right)))
+
+pub sorted-map-sorted : (f : ℕ → ℕ) (s : List ℕ) → sorted_falling (map f (sorted_falling s)) ≡ sorted_falling (map f s)
+sorted-map-sorted f s = sort_reach (λ l. sorted_falling (map f l) ≡ sorted_falling (map f s)) s (λ left a b right e. sym (sorted-map-exchange f left a b right) ∙ e) refl
+
+-- the last entry
+abbrev pub last_of : ℕ → List ℕ → ℕ
+last_of a [] = a
+last_of a (c ∷ b) = last_of c b
+
+get_last : (a : ℕ) (b : List ℕ) → get_or (a ∷ b) (length b) 0 ≡ last_of a b
+get_last a [] = refl
+get_last a (c ∷ b) = get_last c b
+
+pub spread_is : (a : ℕ) (b : List ℕ) → spread (a ∷ b) ≡ a - last_of a b
+spread_is a b =
+    let e : length (a ∷ b) - 1 ≡ length b = omega arith in
+    let d = ap (λ k. get_or (a ∷ b) k 0) e ∙ get_last a b in
+    omega arith
+
+pub last_below : (a : ℕ) (b : List ℕ) → FallsStrictly (a ∷ b) → last_of a b ≤ a
+last_below a [] f = omega arith
+last_below a (c ∷ b) f = let h = f.0 in let l = last_below c b f.1 in omega arith
+
+-- each entry lies in the window
+abbrev pub LieIn : ℕ → ℕ → List ℕ → Type 0
+LieIn n t [] = Unit {0}
+LieIn n t (x ∷ b) = (t ≤ x) × (x < t + n) × LieIn n t b
+
+strict_lie : (n t a : ℕ) (b : List ℕ) → FallsStrictly (a ∷ b) → t ≡ last_of a b → a < t + n → LieIn n t (a ∷ b)
+strict_lie n t a [] f e l = (omega arith, l, tt)
+strict_lie n t a (c ∷ b) f e l =
+    let h = f.0 in
+    let g = last_below c b f.1 in
+    (omega arith, l, strict_lie n t c b f.1 e (omega arith))
+
+pub narrow_lie : (n a : ℕ) (b : List ℕ) → FallsStrictly (a ∷ b) → spread (a ∷ b) < n → LieIn n (last_of a b) (a ∷ b)
+narrow_lie n a b f l = let e = spread_is a b in let h = last_below a b f in strict_lie n (last_of a b) a b f refl (omega arith)
+
+-- values in the window are had from their remainders
+pub window_back : (n t : ℕ) (b : List ℕ) → 1 ≤ n → LieIn n t b → map (up n t) (remainders n b) ≡ b
+window_back n t [] h w = refl
+window_back n t (x ∷ b) h w = ap₂ ◌∷◌ (up_is n t (x % n) x h w.0 w.1 (sym (mod-mod x n))) (window_back n t b h w.2)
+
+-- a narrow strict list by its remainders alone
+narrow_shown : (n a : ℕ) (b : List ℕ) → 1 ≤ n → FallsStrictly (a ∷ b) → spread (a ∷ b) < n
+    → a ∷ b ≡ sorted_falling (map (up n (last_of a b)) (sorted_falling (remainders n (a ∷ b))))
+narrow_shown n a b h f l =
+    sym (sorted-falling (a ∷ b) (strict_falls (a ∷ b) f))
+    ∙ ap sorted_falling (sym (window_back n (last_of a b) (a ∷ b) h (narrow_lie n a b f l)))
+    ∙ sym (sorted-map-sorted (up n (last_of a b)) (remainders n (a ∷ b)))
+
+shown_same : (n t d : ℕ) (s c e : List ℕ) → c ≡ sorted_falling (map (up n t) s) → e ≡ sorted_falling (map (up n (t + d)) s) → size c ≡ size e → c ≡ e
+shown_same n t d s c e p q z =
+    let u = ap size p ∙ size-sorted (map (up n t) s) in
+    let v = ap size q ∙ size-sorted (map (up n (t + d)) s) in
+    p ∙ ap sorted_falling (same_where_sums n t s d (omega arith)) ∙ sym q
+
+same_remainders_length : (n : ℕ) (c d : List ℕ) → sorted_falling (remainders n c) ≡ sorted_falling (remainders n d) → length c ≡ length d
+same_remainders_length n c d e =
+    let a = length-sorted (remainders n c) in
+    let b = length-sorted (remainders n d) in
+    let p = length-map c (λ x. x % n) in
+    let q = length-map d (λ x. x % n) in
+    let r = ap length e in
+    omega arith
+
+pub length-end : (n : ℕ) (b c : List ℕ) → IsAlcoveEnd n b c → length c ≡ length b
+length-end n b c w = same_remainders_length n c b w.alike
+
+pub alcove_only : (n : ℕ) (b c d : List ℕ) → 1 ≤ n → IsAlcoveEnd n b c → IsAlcoveEnd n b d → c ≡ d
+alcove_only n b [] [] h w v = refl
+alcove_only n b [] (y ∷ d) h w v = let p = length-end n b [] w in let q = length-end n b (y ∷ d) v in absurd (omega arith)
+alcove_only n b (x ∷ c) [] h w v = let p = length-end n b (x ∷ c) w in let q = length-end n b [] v in absurd (omega arith)
+alcove_only n b (x ∷ c) (y ∷ d) h w v =
+    by (cases_lt (last_of y d) (last_of x c))
+    (narrow_shown n x c h w.strict w.narrow ∙ ap (λ s. sorted_falling (map (up n (last_of x c)) s)) w.alike)
+    (narrow_shown n y d h v.strict v.narrow ∙ ap (λ s. sorted_falling (map (up n (last_of y d)) s)) v.alike)
+    (w.sum ∙ sym v.sum)
+  where
+    by : (last_of y d < last_of x c) ⊎ (last_of x c ≤ last_of y d)
+        → x ∷ c ≡ sorted_falling (map (up n (last_of x c)) (sorted_falling (remainders n b)))
+        → y ∷ d ≡ sorted_falling (map (up n (last_of y d)) (sorted_falling (remainders n b)))
+        → size (x ∷ c) ≡ size (y ∷ d) → x ∷ c ≡ y ∷ d
+    by (inl l) p q e =
+        let k = last_of x c - last_of y d in
+        let m : last_of x c ≡ last_of y d + k = omega arith in
+        sym (shown_same n (last_of y d) k (sorted_falling (remainders n b)) (y ∷ d) (x ∷ c) q (p ∙ ap (λ t. sorted_falling (map (up n t) (sorted_falling (remainders n b)))) m) (sym e))
+    by (inr l) p q e =
+        let k = last_of y d - last_of x c in
+        let m : last_of y d ≡ last_of x c + k = omega arith in
+        shown_same n (last_of x c) k (sorted_falling (remainders n b)) (x ∷ c) (y ∷ d) p (q ∙ ap (λ t. sorted_falling (map (up n t) (sorted_falling (remainders n b)))) m) e
+
+-- ---- the sum of the values, as the window moves
+
+-- a window that begins at a multiple of n
+up-multiple : (n q x : ℕ) → 1 ≤ n → up n (n * q) x ≡ x % n + n * q
+up-multiple n q x h =
+    let l = mod-lt x h in
+    up_is n (n * q) x (x % n + n * q) h (omega arith) (omega arith) (add-mul-mod_self_left (x % n) n q ∙ mod-mod x n)
+
+pub size-multiple : (n q : ℕ) (b : List ℕ) → 1 ≤ n → size (map (up n (n * q)) b) ≡ size (remainders n b) + n * q * length b
+size-multiple n q [] h = omega arith
+size-multiple n q (x ∷ b) h = let e = up-multiple n q x h in let r = size-multiple n q b h in omega arith
+
+-- one number further, the values at its remainder go up by n
+pub size-next : (n t : ℕ) (b : List ℕ) → 1 ≤ n → size (map (up n (suc t)) b) ≡ size (map (up n t) b) + n * alike n t b
+size-next n t [] h = omega arith
+size-next n t (x ∷ b) h = by (cases_eq (x % n) (t % n)) (size-next n t b h)
+  where
+    by : (x % n ≡ t % n) ⊎ (x % n ≡ t % n → ⊥) → size (map (up n (suc t)) b) ≡ size (map (up n t) b) + n * alike n t b
+        → size (map (up n (suc t)) (x ∷ b)) ≡ size (map (up n t) (x ∷ b)) + n * alike n t (x ∷ b)
+    by (inl e) r =
+        let u : up n t x ≡ t = up_is n t x t h (omega arith) (omega arith) (sym e) in
+        let p : up n (suc t) x ≡ t + n = past-here n t (up n t x) u in
+        let a = ap (λ m. n * m) (alike-here n t x b e) in
+        omega arith
+    by (inr d) r =
+        let p : up n (suc t) x ≡ up n t x = past-other n t (up n t x) (λ e. d (sym (up-remainder n t x h) ∙ ap (λ v. v % n) e)) in
+        let a = ap (λ m. n * m) (alike-past n t x b d) in
+        omega arith
+
+pub size_above : (n t : ℕ) (b : List ℕ) → 1 ≤ n → t * length b ≤ size (map (up n t) b)
+size_above n t [] h = omega arith
+size_above n t (x ∷ b) h = let l = up_low n t x h in let r = size_above n t b h in omega arith
+
+pub size_remainders : (n x turns : ℕ) (b : List ℕ) → size b ≡ size (remainders n b) + turns * n → size (x ∷ b) ≡ size (remainders n (x ∷ b)) + (turns + x / n) * n
+size_remainders n x turns b e = let d = mod-add-div' x n in omega arith
+
+-- ---- counts of remainders that are all different
+
+pub has_alike : (n x : ℕ) (b : List ℕ) → 1 ≤ alike n x b → has (x % n) (remainders n b) ≡ true
+has_alike n x [] h = absurd (omega arith)
+has_alike n x (y ∷ b) h = by (cases_eq (y % n) (x % n)) (has_alike n x b)
+  where
+    by : (y % n ≡ x % n) ⊎ (y % n ≡ x % n → ⊥) → (1 ≤ alike n x b → has (x % n) (remainders n b) ≡ true) → has (x % n) (remainders n (y ∷ b)) ≡ true
+    by (inl e) later = has_here (x % n) (y % n) (remainders n b) e
+    by (inr d) later = let a = alike-past n x y b d in has_past (x % n) (y % n) (remainders n b) d ∙ later (omega arith)
+
+pub lacks_alike : (n x : ℕ) (b : List ℕ) → alike n x b ≡ 0 → has (x % n) (remainders n b) ≡ false
+lacks_alike n x [] h = refl
+lacks_alike n x (y ∷ b) h = by (cases_eq (y % n) (x % n)) (lacks_alike n x b)
+  where
+    by : (y % n ≡ x % n) ⊎ (y % n ≡ x % n → ⊥) → (alike n x b ≡ 0 → has (x % n) (remainders n b) ≡ false) → has (x % n) (remainders n (y ∷ b)) ≡ false
+    by (inl e) later = let a = alike-here n x y b e in absurd (omega arith)
+    by (inr d) later = let a = alike-past n x y b d in has_past (x % n) (y % n) (remainders n b) d ∙ later (omega arith)
+
+pub alike_once : (n x : ℕ) (b : List ℕ) → has_equal_entries (remainders n b) ≡ false → alike n x b ≤ 1
+alike_once n x [] d = omega arith
+alike_once n x (y ∷ b) d = by (cases_eq (y % n) (x % n)) (parts (has (y % n) (remainders n b)) (has_equal_entries (remainders n b)) d) (alike_once n x b)
+  where
+    parts : (s t : Bool) → (s || t) ≡ false → (s ≡ false) × (t ≡ false)
+    parts true t e = absurd (cc)
+    parts false t e = (refl, e)
+
+    none : (c : ℕ) → y % n ≡ x % n → has (y % n) (remainders n b) ≡ false → alike n x b ≡ c → c ≡ 0
+    none zero e f g = refl
+    none (suc c) e f g = let t = sym (has_alike n x b (omega arith)) ∙ ap (λ v. has v (remainders n b)) (sym e) ∙ f in absurd (cc)
+
+    by : (y % n ≡ x % n) ⊎ (y % n ≡ x % n → ⊥) → (has (y % n) (remainders n b) ≡ false) × (has_equal_entries (remainders n b) ≡ false) → (has_equal_entries (remainders n b) ≡ false → alike n x b ≤ 1) → alike n x (y ∷ b) ≤ 1
+    by (inl e) p later = let a = alike-here n x y b e in let z = none (alike n x b) e p.0 refl in omega arith
+    by (inr c) p later = let a = alike-past n x y b c in let r = later p.1 in omega arith

@@ -1,0 +1,76 @@
+-- A line is read by the block that it comes to.
+use Rattle.std.proofs.Common.{◌≡◌, ◌≢◌, ℕ, List, Option, Some, None, true, false, refl, sym, ap, ◌∙◌, subst}
+use Rattle.std.proofs.lemmas.Bool.{and_parts}
+use Rattle.sym_model.specs.Expansion.{Basis, Terms}
+use Rattle.sym_model.specs.Kind.{Kind, Label, label_rules, expansion, product}
+use Rattle.sym_model.specs.Answer.{Answer as PlainAnswer, answer, answer_text, IsPrintable}
+use Rattle.sym_model.specs.PrintedBlock.{block_by, read_by}
+use Rattle.sym_model.specs.PrintedForm.{as_line, text_in, answer_text_in, read_in}
+use Rattle.printing_laws.proofs.Blocks.{read_by-block}
+use Rattle.printing_laws.proofs.LegibleKinds.{legible, is_label-short}
+use Rattle.printing_laws.proofs.OneLines.{are_readable}
+use Rattle.printing_laws.proofs.PrintedForms.{read_in-tells}
+use Rattle.expansion_printer.specs.declared.answer.Answer.{Answer}
+use Rattle.expansion_printer.specs.declared.answer.Answer.TheVariants.{Number, Expansion, Product, Pairs, Powers, Permutations, Polynomial}
+use Rattle.expansion_printer.specs.Answers.{kind_of_answer, plain_answer}
+use Rattle.block_reader.specs.Lines.{HasAtoms, block_from}
+use Rattle.block_reader.proofs.Blocks.{line-rewritten}
+
+none_else : {A : Type 0} (o : Option A) → ((x : A) → o ≡ Some x → ⊥) → o ≡ None
+none_else None h = refl
+none_else (Some x) h = absurd (h x refl)
+
+some_same : {A : Type 0} (x y : A) → Some x ≡ Some y → x ≡ y
+some_same x y e = cc
+
+-- the kind of a plain answer
+abbrev pub plain_kind : PlainAnswer → Kind
+plain_kind (answer kind terms) = kind
+
+pub plain_kind-is : (a : Answer) → plain_kind (plain_answer a) ≡ kind_of_answer a
+plain_kind-is (Number value) = refl
+plain_kind-is (Expansion terms) = refl
+plain_kind-is (Product terms) = refl
+plain_kind-is (Pairs terms) = refl
+plain_kind-is (Powers terms) = refl
+plain_kind-is (Permutations terms) = refl
+plain_kind-is (Polynomial terms) = refl
+
+-- where a line is read as a list, so is the block that it comes to
+reads-block : (basis : Basis) (kind : Kind) → HasAtoms kind → (text : List ℕ) (terms : Terms (Label kind))
+    → read_in (as_line basis) kind text ≡ Some terms → read_by (label_rules kind) (block_from true text) ≡ Some terms
+reads-block basis expansion atoms text terms h =
+    let r = read_in-tells (as_line basis) expansion text terms h in
+    let readable = are_readable (label_rules expansion) is_label-short terms (and_parts _ _ r.canonical).1 r.printable in
+    subst (λ t. read_by (label_rules expansion) (block_from true t) ≡ Some terms) r.text_is
+    (ap (read_by (label_rules expansion)) (line-rewritten true basis terms readable) ∙ read_by-block (label_rules expansion) (legible expansion) terms r.canonical r.printable)
+reads-block basis product atoms text terms h =
+    let r = read_in-tells (as_line basis) product text terms h in
+    let readable = are_readable (label_rules product) is_label-short terms (and_parts _ _ r.canonical).1 r.printable in
+    subst (λ t. read_by (label_rules product) (block_from true t) ≡ Some terms) r.text_is
+    (ap (read_by (label_rules product)) (line-rewritten false basis terms readable) ∙ read_by-block (label_rules product) (legible product) terms r.canonical r.printable)
+reads-block basis _ atoms text terms h = absurd atoms
+
+-- a text whose block is refused is no line
+pub refused_line : (basis : Basis) (kind : Kind) → HasAtoms kind → (text block : List ℕ) → block ≡ block_from true text → read_by (label_rules kind) block ≡ None
+    → read_in (as_line basis) kind text ≡ None
+refused_line basis kind atoms text block is none =
+    none_else (read_in (as_line basis) kind text) (λ terms h.
+    let clash : None ≡ Some terms = sym none ∙ ap (read_by (label_rules kind)) is ∙ reads-block basis kind atoms text terms h in cc)
+
+-- the list of the block is that of the line
+same_line : (basis : Basis) (kind : Kind) → HasAtoms kind → (text : List ℕ) (terms : Terms (Label kind)) → read_in (as_line basis) kind text ≡ Some terms
+    → (found : Terms (Label kind)) → IsPrintable (answer kind found) → block_by (label_rules kind) found ≡ block_from true text → text_in (as_line basis) kind found ≡ text
+same_line basis kind atoms text terms h found printable same =
+    let e : Some found ≡ Some terms =
+    sym (read_by-block (label_rules kind) (legible kind) found printable.0 printable.1)
+    ∙ ap (read_by (label_rules kind)) same ∙ reads-block basis kind atoms text terms h in
+    ap (text_in (as_line basis) kind) (some_same found terms e) ∙ (read_in-tells (as_line basis) kind text terms h).text_is
+
+-- where the only answer that can have the text as its line has another one, no answer has it
+pub not_line : (basis : Basis) (kind : Kind) → HasAtoms kind → (text : List ℕ) (a : PlainAnswer) → plain_kind a ≡ kind → IsPrintable a → answer_text a ≡ block_from true text
+    → answer_text_in (as_line basis) a ≢ text → read_in (as_line basis) kind text ≡ None
+not_line basis kind atoms text (answer k found) e printable same other =
+    none_else (read_in (as_line basis) kind text) (λ terms h.
+    other (subst (λ j. (ts : Terms (Label j)) → IsPrintable (answer j ts) → block_by (label_rules j) ts ≡ block_from true text → text_in (as_line basis) j ts ≡ text) (sym e)
+    (same_line basis kind atoms text terms h) found printable same))

@@ -1,0 +1,89 @@
+//! One-line forms, read back as answers.
+ghost use Rattle.std.specs.Prelude.{◌≡◌, ◌≢◌, None, IfOk, IsErrOf, MatchBool};
+ghost use Rattle.std.specs.Bool.{OnFalse};
+ghost use Rattle.sym_model.specs.Answer.{IsPrintable};
+ghost use Rattle.sym_model.specs.PrintedForm.{as_line, answer_text_in, read_in};
+ghost use Rattle.calc_expressions.specs.Trees.{basis_of};
+ghost use Rattle.expansion_printer.specs.Answers.{kind_of, kind_of_answer, plain_answer};
+ghost use Rattle.block_reader.specs.Lines.{HasAtoms};
+
+use crate::rewriting::as_block;
+use crate::{ReadBackFault, read_back};
+use calc_base::{Basis, CountSink, MemSink, NoMemory};
+use expansion_printer::{Answer, Kind};
+use expansion_printer::print_one_line;
+use std::alloc::Global;
+
+/// The answer of this kind, an expansion or a product, whose one-line form with the atoms of the basis the text is.
+///
+/// It is refused as `NotPrinted` exactly where the text is no such form, unless memory was refused before.
+pub fn read_one_line(
+    alloc: Global,
+    text: &[u8],
+    kind: Kind,
+    basis: Basis,
+) -> Result<Answer, ReadBackFault>
+    requires { HasAtoms (kind_of kind) }
+    ensures kind { IfOk result (λ answer. kind_of_answer answer ≡ kind_of kind) }
+    ensures prints { IfOk result (λ answer. answer_text_in (as_line (basis_of basis)) (plain_answer answer) ≡ text.now) }
+    ensures printable { IfOk result (λ answer. IsPrintable (plain_answer answer)) }
+    ensures not_printed { IsErrOf result ReadBackFault.NotPrinted
+        → read_in (as_line (basis_of basis)) (kind_of kind) text.now ≡ None }
+{
+    let block = match as_block(alloc, text) {
+        Ok(block) => block,
+        Err(NoMemory) => return Err(ReadBackFault::NoMemory),
+    };
+    match read_back(alloc, &block, kind) {
+        Ok(answer) => checked(alloc, answer, basis, text),
+        Err(fault) => Err(fault),
+    }
+}
+
+/// The answer, where the text is its line.
+fn checked(
+    alloc: Global,
+    answer: Answer,
+    basis: Basis,
+    text: &[u8],
+) -> Result<Answer, ReadBackFault>
+    ensures same { IfOk result (λ same. same ≡ answer) }
+    ensures prints { IfOk result (λ same. answer_text_in (as_line (basis_of basis)) (plain_answer same) ≡ text.now) }
+    ensures printable { IfOk result (λ same. IsPrintable (plain_answer same)) }
+    ensures not_printed { IsErrOf result ReadBackFault.NotPrinted
+        → answer_text_in (as_line (basis_of basis)) (plain_answer answer) ≢ text.now }
+{
+    match is_line(alloc, &answer, basis, text) {
+        Ok(true) => Ok(answer),
+        Ok(false) => Err(ReadBackFault::NotPrinted),
+        Err(NoMemory) => Err(ReadBackFault::NoMemory),
+    }
+}
+
+/// Whether the text is the line of the answer.
+fn is_line(alloc: Global, answer: &Answer, basis: Basis, text: &[u8]) -> Result<bool, NoMemory>
+    ensures compares { IfOk result (λ same. MatchBool same
+        (answer_text_in (as_line (basis_of basis)) (plain_answer answer.now) ≡ text.now)
+        (answer_text_in (as_line (basis_of basis)) (plain_answer answer.now) ≢ text.now)) }
+    ensures printable { IsPrintable (plain_answer answer.now) }
+{
+    if !has_length(answer, basis, text) {
+        return Ok(false);
+    }
+    let mut sink = MemSink::new(alloc, text.len(), &[])?;
+    if print_one_line(answer, basis, &mut sink).is_err() {
+        // The line is as long as the text, for which this sink has room.
+        return Err(NoMemory);
+    }
+    Ok(sink.bytes() == text)
+}
+
+/// Whether the line of the answer has as many bytes as the text.
+fn has_length(answer: &Answer, basis: Basis, text: &[u8]) -> bool
+    ensures length { OnFalse result (answer_text_in (as_line (basis_of basis)) (plain_answer answer.now) ≢ text.now) }
+    ensures printable { IsPrintable (plain_answer answer.now) }
+{
+    let mut count = CountSink::new();
+    let _ = print_one_line(answer, basis, &mut count);
+    count.count() == text.len() as u128
+}

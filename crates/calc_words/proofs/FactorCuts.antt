@@ -1,0 +1,139 @@
+-- Words of factors, cut at each `-`.
+use Rattle.std.proofs.Common.{◌≡◌, ℕ, true, false, List, [], ◌∷◌, ◌++◌, map, refl, sym, ap, ◌∙◌, subst, inl, inr}
+use Rattle.std.specs.Prelude.{codes}
+use Rattle.sym_model.specs.Sum.{each}
+use Rattle.sym_model.specs.Partition.{without_last_zeros}
+use Rattle.sym_model.specs.Form.{Written, words_of, May, EachOf}
+use Rattle.sym_model.specs.WordForms.{next_words, factors_words, numbers, partition, factors, factor_numbers}
+use Rattle.calc_words.specs.NumberRuns.{IsNumber, BeginsOtherwise}
+use Rattle.calc_words.proofs.Commands.{may_be, singles}
+use Rattle.calc_words.specs.FactorWords.{IsPiece, next_text}
+
+abbrev Words : Type 0
+Words = List (List ℕ)
+
+-- numbers, and further factors behind them
+pub record Cut (words : Words) : Type 0 where
+  pub second : Words
+  pub others : List Words
+  pub words_are : words ≡ second ++ next_text others
+  pub second_numbers : EachOf IsNumber second
+  pub other_numbers : EachOf (EachOf IsNumber) others
+
+pub cut : (words : Words) → EachOf IsPiece words → Cut words
+cut [] e = record { second = []; others = []; words_are = refl; second_numbers = tt; other_numbers = tt }
+cut (t ∷ words) e = by e.0 (cut words e.1)
+  where
+    by : IsPiece t → Cut words → Cut (t ∷ words)
+    by (inl n) k =
+        record {
+          second = t ∷ k.second;
+          others = k.others;
+          words_are = ap (λ ws. t ∷ ws) k.words_are;
+          second_numbers = (n, k.second_numbers);
+          other_numbers = k.other_numbers;
+        }
+    by (inr m) k =
+        record {
+          second = [];
+          others = k.second ∷ k.others;
+          words_are = ap (λ x. x ∷ words) m ∙ ap (λ ws. codes "-" ∷ ws) k.words_are;
+          second_numbers = tt;
+          other_numbers = (k.second_numbers, k.other_numbers);
+        }
+
+-- no number stands behind a factor
+next_begins : (others : List Words) → BeginsOtherwise IsNumber (next_text others)
+next_begins [] = tt
+next_begins (list ∷ others) = λ h. let z : false ≡ true = h in cc
+
+abbrev first_of : List ℕ → Words → List ℕ
+first_of text [] = text
+first_of text (t ∷ words) = t
+
+abbrev behind_first : Words → Words
+behind_first [] = []
+behind_first (t ∷ words) = words
+
+-- words begin with one run of numbers
+one_run : (ps qs us vs : Words) → EachOf IsNumber ps → EachOf IsNumber qs → BeginsOtherwise IsNumber us → BeginsOtherwise IsNumber vs
+    → ps ++ us ≡ qs ++ vs → (ps ≡ qs) × (us ≡ vs)
+one_run [] [] us vs m n b d e = (refl, e)
+one_run [] (q ∷ qs) us vs m n b d e = absurd (subst (BeginsOtherwise IsNumber) e b n.0)
+one_run (p ∷ ps) [] us vs m n b d e = absurd (subst (BeginsOtherwise IsNumber) (sym e) d m.0)
+one_run (p ∷ ps) (q ∷ qs) us vs m n b d e =
+    let r = one_run ps qs us vs m.1 n.1 b d (ap behind_first e) in
+    (ap (λ t. t ∷ ps) (ap (first_of []) e) ∙ ap (λ ws. q ∷ ws) r.0, r.1)
+
+-- the second factor is the numbers at the front
+pub run_cut : (words second list rest : Words) (others : List Words) → words ≡ second ++ next_text others → EachOf IsNumber second
+    → words ≡ list ++ rest → EachOf IsNumber list → BeginsOtherwise IsNumber rest → (second ≡ list) × (rest ≡ next_text others)
+run_cut words second list rest others e n f m b =
+    let r = one_run second list (next_text others) rest n m (next_begins others) b (sym e ∙ f) in (r.0, sym r.1)
+
+-- the numbers behind a `-` are the next factor
+pub record NextCut (others : List Words) (list rest : Words) : Type 0 where
+  pub more : List Words
+  pub others_are : others ≡ list ∷ more
+  pub rest_are : rest ≡ next_text more
+  pub more_numbers : EachOf (EachOf IsNumber) more
+
+pub next_cut : (words later list rest : Words) (others : List Words) → words ≡ next_text others → EachOf (EachOf IsNumber) others
+    → words ≡ codes "-" ∷ later → later ≡ list ++ rest → EachOf IsNumber list → BeginsOtherwise IsNumber rest → NextCut others list rest
+next_cut words later list rest [] e n f g m b = let z = sym e ∙ f in cc
+next_cut words later list rest (l ∷ more) e n f g m b =
+    let r = run_cut later l list rest more (ap behind_first (sym f ∙ e)) n.0 g m b in
+    record { more = more; others_are = ap (λ x. x ∷ more) r.0; rest_are = r.1; more_numbers = n.1 }
+
+-- nothing stands behind the last factor
+pub nothing_behind : (words : Words) (others : List Words) → words ≡ next_text others → BeginsOtherwise (λ t. t ≡ codes "-") words → others ≡ []
+nothing_behind words [] e b = refl
+nothing_behind words (l ∷ others) e b = absurd (subst (BeginsOtherwise (λ t. t ≡ codes "-")) e b refl)
+
+-- further factors as what is written of them
+abbrev as_next : List Words → List (Written next_words)
+as_next [] = []
+as_next (list ∷ others) = (tt, list) ∷ as_next others
+
+next_allowed : (others : List Words) → EachOf (EachOf IsNumber) others → EachOf (May next_words) (as_next others)
+next_allowed [] e = tt
+next_allowed (list ∷ others) e = ((tt, may_be list e.0), next_allowed others e.1)
+
+next_spelled : (others : List Words) → each (words_of next_words) (as_next others) ≡ next_text others
+next_spelled [] = refl
+next_spelled (list ∷ others) =
+    ap (λ ws. codes "-" ∷ (ws ++ each (words_of next_words) (as_next others))) (singles list)
+    ∙ ap (λ ws. codes "-" ∷ (list ++ ws)) (next_spelled others)
+
+next_numbers : (others : List Words) → map (λ (next : Written next_words). numbers next.1) (as_next others) ≡ map numbers others
+next_numbers [] = refl
+next_numbers (list ∷ others) = ap (λ ns. numbers list ∷ ns) (next_numbers others)
+
+all_partitions : (others : List Words) → map without_last_zeros (map numbers others) ≡ map partition others
+all_partitions [] = refl
+all_partitions (list ∷ others) = ap (λ ps. partition list ∷ ps) (all_partitions others)
+
+-- factors as what is written of them
+pub record AreWritten (words first second : Words) (others : List Words) : Type 0 where
+  pub written : Written factors_words
+  pub allowed : May factors_words written
+  pub spelled : words ≡ words_of factors_words written
+  pub numbers_are : factor_numbers written ≡ numbers first ∷ numbers second ∷ map numbers others
+  pub factors_are : factors written ≡ partition first ∷ partition second ∷ map partition others
+
+pub are_written : (words first second : Words) (others : List Words) → words ≡ first ++ codes "-" ∷ (second ++ next_text others)
+    → EachOf IsNumber first → EachOf IsNumber second → EachOf (EachOf IsNumber) others → AreWritten words first second others
+are_written words first second others e f s o =
+    let ns = ap (λ xs. numbers first ∷ numbers second ∷ xs) (next_numbers others) in
+    record {
+      written = (first, ((tt, second), as_next others));
+      allowed = (may_be first f, ((tt, may_be second s), next_allowed others o));
+      spelled =
+          e
+          ∙ ap (λ ws. ws ++ codes "-" ∷ (second ++ next_text others)) (sym (singles first))
+          ∙ ap (λ ws. each (λ t. t ∷ []) first ++ codes "-" ∷ (ws ++ next_text others)) (sym (singles second))
+          ∙ ap (λ ws. each (λ t. t ∷ []) first ++ codes "-" ∷ (each (λ t. t ∷ []) second ++ ws)) (sym (next_spelled others));
+      numbers_are = ns;
+      factors_are =
+          ap (map without_last_zeros) ns ∙ ap (λ ps. partition first ∷ partition second ∷ ps) (all_partitions others);
+    }

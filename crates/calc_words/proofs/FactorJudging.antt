@@ -1,0 +1,167 @@
+-- The first offence of factors that are read one after another.
+use Rattle.std.proofs.Common.{◌≡◌, ℕ, ◌+◌, ◌-◌, ◌<◌, ◌≤◌, ◌==◌, Bool, true, false, cond, List, [], ◌∷◌, ◌++◌, append_assoc, map, length, length-append, sym, ap, ◌∙◌, subst, arith, ◌⊎◌, inl, inr, Result, Err, Some, None}
+use Rattle.std.proofs.lemmas.List.{length-map}
+use Rattle.sym_model.specs.Sum.{Among}
+use Rattle.sym_model.proofs.Sums.{Among_from_append}
+use Rattle.sym_model.specs.PrintedBlock.{decimal_value}
+use Rattle.sym_model.specs.ExpressionOffence.{range}
+use Rattle.sym_model.specs.CommandOffence.{Offence, first_offence, part_offences, part_rule, factor_offences, most_factors}
+use Rattle.sym_model.specs.Grammar.{two_partitions}
+use Rattle.sym_model.specs.WordForms.{numbers, partition}
+use Rattle.calc_base.specs.declared.words.WordsFault.{WordsFault}
+use Rattle.calc_words.specs.Reading.{IsJudged}
+use Rattle.calc_words.proofs.FirstOffences.{within, AllBefore, first-head, no_later_word}
+use Rattle.calc_words.proofs.Commands.{judged_err, judged_next}
+use Rattle.calc_words.specs.ReadProducts.{ninth_offences}
+
+abbrev Words : Type 0
+Words = List (List ℕ)
+
+-- the offence in front of the ninth factor
+the_ninth : (ninth : Bool) (o p : Offence) → Among p (cond ninth (o ∷ []) []) → p ≡ o
+the_ninth true o p (inl e) = e
+the_ninth true o p (inr m) = absurd m
+the_ninth false o p m = absurd m
+
+ninth_word : (count word : ℕ) (p : Offence) → Among p (ninth_offences count word) → p.0 ≡ word
+ninth_word count word p m = ap (λ (q : Offence). q.0) (the_ninth (count == most_factors) (word, 0, range) p m)
+
+-- the offences of factors stand behind the word in front of the first
+factor_within : (count k : ℕ) (ns : List (List ℕ)) (p : Offence) → Among p (factor_offences count k ns) → k ≤ p.0 + 1
+factor_within count k [] p m = absurd m
+factor_within count k (n ∷ ns) p m =
+    by (Among_from_append p (ninth_offences count (k - 1) ++ part_offences k n) (factor_offences (count + 1) (k + length n + 1) ns) m)
+    (factor_within (count + 1) (k + length n + 1) ns p)
+  where
+    here : Among p (ninth_offences count (k - 1)) ⊎ Among p (part_offences k n) → k ≤ p.0 + 1
+    here (inl a) = let e = ninth_word count (k - 1) p a in omega (arith, e)
+    here (inr a) = let w = within part_rule [] k n p a in let l = w.0 in omega (arith, l)
+
+    by : Among p (ninth_offences count (k - 1) ++ part_offences k n) ⊎ Among p (factor_offences (count + 1) (k + length n + 1) ns)
+        → (Among p (factor_offences (count + 1) (k + length n + 1) ns) → k + length n + 1 ≤ p.0 + 1) → k ≤ p.0 + 1
+    by (inl a) r = here (Among_from_append p (ninth_offences count (k - 1)) (part_offences k n) a)
+    by (inr a) r = let w = r a in omega (arith, w)
+
+-- and those of all factors from the first word on
+pub factors_from : (k : ℕ) (n : List ℕ) (ns : List (List ℕ)) (p : Offence) → Among p (factor_offences 0 k (n ∷ ns)) → k ≤ p.0
+factors_from k n ns p m = by (Among_from_append p (part_offences k n) (factor_offences 1 (k + length n + 1) ns) m)
+  where
+    by : Among p (part_offences k n) ⊎ Among p (factor_offences 1 (k + length n + 1) ns) → k ≤ p.0
+    by (inl a) = (within part_rule [] k n p a).0
+    by (inr a) = let w = factor_within 1 (k + length n + 1) ns p a in omega (arith, w)
+
+-- the next factor, behind the word
+abbrev next_offences : ℕ → ℕ → Words → List Offence
+next_offences count at list = ninth_offences count at ++ part_offences (at + 1) (numbers list)
+
+abbrev rest_offences : ℕ → ℕ → Words → List Words → List Offence
+rest_offences count at list more = factor_offences (count + 1) (at + 1 + length (numbers list) + 1) (map numbers more)
+
+next_before : (count at : ℕ) (list : Words) (more : List Words) → AllBefore (next_offences count at list) (rest_offences count at list more)
+next_before count at list more p q m n =
+    let w = factor_within (count + 1) (at + 1 + length (numbers list) + 1) (map numbers more) q n in
+    let l = by (Among_from_append p (ninth_offences count at) (part_offences (at + 1) (numbers list)) m) in
+    omega (arith, w, l)
+  where
+    by : Among p (ninth_offences count at) ⊎ Among p (part_offences (at + 1) (numbers list)) → p.0 < at + 1 + length (numbers list)
+    by (inl a) = let e = ninth_word count at p a in omega (arith, e)
+    by (inr a) = (within part_rule [] (at + 1) (numbers list) p a).1
+
+next_is : (count at : ℕ) (list : Words) (more : List Words)
+    → factor_offences count (at + 1) (map numbers (list ∷ more)) ≡ next_offences count at list ++ rest_offences count at list more
+next_is count at list more =
+    let e : at + 1 - 1 ≡ at = omega arith in
+    ap (λ w. (ninth_offences count w ++ part_offences (at + 1) (numbers list)) ++ rest_offences count at list more) e
+
+-- the ninth factor offends at the word in front of it
+pub ninth_first : (count at : ℕ) (list : Words) → (count == most_factors) ≡ true → first_offence (next_offences count at list) ≡ Some (at, 0, range)
+ninth_first count at list h =
+    ap (λ b. first_offence (cond b ((at, 0, range) ∷ []) [] ++ part_offences (at + 1) (numbers list))) h
+    ∙ first-head (at, 0, range) (part_offences (at + 1) (numbers list))
+    (λ p m. no_later_word (at, 0, range) p (let w = within part_rule [] (at + 1) (numbers list) p m in let l = w.0 in omega (arith, l)))
+
+-- no factor before the ninth does
+pub no_ninth : (count at : ℕ) (list : Words) → (count == most_factors) ≡ false → next_offences count at list ≡ part_offences (at + 1) (numbers list)
+no_ninth count at list h = ap (λ b. cond b ((at, 0, range) ∷ []) [] ++ part_offences (at + 1) (numbers list)) h
+
+-- the next factor offends
+pub next_faulty : {A B : Type 0} (P : A → Type 0) (Q : B → Type 0) (count at : ℕ) (list : Words) (more : List Words) (fault : WordsFault)
+    → IsJudged P (first_offence (next_offences count at list)) (Err fault)
+    → IsJudged Q (first_offence (factor_offences count (at + 1) (map numbers (list ∷ more)))) (Err fault)
+next_faulty P Q count at list more fault h =
+    subst (λ os. IsJudged Q (first_offence os) (Err fault)) (sym (next_is count at list more))
+    (judged_err P Q (next_offences count at list) (rest_offences count at list more) fault (next_before count at list more) h)
+
+-- the next factor has no offence
+pub next_fine : (factors next : List (List ℕ)) (at after : ℕ) (list : Words) (more : List Words) (r : Result (List (List ℕ)) WordsFault)
+    → next ≡ factors ++ partition list ∷ [] → after ≡ at + 1 + length list → first_offence (next_offences (length factors) at list) ≡ None
+    → IsJudged (λ f. f ≡ next ++ map partition more) (first_offence (factor_offences (length next) (after + 1) (map numbers more))) r
+    → IsJudged (λ f. f ≡ factors ++ map partition (list ∷ more)) (first_offence (factor_offences (length factors) (at + 1) (map numbers (list ∷ more)))) r
+next_fine factors next at after list more r e f n h =
+    let Q = λ (g : List (List ℕ)). g ≡ factors ++ map partition (list ∷ more) in
+    let l = length-map list decimal_value in
+    let k : after + 1 ≡ at + 1 + length (numbers list) + 1 = omega (arith, f, l) in
+    let c : length next ≡ length factors + 1 = ap length e ∙ length-append factors (partition list ∷ []) in
+    let whole : next ++ map partition more ≡ factors ++ map partition (list ∷ more) =
+    ap (λ fs. fs ++ map partition more) e ∙ append_assoc factors (partition list ∷ []) (map partition more) in
+    subst (λ os. IsJudged Q (first_offence os) r) (sym (next_is (length factors) at list more))
+    (judged_next Q (next_offences (length factors) at list) (rest_offences (length factors) at list more) r n
+    (subst (λ w. IsJudged Q (first_offence (factor_offences (length factors + 1) w (map numbers more))) r) k
+    (subst (λ m. IsJudged Q (first_offence (factor_offences m (after + 1) (map numbers more))) r) c
+    (subst (λ (fs : List (List ℕ)). IsJudged (λ (g : List (List ℕ)). g ≡ fs) (first_offence (factor_offences (length next) (after + 1) (map numbers more))) r) whole h))))
+
+-- the first two factors
+pub two_are : (at : ℕ) (first second : Words) (others : List Words)
+    → factor_offences 0 at (numbers first ∷ numbers second ∷ map numbers others)
+    ≡ two_partitions at first second ++ factor_offences 2 (at + length first + 1 + length second + 1) (map numbers others)
+two_are at first second others =
+    let ns = map numbers others in
+    let l = length-map first decimal_value in
+    let m = length-map second decimal_value in
+    ap (λ a. part_offences at (numbers first)
+    ++ (part_offences (at + a + 1) (numbers second) ++ factor_offences 2 (at + a + 1 + length (numbers second) + 1) ns)) l
+    ∙ ap (λ b. part_offences at (numbers first)
+    ++ (part_offences (at + length first + 1) (numbers second) ++ factor_offences 2 (at + length first + 1 + b + 1) ns)) m
+    ∙ sym (append_assoc (part_offences at (numbers first)) (part_offences (at + length first + 1) (numbers second))
+    (factor_offences 2 (at + length first + 1 + length second + 1) ns))
+
+two_end : (at : ℕ) (first second : Words) (p : Offence) → Among p (two_partitions at first second) → p.0 < at + length first + 1 + length second
+two_end at first second p m =
+    by (Among_from_append p (part_offences at (numbers first)) (part_offences (at + length first + 1) (numbers second)) m)
+  where
+    by : Among p (part_offences at (numbers first)) ⊎ Among p (part_offences (at + length first + 1) (numbers second))
+        → p.0 < at + length first + 1 + length second
+    by (inl a) =
+        let w = within part_rule [] at (numbers first) p a in
+        let l = length-map first decimal_value in
+        let u = w.1 in
+        omega (arith, u, l)
+    by (inr a) =
+        let w = within part_rule [] (at + length first + 1) (numbers second) p a in
+        let l = length-map second decimal_value in
+        let u = w.1 in
+        omega (arith, u, l)
+
+two_before : (at : ℕ) (first second : Words) (others : List Words)
+    → AllBefore (two_partitions at first second) (factor_offences 2 (at + length first + 1 + length second + 1) (map numbers others))
+two_before at first second others p q m n =
+    let l = two_end at first second p m in
+    let w = factor_within 2 (at + length first + 1 + length second + 1) (map numbers others) q n in
+    omega (arith, l, w)
+
+pub two_faulty : {A B : Type 0} (P : A → Type 0) (Q : B → Type 0) (at : ℕ) (first second : Words) (others : List Words) (fault : WordsFault)
+    → IsJudged P (first_offence (two_partitions at first second)) (Err fault)
+    → IsJudged Q (first_offence (factor_offences 0 at (numbers first ∷ numbers second ∷ map numbers others))) (Err fault)
+two_faulty P Q at first second others fault h =
+    subst (λ os. IsJudged Q (first_offence os) (Err fault)) (sym (two_are at first second others))
+    (judged_err P Q (two_partitions at first second) (factor_offences 2 (at + length first + 1 + length second + 1) (map numbers others)) fault
+    (two_before at first second others) h)
+
+pub two_fine : {B : Type 0} (Q : B → Type 0) (at after : ℕ) (first second : Words) (others : List Words) (r : Result B WordsFault)
+    → after ≡ at + length first + 1 + length second → first_offence (two_partitions at first second) ≡ None
+    → IsJudged Q (first_offence (factor_offences 2 (after + 1) (map numbers others))) r
+    → IsJudged Q (first_offence (factor_offences 0 at (numbers first ∷ numbers second ∷ map numbers others))) r
+two_fine Q at after first second others r e n h =
+    subst (λ os. IsJudged Q (first_offence os) r) (sym (two_are at first second others))
+    (judged_next Q (two_partitions at first second) (factor_offences 2 (at + length first + 1 + length second + 1) (map numbers others)) r n
+    (subst (λ w. IsJudged Q (first_offence (factor_offences 2 (w + 1) (map numbers others))) r) e h))

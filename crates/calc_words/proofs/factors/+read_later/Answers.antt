@@ -1,0 +1,70 @@
+use Rattle.std.proofs.Common.{◌≡◌, ℕ, ◌+◌, ◌++◌, List, [], ◌∷◌, map, length, length-append, refl, sym, ap, subst, arith, Err, None}
+use Rattle.std.specs.Prelude.{string_bytes}
+use Rattle.std.proofs.lemmas.List.{append-nil, length-map}
+use Rattle.sym_model.specs.CommandOffence.{first_offence, factor_offences}
+use Rattle.sym_model.specs.Form.{EachOf}
+use Rattle.sym_model.specs.WordForms.{numbers, partition}
+use Rattle.calc_words.specs.Reading.{IsJudged}
+use Rattle.calc_words.specs.WrittenLimits.{IsWritten}
+use Rattle.calc_words.proofs.FactorCuts.{next_cut, nothing_behind}
+use Rattle.calc_words.proofs.FactorJudging.{next_faulty, next_fine}
+use Rattle.calc_words.proofs.FactorLimits.{next_written}
+use Rattle.calc_words.proofs.factors.+read_later.Goals as goal
+
+pub returns-in_default : goal.returns-in_default
+returns-in_default t c =
+    λ others e n.
+    let factors = c.args.factors in
+    subst (λ os. (factors ≡ factors ++ map partition os) × (first_offence (factor_offences (length factors) (c.args.at + 1) (map numbers os)) ≡ None))
+    (sym (nothing_behind (map string_bytes c.args.words.now) others e c.in_default.ensures)) (sym (append-nil factors), refl)
+
+pub read_later-requires : goal.read_later-requires
+read_later-requires t c =
+    let words = c.args.words.now in
+    let later = c.in-Some.later.now in
+    let list = c.numbers.result.0.now in
+    let rest = c.numbers.result.1.now in
+    let w = length-map words string_bytes in
+    let l = length-map later string_bytes in
+    let m = length-map list string_bytes in
+    let r = length-map rest string_bytes in
+    let a = ap length c.in-Some.ensures in
+    let b = ap length c.numbers.ensures.parts in
+    let s = length-append (map string_bytes list) (map string_bytes rest) in
+    let d = c.decreases in
+    let p = c.requires.place in (
+      omega arith,
+      (
+        omega (arith, w, l, m, r, a, b, s, p),
+        subst (EachOf IsWritten) (sym c.in-Ok.ensures.0)
+            (next_written c.args.factors (length c.args.factors) c.args.at (map string_bytes list) c.requires.written c.in-Ok.ensures.1),
+      ),
+    )
+
+pub returns-in-Err : goal.returns-in-Err
+returns-in-Err t c =
+    λ others e n.
+    let factors = c.args.factors in
+    let list = map string_bytes c.numbers.result.0.now in
+    let k = next_cut (map string_bytes c.args.words.now) (map string_bytes c.in-Some.later.now) list (map string_bytes c.numbers.result.1.now) others e n
+    c.in-Some.ensures c.numbers.ensures.parts c.numbers.ensures.numbers c.numbers.ensures.rest in
+    subst
+    (λ os. IsJudged (λ (f : List (List ℕ)). f ≡ factors ++ map partition os) (first_offence (factor_offences (length factors) (c.args.at + 1) (map numbers os))) (Err c.in-Err.fault))
+    (sym k.others_are)
+    (next_faulty (λ (f : List (List ℕ)). f ≡ factors ++ partition list ∷ []) (λ (f : List (List ℕ)). f ≡ factors ++ map partition (list ∷ k.more)) (length factors) c.args.at list k.more
+    c.in-Err.fault c.in-Err.ensures)
+
+pub returns-in-Ok : goal.returns-in-Ok
+returns-in-Ok t c =
+    λ others e n.
+    let factors = c.args.factors in
+    let list = map string_bytes c.numbers.result.0.now in
+    let after = c.args.at + 1 + length c.numbers.result.0.now in
+    let k = next_cut (map string_bytes c.args.words.now) (map string_bytes c.in-Some.later.now) list (map string_bytes c.numbers.result.1.now) others e n
+    c.in-Some.ensures c.numbers.ensures.parts c.numbers.ensures.numbers c.numbers.ensures.rest in
+    subst
+    (λ os. IsJudged (λ (f : List (List ℕ)). f ≡ factors ++ map partition os) (first_offence (factor_offences (length factors) (c.args.at + 1) (map numbers os))) c.read_later.result)
+    (sym k.others_are)
+    (next_fine factors c.in-Ok.factors c.args.at after list k.more c.read_later.result c.in-Ok.ensures.0
+    (ap (λ m. c.args.at + 1 + m) (sym (length-map c.numbers.result.0.now string_bytes))) c.in-Ok.ensures.1
+    (c.read_later.ensures k.more k.rest_are k.more_numbers))

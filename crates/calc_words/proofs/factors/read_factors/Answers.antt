@@ -1,0 +1,78 @@
+use Rattle.std.proofs.Common.{◌≡◌, ℕ, ◌+◌, ◌++◌, List, [], ◌∷◌, map, length, length-append, sym, ap, ◌∙◌, subst, arith, Err, None}
+use Rattle.std.specs.Prelude.{string_bytes}
+use Rattle.std.proofs.lemmas.List.{length-map}
+use Rattle.sym_model.specs.CommandOffence.{first_offence, factor_offences}
+use Rattle.sym_model.specs.Form.{EachOf}
+use Rattle.sym_model.specs.Grammar.{two_partitions}
+use Rattle.sym_model.specs.WordForms.{numbers, partition}
+use Rattle.calc_words.specs.ReadShapes.{AreShapes}
+use Rattle.calc_words.specs.Reading.{IsJudged}
+use Rattle.calc_words.specs.WrittenLimits.{IsWritten}
+use Rattle.calc_words.proofs.WrittenLists.{two_written}
+use Rattle.calc_words.proofs.FactorCuts.{run_cut}
+use Rattle.calc_words.proofs.FactorJudging.{two_faulty, two_fine}
+use Rattle.calc_words.proofs.factors.read_factors.Goals as goal
+
+pub paired-requires-clause-left : goal.paired-requires-clause-left
+paired-requires-clause-left c =
+    let w = two_written c.args.at (map string_bytes c.args.first.now) (map string_bytes c.numbers.result.0.now) c.in-Ok.ensures.1 in
+    subst IsWritten (sym c.in-Ok.ensures.0.1) w.0
+
+pub paired-requires-clause-right : goal.paired-requires-clause-right
+paired-requires-clause-right c =
+    let w = two_written c.args.at (map string_bytes c.args.first.now) (map string_bytes c.numbers.result.0.now) c.in-Ok.ensures.1 in
+    subst IsWritten (sym c.in-Ok.ensures.0.2) w.1
+
+pub read_later-requires-clause-place : goal.read_later-requires-clause-place
+read_later-requires-clause-place c =
+    let later = c.args.later.now in
+    let second = c.numbers.result.0.now in
+    let rest = c.numbers.result.1.now in
+    let l = length-map later string_bytes in
+    let m = length-map second string_bytes in
+    let r = length-map rest string_bytes in
+    let b = ap length c.numbers.ensures.parts in
+    let s = length-append (map string_bytes second) (map string_bytes rest) in
+    let p = c.requires in
+    omega (arith, l, m, r, b, s, p)
+
+pub read_later-requires-clause-written : goal.read_later-requires-clause-written
+read_later-requires-clause-written c =
+    let w = two_written c.args.at (map string_bytes c.args.first.now) (map string_bytes c.numbers.result.0.now) c.in-Ok.ensures.1 in
+    let both : EachOf IsWritten (c.in-Ok.two.first ∷ c.in-Ok.two.second ∷ []) =
+    (subst IsWritten (sym c.in-Ok.ensures.0.1) w.0, (subst IsWritten (sym c.in-Ok.ensures.0.2) w.1, tt)) in
+    subst (EachOf IsWritten) (sym c.in-Ok-paired.ensures.0) both
+
+pub returns-in-Err : goal.returns-in-Err
+returns-in-Err c =
+    λ second others e n o.
+    let at = c.args.at in
+    let first = map string_bytes c.args.first.now in
+    let list = map string_bytes c.numbers.result.0.now in
+    let k = run_cut (map string_bytes c.args.later.now) second list (map string_bytes c.numbers.result.1.now) others e n
+    c.numbers.ensures.parts c.numbers.ensures.numbers c.numbers.ensures.rest in
+    two_faulty (AreShapes None (partition first) (partition list)) (λ (f : List (List ℕ)). f ≡ partition first ∷ partition second ∷ map partition others) at first second others c.in-Err.fault
+    (subst (λ ws. IsJudged (AreShapes None (partition first) (partition list)) (first_offence (two_partitions at first ws)) (Err c.in-Err.fault)) (sym k.0) c.in-Err.ensures)
+
+pub returns-in-Ok-paired : goal.returns-in-Ok-paired
+returns-in-Ok-paired c =
+    λ second others e n o.
+    let at = c.args.at in
+    let first = map string_bytes c.args.first.now in
+    let list = map string_bytes c.numbers.result.0.now in
+    let after = at + length c.args.first.now + 1 + length c.numbers.result.0.now in
+    let k = run_cut (map string_bytes c.args.later.now) second list (map string_bytes c.numbers.result.1.now) others e n
+    c.numbers.ensures.parts c.numbers.ensures.numbers c.numbers.ensures.rest in
+    let f = length-map c.args.first.now string_bytes in
+    let l = length-map c.numbers.result.0.now string_bytes in
+    let s = ap length k.0 in
+    let fs : c.in-Ok-paired.factors ≡ partition first ∷ partition second ∷ [] =
+    c.in-Ok-paired.ensures.0
+    ∙ ap (λ p. p ∷ c.in-Ok.two.second ∷ []) c.in-Ok.ensures.0.1
+    ∙ ap (λ p. partition first ∷ p ∷ []) (c.in-Ok.ensures.0.2 ∙ ap partition (sym k.0)) in
+    two_fine (λ (g : List (List ℕ)). g ≡ partition first ∷ partition second ∷ map partition others) at after first second others c.read_later.result
+    (omega (arith, f, l, s))
+    (ap (λ ws. first_offence (two_partitions at first ws)) k.0 ∙ c.in-Ok.ensures.1)
+    (subst
+    (λ gs. IsJudged (λ (g : List (List ℕ)). g ≡ gs ++ map partition others) (first_offence (factor_offences (length gs) (after + 1) (map numbers others))) c.read_later.result)
+    fs (c.read_later.ensures others k.1 o))

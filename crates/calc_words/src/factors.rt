@@ -1,0 +1,120 @@
+//! Factors as they are written, one after another.
+ghost use Rattle.std.specs.Prelude.{◌≡◌, ◌<◌, ◌+◌, ◌^◌, ℕ, List, [], ◌∷◌, ◌++◌, length, map, string_bytes};
+ghost use Rattle.sym_model.specs.CommandOffence.{first_offence, part_offences, factor_offences};
+ghost use Rattle.sym_model.specs.Form.{EachOf};
+ghost use Rattle.sym_model.specs.WordForms.{numbers as numbers_of, partition};
+ghost use Rattle.calc_words.specs.NumberRuns.{IsNumber};
+ghost use Rattle.calc_words.specs.Reading.{IsJudged};
+ghost use Rattle.calc_words.specs.WrittenLimits.{IsWritten};
+ghost use Rattle.calc_words.specs.FactorWords.{next_text};
+ghost use Rattle.calc_words.specs.ReadProducts.{ninth_offences};
+
+use calc_base::{Place, WordsFault};
+use crate::{TwoShapes, behind, numbers_first, read_partition, read_two};
+use partitions::{Factors, FactorsFault};
+use partitions::Partition;
+use std::alloc::Global;
+
+/// The most factors.
+const MOST_FACTORS: usize = 8;
+
+/// One more factor, for which there is room.
+fn pushed(factors: Factors, next: Partition) -> Result<Factors, WordsFault>
+    requires room { length factors < 8 }
+    requires written { EachOf IsWritten factors }
+    requires next { IsWritten next }
+    ensures { IsJudged (λ f. f ≡ factors ++ next ∷ []) None result }
+{
+    let mut factors = factors;
+    match factors.push(next) {
+        Ok(()) => Ok(factors),
+        Err(FactorsFault::NoMemory) => Err(WordsFault::NoMemory),
+        Err(FactorsFault::TooMany) => unreachable!(),
+        Err(FactorsFault::TooBig) => unreachable!(),
+    }
+}
+
+/// These factors and, behind the word `at`, the next one, or its first offence: the ninth one offends at that word.
+fn next_factor(
+    alloc: Global,
+    at: u64,
+    factors: Factors,
+    list: &[String],
+) -> Result<Factors, WordsFault>
+    requires place { at + 1 + length list.now < 2 ^ 64 }
+    requires written { EachOf IsWritten factors }
+    ensures { IsJudged (λ f. f ≡ factors ++ partition (map string_bytes list.now) ∷ [])
+        (first_offence (ninth_offences (length factors) at ++ part_offences (at + 1) (numbers_of (map string_bytes list.now)))) result }
+{
+    if factors.len() == MOST_FACTORS {
+        return Err(WordsFault::Range {
+            at: Place { word: at, byte: 0 },
+        });
+    }
+    match read_partition(alloc, at + 1, list) {
+        Err(fault) => Err(fault),
+        Ok(next) => pushed(factors, next),
+    }
+}
+
+/// These factors and those behind them, each behind a `-`, the first of which is the word `at`, or the first offence.
+fn read_later(
+    alloc: Global,
+    at: u64,
+    factors: Factors,
+    words: &[String],
+) -> Result<Factors, WordsFault>
+    requires place { at + length words.now < 2 ^ 64 }
+    requires written { EachOf IsWritten factors }
+    ensures { (others : List (List (List ℕ))) → map string_bytes words.now ≡ next_text others → EachOf (EachOf IsNumber) others
+        → IsJudged (λ f. f ≡ factors ++ map partition others)
+        (first_offence (factor_offences (length factors) (at + 1) (map numbers_of others))) result }
+{
+    let Some(later) = behind(words, "-") else {
+        return Ok(factors);
+    };
+    let (list, rest) = numbers_first(later);
+    let after = at + 1 + list.len() as u64;
+    match next_factor(alloc, at, factors, list) {
+        Err(fault) => Err(fault),
+        Ok(factors) => read_later(alloc, after, factors, rest),
+    }
+}
+
+/// Two factors.
+fn paired(alloc: Global, left: Partition, right: Partition) -> Result<Factors, WordsFault>
+    requires left { IsWritten left }
+    requires right { IsWritten right }
+    ensures { IsJudged (λ f. f ≡ left ∷ right ∷ []) None result }
+{
+    match Factors::pair(alloc, left, right) {
+        Ok(factors) => Ok(factors),
+        Err(FactorsFault::NoMemory) => Err(WordsFault::NoMemory),
+        Err(FactorsFault::TooMany) => unreachable!(),
+        Err(FactorsFault::TooBig) => unreachable!(),
+    }
+}
+
+/// The factors of which the first begins at the word `at` and the others stand behind a `-`, or the first offence.
+pub(crate) fn read_factors(
+    alloc: Global,
+    at: u64,
+    first: &[String],
+    later: &[String],
+) -> Result<Factors, WordsFault>
+    requires { at + length first.now + 1 + length later.now < 2 ^ 64 }
+    ensures { (second : List (List ℕ)) (others : List (List (List ℕ))) → map string_bytes later.now ≡ second ++ next_text others
+        → EachOf IsNumber second → EachOf (EachOf IsNumber) others
+        → IsJudged (λ f. f ≡ partition (map string_bytes first.now) ∷ partition second ∷ map partition others)
+        (first_offence (factor_offences 0 at (numbers_of (map string_bytes first.now) ∷ numbers_of second ∷ map numbers_of others))) result }
+{
+    let (second, rest) = numbers_first(later);
+    let after = at + first.len() as u64 + 1 + second.len() as u64;
+    match read_two(alloc, at, None, first, second) {
+        Err(fault) => Err(fault),
+        Ok(two) => match paired(alloc, two.first, two.second) {
+            Err(fault) => Err(fault),
+            Ok(factors) => read_later(alloc, after, factors, rest),
+        },
+    }
+}

@@ -1,3 +1,0 @@
-pub mod FewVariables
-pub mod SymmetricPolynomials
-pub mod Families

@@ -1,2 +1,0 @@
-pub mod SymmetricFamily
-pub mod PartitionAtoms

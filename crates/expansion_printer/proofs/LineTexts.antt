@@ -1,0 +1,73 @@
+-- Coefficients as they are printed, and terms one after another.
+use Rattle.std.proofs.Common.{◌≡◌, ℕ, zero, suc, ◌<◌, length, get_or, arith, Bool, true, false, List, [], ◌∷◌, ◌++◌, cond, eqb, ℤ, nat_abs, refl, sym, ◌∙◌, ap, append_assoc, append-nil, decimal}
+use Rattle.std.specs.Prelude.{codes}
+use Rattle.std.proofs.lemmas.Bool.{and_parts, eqb-true, cond-false}
+use Rattle.sym_model.specs.Expansion.{Basis, Fraction, Terms}
+use Rattle.sym_model.specs.NumberText.{fraction_text}
+use Rattle.sym_model.specs.OneLine.{is_unit, is_negative, without_sign, unsigned_text, later_text, one_line}
+use Rattle.expansion_printer.specs.SignedTerms.{coefficient_text, signed_text, signed_terms, is_empty}
+
+-- what stands at a place inside a list does not depend on what is read past its end
+pub get_or-any : (numbers : List ℕ) (at first second : ℕ) → at < length numbers → get_or numbers at first ≡ get_or numbers at second
+get_or-any [] at first second below = absurd (omega arith)
+get_or-any (a ∷ numbers) zero first second below = refl
+get_or-any (a ∷ numbers) (suc at) first second below = get_or-any numbers at first second (omega arith)
+
+not_unit : (num : ℤ) (den size : ℕ) → size ≡ nat_abs num → (size ≡ 1 → den ≡ 1 → ⊥) → is_unit (num, den) ≡ false
+not_unit num den size e other = by (is_unit (num, den)) refl
+  where
+    by : (b : Bool) → is_unit (num, den) ≡ b → b ≡ false
+    by true h =
+        let p = and_parts (eqb (nat_abs num) 1) (eqb den 1) h in
+        absurd (other (e ∙ eqb-true (nat_abs num) 1 p.0) (eqb-true den 1 p.1))
+    by false h = refl
+
+-- a coefficient whose absolute value is not 1, as it is put
+pub coefficient-printed : (num : ℤ) (den size : ℕ) → size ≡ nat_abs num → (size ≡ 1 → den ≡ 1 → ⊥)
+    → decimal size ++ (cond (eqb den 1) [] (47 ∷ decimal den) ++ codes "*") ≡ coefficient_text (num, den)
+coefficient-printed num den size e other =
+    ap (λ n. decimal n ++ (cond (eqb den 1) [] (47 ∷ decimal den) ++ codes "*")) e
+    ∙ by (eqb den 1)
+    ∙ sym (cond-false (is_unit (num, den)) [] (fraction_text (without_sign (num, den)) ++ codes "*") (not_unit num den size e other))
+  where
+    by : (b : Bool) → decimal (nat_abs num) ++ (cond b [] (47 ∷ decimal den) ++ codes "*")
+        ≡ cond b (decimal (nat_abs num)) (decimal (nat_abs num) ++ (47 ∷ decimal den)) ++ codes "*"
+    by true = refl
+    by false = sym (append_assoc (decimal (nat_abs num)) (47 ∷ decimal den) (codes "*"))
+
+-- ---- terms one after another
+
+later_text-push : (basis : Basis) (terms : Terms (List ℕ)) (t : List ℕ × Fraction) → later_text basis terms ++ signed_text basis false t ≡ later_text basis (terms ++ t ∷ [])
+later_text-push basis [] t =
+    ap (λ text. cond (is_negative t.1.0) (codes "-") (codes "+") ++ text) (sym (append-nil (unsigned_text basis t)))
+later_text-push basis (u ∷ terms) t =
+    append_assoc (cond (is_negative u.1.0) (codes "-") (codes "+")) (unsigned_text basis u ++ later_text basis terms) (signed_text basis false t)
+    ∙ ap (λ text. cond (is_negative u.1.0) (codes "-") (codes "+") ++ text)
+    (append_assoc (unsigned_text basis u) (later_text basis terms) (signed_text basis false t)
+    ∙ ap (λ text. unsigned_text basis u ++ text) (later_text-push basis terms t))
+
+-- one more term
+pub signed_terms-push : (basis : Basis) (terms : Terms (List ℕ)) (is_first : Bool) (t : List ℕ × Fraction) → is_first ≡ is_empty terms
+    → signed_terms basis terms ++ signed_text basis is_first t ≡ signed_terms basis (terms ++ t ∷ [])
+signed_terms-push basis [] is_first t e = ap (λ b. signed_text basis b t) e ∙ sym (append-nil (signed_text basis true t))
+signed_terms-push basis (u ∷ terms) is_first t e =
+    ap (λ b. signed_terms basis (u ∷ terms) ++ signed_text basis b t) e
+    ∙ append_assoc (signed_text basis true u) (later_text basis terms) (signed_text basis false t)
+    ∙ ap (λ text. signed_text basis true u ++ text) (later_text-push basis terms t)
+
+-- where one was put, there is one
+pub is_empty-push : (terms : Terms (List ℕ)) (t : List ℕ × Fraction) → false ≡ is_empty (terms ++ t ∷ [])
+is_empty-push [] t = refl
+is_empty-push (u ∷ terms) t = refl
+
+-- the terms and the end of their line
+pub one_line-some : (basis : Basis) (terms : Terms (List ℕ)) → 0 < length terms → signed_terms basis terms ++ codes "\n" ≡ one_line basis terms
+one_line-some basis [] some = absurd (omega arith)
+one_line-some basis (t ∷ terms) some =
+    append_assoc (signed_text basis true t) (later_text basis terms) (codes "\n")
+    ∙ append_assoc (cond (is_negative t.1.0) (codes "-") []) (unsigned_text basis t) (later_text basis terms ++ codes "\n")
+
+-- the line of no terms
+pub one_line-nothing : (basis : Basis) (terms : Terms (List ℕ)) → length terms ≡ 0 → codes "0\n" ≡ one_line basis terms
+one_line-nothing basis [] none = refl
+one_line-nothing basis (t ∷ terms) none = absurd (omega arith)

@@ -1,5 +1,0 @@
-use Rattle.expansion_rows.proofs.Labels.{second_fits}
-use Rattle.expansion_rows.proofs.products.product_with_variable.Goals as goal
-
-pub times_var-requires-clause-room : goal.times_var-requires-clause-room
-times_var-requires-clause-room c t m = second_fits t.0 (c.in_ok-list.ensures t m)

@@ -1,5 +1,0 @@
-use Rattle.std.proofs.Common.{◌≡◌, take}
-use Rattle.factor_lists.proofs.factors.Factors.copy.Given as goal
-
-abbrev pub invariant-loop-factor : goal.invariant-loop-factor
-invariant-loop-factor l = l.factors.items ≡ take l.factor-index l.self-inside.factors.items

@@ -1,6 +1,0 @@
-mod TableLists
-mod CountSums
-mod PastCoefficients
-mod FactorSums
-mod Partial
-mod NothingLeft

@@ -1,7 +1,0 @@
-use Rattle.std.proofs.Common.{refl, arith}
-use Rattle.factor_products.proofs.Partial.{among_at}
-use Rattle.factor_products.proofs.product.has_longer.Goals as goal
-
-pub returns-then-rows-k : goal.returns-then-rows-k
-returns-then-rows-k c =
-    (λ _. (c.factor_at.result.now, among_at c.args.factors.now c.loop-at.at c.factor_at.result.now c.factor_at.ensures, omega (arith, c.rows.ensures.value)), λ _. refl)

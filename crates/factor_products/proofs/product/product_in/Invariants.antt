@@ -1,7 +1,0 @@
-use Rattle.std.proofs.Common.{take}
-use Rattle.factor_products.proofs.Partial.{IsPartial}
-use Rattle.factor_products.proofs.product.product_in.Given as goal
-
--- the list is the product of the factors so far
-abbrev pub invariant-loop-at : goal.invariant-loop-at
-invariant-loop-at l = IsPartial l.variables (take l.at l.factors) l.product

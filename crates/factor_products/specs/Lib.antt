@@ -1,2 +1,0 @@
-pub mod ProductOfFactors
-pub mod Tables

@@ -1,5 +1,0 @@
-pub mod FactorStanding
-pub mod FactorCuts
-pub mod FactorJudging
-pub mod FactorLimits
-pub mod FactorCommands

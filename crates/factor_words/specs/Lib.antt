@@ -1,2 +1,0 @@
-pub mod FactorWords
-pub mod ReadProducts

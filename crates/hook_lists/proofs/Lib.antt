@@ -1,4 +1,0 @@
-pub mod LoneShapes
-pub mod AddedShapes
-pub mod RemovedShapes
-pub mod ListerSteps

@@ -1,9 +1,0 @@
-use Rattle.std.proofs.Common.{◌≡◌, take, map, length}
-use Rattle.sym_model.specs.Partition.{after}
-use Rattle.hook_lists.specs.RemovedHooks.{left_row}
-use Rattle.hook_lists.proofs.hooks_removed.write_rows.Given as goal
-
--- the rows so far are written
-abbrev pub invariant-loop-above : goal.invariant-loop-above
-invariant-loop-above l =
-    (take l.above l.buffer ≡ map (left_row l.k l.outer l.hook.first l.hook.last) (after 0 l.above)) × (length l.buffer ≡ length l.initial.buffer)

@@ -1,3 +1,0 @@
-pub mod HookLists
-pub mod AddedHooks
-pub mod RemovedHooks

@@ -1,0 +1,5 @@
+use Rattle.library_rows.proofs.Labels.{second_fits}
+use Rattle.library_rows.proofs.products.product_with_variable.Goals as goal
+
+pub times_var-requires-clause-room : goal.times_var-requires-clause-room
+times_var-requires-clause-room c t m = second_fits t.0 (c.in_ok-list.ensures t m)

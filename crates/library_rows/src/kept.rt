@@ -1,0 +1,41 @@
+//! Rows of a store that keeps one Schubert polynomial.
+use crate::printing::polynomial;
+use anyhow::Result;
+use coeff_rings::Int;
+use sparse_polys::Poly;
+use perm_codes::Perm;
+use row_texts::said;
+use schubert_transition::Memo;
+use std::alloc::Global;
+
+/// Prints the rows of the crate `schubert_memo`.
+pub fn print(rt: &(impl Print + Alloc<A = Global>)) -> Result<()> {
+    let w = Perm::from_letters(rt.alloc(), &[1, 3, 2])?;
+    let v = Perm::from_letters(rt.alloc(), &[2, 1])?;
+    with_both(rt, &w, &v)
+}
+
+fn with_both(rt: &(impl Print + Alloc<A = Global>), w: &Perm, v: &Perm) -> Result<()> {
+    let mut memo = Memo::new(rt.alloc(), 1)?;
+    asked(rt, &mut memo, w, v)
+}
+
+/// Prints what a store answers on two permutations.
+fn asked(rt: &impl Print, memo: &mut Memo, w: &Perm, v: &Perm) -> Result<()> {
+    answered(rt, "S_(1,3,2)", memo, w)?;
+    answered(rt, "S_(1,3,2) again", memo, w)?;
+    held(rt, memo.kept(w))?;
+    answered(rt, "S_(2,1)", memo, v)?;
+    held(rt, memo.kept(w))
+}
+
+fn answered(rt: &impl Print, what: &str, memo: &mut Memo, w: &Perm) -> Result<()> {
+    polynomial(rt, what, memo.schubert(w)?)
+}
+
+fn held(rt: &impl Print, answer: Option<&Poly<Int>>) -> Result<()> {
+    match answer {
+        Some(list) => polynomial(rt, "kept S_(1,3,2)", list.copy()?),
+        None => said(rt, "kept S_(1,3,2)", &"none"),
+    }
+}

@@ -1,0 +1,89 @@
+//! How terms are printed: the coefficient, and the label in brackets.
+use anyhow::Result;
+use block_reader::ReadBackFault;
+use coeff_rings::{Digits, Frac, Int, Scalar};
+use expansion_printer::Answer;
+use sparse_polys::{Monomial, Poly};
+use partitions::Partition;
+use perm_codes::Perm;
+use row_texts::{end, said, start, term};
+use sparse_polys::{Lin, Terms};
+
+/// Prints what a text is read as.
+pub fn read_as(rt: &impl Print, what: &str, read: Result<Answer, ReadBackFault>) -> Result<()> {
+    match read {
+        Ok(answer) => answered(rt, what, &answer),
+        Err(ReadBackFault::NotPrinted) => said(rt, what, &"refused"),
+        Err(ReadBackFault::NoMemory) => said(rt, what, &"no memory"),
+    }
+}
+
+fn answered(rt: &impl Print, what: &str, answer: &Answer) -> Result<()> {
+    match answer {
+        Answer::Expansion { terms } => fractions(rt, what, terms),
+        Answer::Product { terms } => shapes(rt, what, terms),
+        _ => said(rt, what, &"another kind"),
+    }
+}
+
+/// Prints an expansion with fractions.
+pub fn expansion(rt: &impl Print, what: &str, list: Lin<Partition, Frac>) -> Result<()> {
+    let sorted = list.sorted_terms()?;
+    fractions(rt, what, &sorted)
+}
+
+fn fractions(rt: &impl Print, what: &str, list: &Terms<Partition, Frac>) -> Result<()> {
+    start(rt, what)?;
+    for (shape, c) in list.iter() {
+        fraction(rt, *c, shape.parts())?;
+    }
+    end(rt)
+}
+
+fn fraction(rt: &impl Print, c: Frac, parts: &[u16]) -> Result<()> {
+    let mut digits = Digits::new();
+    c.digits(&mut digits);
+    term(rt, &str::from_utf8(digits.as_bytes())?, parts)
+}
+
+/// Prints an expansion with whole numbers.
+pub fn sum(rt: &impl Print, what: &str, list: Lin<Partition, Int>) -> Result<()> {
+    let sorted = list.sorted_terms()?;
+    shapes(rt, what, &sorted)
+}
+
+fn shapes(rt: &impl Print, what: &str, list: &Terms<Partition, Int>) -> Result<()> {
+    start(rt, what)?;
+    for (shape, c) in list.iter() {
+        term(rt, &c.get(), shape.parts())?;
+    }
+    end(rt)
+}
+
+/// Prints a polynomial, each monomial by its exponents.
+pub fn polynomial(rt: &impl Print, what: &str, list: Poly<Int>) -> Result<()> {
+    let sorted = list.sorted_terms()?;
+    monomials(rt, what, &sorted)
+}
+
+fn monomials(rt: &impl Print, what: &str, list: &Terms<Monomial, Int>) -> Result<()> {
+    start(rt, what)?;
+    for (monomial, c) in list.iter() {
+        term(rt, &c.get(), monomial.exponents())?;
+    }
+    end(rt)
+}
+
+/// Prints a sum of Schubert polynomials, each permutation by its letters.
+pub fn schubert_sum(rt: &impl Print, what: &str, list: Lin<Perm, Int>) -> Result<()> {
+    let sorted = list.sorted_terms()?;
+    permutations(rt, what, &sorted)
+}
+
+fn permutations(rt: &impl Print, what: &str, list: &Terms<Perm, Int>) -> Result<()> {
+    start(rt, what)?;
+    for (w, c) in list.iter() {
+        term(rt, &c.get(), w.letters())?;
+    }
+    end(rt)
+}

@@ -1,0 +1,69 @@
+//! Rows of changes of basis and of texts that are read back.
+use crate::printing::{expansion, read_as};
+use anyhow::Result;
+use basis_change::to_basis;
+use basis_expand::to_monomial;
+use block_reader::read_back;
+use calc_base::SumFault;
+use calc_expressions::{Basis, Expr, Formula};
+use coeff_rings::Frac;
+use expansion_printer::Kind;
+use block_reader::read_one_line;
+use partitions::Partition;
+use row_texts::said;
+use sparse_polys::Lin;
+use std::alloc::Global;
+
+/// Prints the rows of the crates `basis_change`, `block_reader` and `one_line_reader`.
+pub fn print(rt: &(impl Print + Alloc<A = Global>)) -> Result<()> {
+    in_power_sums(rt)?;
+    blocks(rt)?;
+    line(rt, "the line of s_(2,1) in p", "-1/3*p[3]+1/3*p[1,1,1]\n")?;
+    line(rt, "1*s[1] as a line in p", "1*s[1]\n")
+}
+
+/// Prints the Schur polynomial of (2,1) in power sums.
+fn in_power_sums(rt: &(impl Print + Alloc<A = Global>)) -> Result<()> {
+    let label = Partition::from_parts(rt.alloc(), &[2, 1])?;
+    let basis = Basis::S;
+    match Formula::from_tree(Expr::Atom { basis, label }) {
+        Ok(formula) => expansion(rt, "s_(2,1) in p", expanded(rt.alloc(), &formula)?),
+        Err(_) => said(rt, "s_(2,1) in p", &"no formula"),
+    }
+}
+
+/// A formula of at most 15 cells in power sums.
+fn expanded(alloc: Global, formula: &Formula) -> Result<Lin<Partition, Frac>, SumFault> {
+    let list = to_monomial(alloc, formula)?;
+    let Some(bound) = formula.weight() else {
+        return Err(SumFault::Large);
+    };
+    if bound.num == 0 || bound.den == 0 || formula.degree() > 15 {
+        return Err(SumFault::Large);
+    }
+    to_basis(alloc, &list, bound, Basis::P)
+}
+
+fn blocks(rt: &(impl Print + Alloc<A = Global>)) -> Result<()> {
+    let (product, expansion) = (Kind::Product, Kind::Expansion);
+    block(
+        rt,
+        "the block of 1 at (2) as a product",
+        "1  (2)\n",
+        product,
+    )?;
+    block(rt, "2/4 at (2) as an expansion", "2/4  (2)\n", expansion)?;
+    block(rt, "1/2 at (2) as an expansion", "1/2  (2)\n", expansion)?;
+    block(rt, "a block without its last line feed", "1  (2)", product)
+}
+
+/// Prints what a block is read as.
+fn block(rt: &(impl Print + Alloc<A = Global>), what: &str, text: &str, kind: Kind) -> Result<()> {
+    read_as(rt, what, read_back(rt.alloc(), text.as_bytes(), kind))
+}
+
+/// Prints what a line of an expansion in p is read as.
+fn line(rt: &(impl Print + Alloc<A = Global>), what: &str, text: &str) -> Result<()> {
+    let read = read_one_line(rt.alloc(), text.as_bytes(), Kind::Expansion, Basis::P);
+    read_as(rt, what, read)
+}

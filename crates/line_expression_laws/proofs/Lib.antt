@@ -1,5 +1,0 @@
--- Lemmas of the crate.
-pub mod LinePhrases
-pub mod LineValues
-pub mod LineOffences
-pub mod LineExpressions

@@ -1,0 +1,67 @@
+-- A factor with more rows than there are variables leaves nothing of the product.
+use Rattle.std.proofs.Common.{◌≡◌, ◌≤◌, ◌<◌, ◌+◌, inl, inr, ℕ, max, List, [], ◌∷◌, map, true, false, refl, sym, ◌∙◌, ap, arith, ℤ, pos, Option, Some, None}
+use Rattle.std.specs.Prelude.{IsTrue}
+use Rattle.std.specs.Option.{unwrap_or}
+use Rattle.std.proofs.lemmas.Int.{ints}
+use Rattle.sym_model.specs.Sum.{Among}
+use Rattle.sym_model.specs.Polynomial.{Poly, Same, nothing, join, coefficient, times}
+use Rattle.sym_model.specs.Partition.{IsPartition, size, rows}
+use Rattle.sym_model.specs.Schur.{schur}
+use Rattle.sym_model.specs.Alternant.{alternant, staircase}
+use Rattle.sym_model.specs.Expansion.{Terms}
+use Rattle.sym_model.specs.Kind.{product}
+use Rattle.sym_model.specs.Answer.{answer}
+use Rattle.sym_model.specs.Command.{mult}
+use Rattle.sym_model.specs.Target.{Meets, schur_product}
+use Rattle.sym_model.specs.LargeAnswer.{HasPastCoefficient, is_past}
+use Rattle.sym_model.proofs.Polynomials.{at_only, coefficient_pair, pair_times, pair_zero, Same_refl, Same_sym, times_respects}
+use Rattle.sym_model.proofs.WholeTerms.{represents-whole}
+use Rattle.product_laws.specs.CountedProducts.{IsShownIn}
+use Rattle.product_laws.proofs.Expanding.{product_nothing}
+
+-- some factor has more than k rows
+abbrev pub HasLonger : ℕ → List (List ℕ) → Type 0
+HasLonger k factors = (parts : List ℕ) × Among parts factors × (k < rows parts)
+
+among_rows : (factors : List (List ℕ)) (parts : List ℕ) → Among parts factors → rows parts ≤ size (map rows factors)
+among_rows [] parts m = absurd m
+among_rows (x ∷ factors) parts (inl e) = let d = ap rows e in omega arith
+among_rows (x ∷ factors) parts (inr m) = let h = among_rows factors parts m in omega arith
+
+coefficient_of_nothing : (f g : Poly) (α : List ℕ) → Same g nothing → coefficient (times f g) α ≡ pos 0
+coefficient_of_nothing f g α e =
+    times_respects f f g nothing (Same_refl f) e α
+    ∙ coefficient_pair (times f nothing) α ∙ pair_times f nothing (at_only α) ∙ pair_zero f
+
+pub nothing_meets : (given : Option ℕ) (k : ℕ) (factors : List (List ℕ)) (terms : Terms (List ℕ)) → k ≡ unwrap_or given (max (size (map rows factors)) 1)
+    → ((parts : List ℕ) → Among parts factors → IsPartition parts) → HasLonger k factors → terms ≡ [] → Meets (mult given false factors) (answer product terms)
+nothing_meets given k factors (t ∷ terms) e are h none = absurd (cc)
+nothing_meets None k factors [] e are h none = let l = among_rows factors h.0 h.1 in let m = h.2 in absurd (omega arith)
+nothing_meets (Some n) k factors [] e are h none = (
+  represents-whole (λ label. schur label n) [] (schur_product factors n) tt
+      (Same_sym (schur_product factors n) nothing (product_nothing n factors h.0 h.1 (are h.0 h.1) (let m = h.2 in omega arith))),
+  λ t m. absurd m,
+)
+
+pub nothing_fits : (given : Option ℕ) (k : ℕ) (factors : List (List ℕ)) → k ≡ unwrap_or given (max (size (map rows factors)) 1)
+    → ((parts : List ℕ) → Among parts factors → IsPartition parts) → HasLonger k factors → HasPastCoefficient (mult given false factors) → ⊥
+nothing_fits None k factors e are h past = let l = among_rows factors h.0 h.1 in let m = h.2 in omega arith
+nothing_fits (Some n) k factors e are h past =
+    let s = past.1 in
+    let zero : past.0 ≡ pos 0 =
+    s.is ∙ coefficient_of_nothing (alternant (staircase n)) (schur_product factors n) (join s.parts (staircase n)) (product_nothing n factors h.0 h.1 (are h.0 h.1) (let m = h.2 in omega arith)) in
+    small past.0 zero past.2
+  where
+    small : (z : ℤ) → z ≡ pos 0 → is_past z ≡ true → ⊥
+    small z e h = let none : is_past z ≡ is_past (pos 0) = ap is_past e in cc
+
+-- the variables that are taken show the product
+pub shown : (given : Option ℕ) (k n : ℕ) → k ≡ unwrap_or given (max n 1) → IsShownIn given n k
+shown None k n e = omega arith
+shown (Some m) k n e = sym e
+
+pub shows_all : (k : ℕ) (factors : List (List ℕ)) → (HasLonger k factors → ⊥) → (parts : List ℕ) → Among parts factors → rows parts ≤ k
+shows_all k factors h parts m = not_more k (rows parts) (λ l. h (parts, m, l))
+  where
+    not_more : (a b : ℕ) → (a < b → ⊥) → b ≤ a
+    not_more a b g = omega (arith, g)

@@ -1,0 +1,151 @@
+-- Coefficients of a product past 2^127 - 1, by its list and by its definition.
+use Rattle.std.proofs.Common.{◌≡◌, ◌≤◌, ◌<◌, ◌+◌, ◌^◌, ◌⊎◌, inl, inr, Bool, true, false, cond, ℕ, zero, suc, max, List, [], ◌∷◌, length, map, refl, sym, ◌∙◌, ap, subst, arith, ℤ, pos, negsuc, Option, Some, None}
+use Rattle.std.specs.Prelude.{◌≤ℤ◌, ◌<ℤ◌, IsTrue}
+use Rattle.std.specs.Option.{unwrap_or}
+use Rattle.std.proofs.lemmas.Bool.{cases_lt, leb-true, le-leb}
+use Rattle.std.proofs.lemmas.Int.{ints}
+use Rattle.sym_model.specs.Sum.{Among}
+use Rattle.sym_model.specs.Partition.{IsPartition, size, rows}
+use Rattle.sym_model.specs.Polynomial.{Poly, Term, coefficient, times}
+use Rattle.sym_model.specs.Schur.{schur}
+use Rattle.sym_model.specs.Alternant.{schur_coefficient}
+use Rattle.sym_model.specs.Command.{mult}
+use Rattle.sym_model.specs.Target.{schur_product, classical_product}
+use Rattle.sym_model.specs.LargeAnswer.{IsSchurCoefficientOf, is_past, HasPastCoefficient}
+use Rattle.alternant_laws.proofs.ClassicalProducts.{classical_product-coefficient, classical_product-term}
+use Rattle.product_laws.specs.FactorSteps.{ArePartitions}
+use Rattle.product_laws.specs.CountedProducts.{AreCounts, Reaches}
+use Rattle.product_laws.proofs.CountLists.{counts-coefficient, some_term}
+use Rattle.product_laws.proofs.Growing.{counted-all}
+use Rattle.partitions.specs.FactorList.{AreFactors}
+use Rattle.lr_product.specs.ProductOfFactors.{AreSmallCounts}
+
+-- some Schur coefficient of the product in k variables is past 2^127 - 1
+abbrev pub IsPastIn : ℕ → List (List ℕ) → Type 0
+IsPastIn k factors = (c : ℤ) × IsSchurCoefficientOf (schur_product factors k) k c × IsTrue (is_past c)
+
+past_is : (z : ℤ) → is_past z ≡ true → pos (2 ^ 127) ≤ℤ z
+past_is (pos n) h = let l : 2 ^ 127 ≤ n = leb-true (2 ^ 127) n h in omega (arith, ints)
+past_is (negsuc n) h = absurd (cc)
+
+is_past-from : (z : ℤ) → pos (2 ^ 127) ≤ℤ z → is_past z ≡ true
+is_past-from (pos n) h = let l : 2 ^ 127 ≤ n = omega (arith, ints) in le-leb (2 ^ 127) n l
+is_past-from (negsuc n) h = absurd (omega (arith, ints))
+
+pub past_reaches : (k : ℕ) (factors : List (List ℕ)) → IsPastIn k factors → Reaches k (2 ^ 127) (classical_product k factors)
+past_reaches k factors h =
+    let s = h.1 in
+    record {
+      parts = s.parts;
+      partition = s.partition;
+      within = s.within;
+      reaches = subst (λ (z : ℤ). pos (2 ^ 127) ≤ℤ z) (s.is ∙ sym (classical_product-coefficient k factors s.parts s.partition s.within)) (past_is h.0 h.2);
+    }
+
+pub reaches_past : (k : ℕ) (factors : List (List ℕ)) → Reaches k (2 ^ 127) (classical_product k factors) → IsPastIn k factors
+reaches_past k factors r = (
+  schur_coefficient k r.parts (schur_product factors k),
+  record { parts = r.parts; partition = r.partition; within = r.within; is = refl },
+  is_past-from (schur_coefficient k r.parts (schur_product factors k))
+      (subst (λ (z : ℤ). pos (2 ^ 127) ≤ℤ z) (classical_product-coefficient k factors r.parts r.partition r.within) r.reaches),
+)
+
+pub small_not_past : (k : ℕ) (factors : List (List ℕ)) → AreSmallCounts (classical_product k factors) → IsPastIn k factors → ⊥
+small_not_past k factors small h =
+    let r = past_reaches k factors h in
+    let s = (small r.parts).1 in
+    let g = r.reaches in
+    omega (arith, ints)
+
+pub not_past_small : (k : ℕ) (first : List ℕ) (rest : List (List ℕ)) → ArePartitions (first ∷ rest) → (IsPastIn k (first ∷ rest) → ⊥) → AreSmallCounts (classical_product k (first ∷ rest))
+not_past_small k first rest p h parts =
+    (counts-coefficient (classical_product k (first ∷ rest)) parts (counted-all k first rest p).counts, below (coefficient (classical_product k (first ∷ rest)) parts) refl)
+  where
+    large : (n : ℕ) → coefficient (classical_product k (first ∷ rest)) parts ≡ pos n → 2 ^ 127 ≤ n → ⊥
+    large n e l =
+        let found = some_term (classical_product k (first ∷ rest)) parts (λ z. omega (arith, ints)) in
+        let c = classical_product-term k (first ∷ rest) found.0 found.1 in
+        h (reaches_past k (first ∷ rest) (record {
+          parts = parts;
+          partition = subst IsPartition found.2 c.partition;
+          within = subst (λ label. rows label ≤ k) found.2 c.few;
+          reaches = omega (arith, ints);
+        }))
+
+    by : (n : ℕ) → coefficient (classical_product k (first ∷ rest)) parts ≡ pos n → (n < 2 ^ 127) ⊎ (2 ^ 127 ≤ n) → pos n <ℤ pos (2 ^ 127)
+    by n e (inl l) = omega (arith, ints)
+    by n e (inr l) = absurd (large n e l)
+
+    below : (z : ℤ) → coefficient (classical_product k (first ∷ rest)) parts ≡ z → coefficient (classical_product k (first ∷ rest)) parts <ℤ pos (2 ^ 127)
+    below (pos n) e = subst (λ (z : ℤ). z <ℤ pos (2 ^ 127)) (sym e) (by n e (cases_lt n (2 ^ 127)))
+    below (negsuc n) e = omega (arith, ints)
+
+-- ---- factors with no rows
+
+one_in_none : (factors : List (List ℕ)) → size (map rows factors) ≡ 0 → schur_product factors 0 ≡ ([], pos 1) ∷ []
+one_in_none [] e = refl
+one_in_none ([] ∷ []) e = refl
+one_in_none ([] ∷ next ∷ factors) e = ap (λ f. times (schur [] 0) f) (one_in_none (next ∷ factors) (omega arith))
+one_in_none ((a ∷ parts) ∷ factors) e = absurd (omega arith)
+
+one_in_one : (factors : List (List ℕ)) → size (map rows factors) ≡ 0 → schur_product factors 1 ≡ ((0 ∷ []), pos 1) ∷ []
+one_in_one [] e = refl
+one_in_one ([] ∷ []) e = refl
+one_in_one ([] ∷ next ∷ factors) e = ap (λ f. times (schur [] 1) f) (one_in_one (next ∷ factors) (omega arith))
+one_in_one ((a ∷ parts) ∷ factors) e = absurd (omega arith)
+
+no_rows : (parts : List ℕ) → rows parts ≤ 0 → parts ≡ []
+no_rows [] h = refl
+no_rows (a ∷ parts) h = absurd (omega arith)
+
+none_past : (factors : List (List ℕ)) → size (map rows factors) ≡ 0 → IsPastIn 0 factors → ⊥
+none_past factors e h =
+    let s = h.1 in
+    let value : h.0 ≡ pos 1 =
+    s.is ∙ ap (λ parts. schur_coefficient 0 parts (schur_product factors 0)) (no_rows s.parts s.within)
+    ∙ ap (λ f. schur_coefficient 0 [] f) (one_in_none factors e) in
+    let l = past_is h.0 h.2 in
+    omega (arith, ints)
+
+none_reached : (first : List ℕ) (rest : List (List ℕ)) → ArePartitions (first ∷ rest) → size (map rows (first ∷ rest)) ≡ 0 → Reaches 1 (2 ^ 127) (classical_product 1 (first ∷ rest)) → ⊥
+none_reached first rest p e r =
+    let terms = classical_product 1 (first ∷ rest) in
+    let g = r.reaches in
+    let found = some_term terms r.parts (λ z. omega (arith, ints)) in
+    let few = (counted-all 1 first rest p).row_bound found.0 found.1 in
+    let none : r.parts ≡ [] = sym found.2 ∙ no_rows found.0.0 (omega arith) in
+    let value : coefficient terms r.parts ≡ pos 1 =
+    classical_product-coefficient 1 (first ∷ rest) r.parts r.partition r.within
+    ∙ ap (λ parts. schur_coefficient 1 parts (schur_product (first ∷ rest) 1)) none
+    ∙ ap (λ f. schur_coefficient 1 [] f) (one_in_one (first ∷ rest) e) in
+    omega (arith, ints)
+
+-- ---- the answer of the command
+
+pub past_answer : (given : Option ℕ) (k : ℕ) (first : List ℕ) (rest : List (List ℕ)) → ArePartitions (first ∷ rest)
+    → k ≡ unwrap_or given (max (size (map rows (first ∷ rest))) 1) → Reaches k (2 ^ 127) (classical_product k (first ∷ rest)) → HasPastCoefficient (mult given false (first ∷ rest))
+past_answer (Some n) k first rest p e r = subst (λ n. IsPastIn n (first ∷ rest)) e (reaches_past k (first ∷ rest) r)
+past_answer None k first rest p e r = by (cases_lt 0 (size (map rows (first ∷ rest))))
+  where
+    by : (0 < size (map rows (first ∷ rest))) ⊎ (size (map rows (first ∷ rest)) ≤ 0) → HasPastCoefficient (mult None false (first ∷ rest))
+    by (inl l) = let n : k ≡ size (map rows (first ∷ rest)) = omega arith in subst (λ n. IsPastIn n (first ∷ rest)) n (reaches_past k (first ∷ rest) r)
+    by (inr l) = let n : k ≡ 1 = omega arith in absurd (none_reached first rest p (omega arith) (subst (λ n. Reaches n (2 ^ 127) (classical_product n (first ∷ rest))) n r))
+
+pub small_answer : (given : Option ℕ) (k : ℕ) (first : List ℕ) (rest : List (List ℕ))
+    → k ≡ unwrap_or given (max (size (map rows (first ∷ rest))) 1) → AreSmallCounts (classical_product k (first ∷ rest)) → HasPastCoefficient (mult given false (first ∷ rest)) → ⊥
+small_answer (Some n) k first rest e small h = small_not_past k (first ∷ rest) small (subst (λ n. IsPastIn n (first ∷ rest)) (sym e) h)
+small_answer None k first rest e small h = by (cases_lt 0 (size (map rows (first ∷ rest))))
+  where
+    by : (0 < size (map rows (first ∷ rest))) ⊎ (size (map rows (first ∷ rest)) ≤ 0) → ⊥
+    by (inl l) = let n : size (map rows (first ∷ rest)) ≡ k = omega arith in small_not_past k (first ∷ rest) small (subst (λ n. IsPastIn n (first ∷ rest)) n h)
+    by (inr l) = let n : size (map rows (first ∷ rest)) ≡ 0 = omega arith in none_past (first ∷ rest) n (subst (λ n. IsPastIn n (first ∷ rest)) n h)
+
+pub past_factors : (given : Option ℕ) (k : ℕ) (factors : List (List ℕ)) → AreFactors factors → k ≡ unwrap_or given (max (size (map rows factors)) 1)
+    → Reaches k (2 ^ 127) (classical_product k factors) → HasPastCoefficient (mult given false factors)
+past_factors given k [] f e r = let l = f.least in absurd (omega arith)
+past_factors given k (first ∷ rest) f e r = past_answer given k first rest f.small.partitions e r
+
+pub small_factors : (given : Option ℕ) (k : ℕ) (factors : List (List ℕ)) → AreFactors factors → k ≡ unwrap_or given (max (size (map rows factors)) 1)
+    → AreSmallCounts (classical_product k factors) → HasPastCoefficient (mult given false factors) → ⊥
+small_factors given k [] f e small h = let l = f.least in absurd (omega arith)
+small_factors given k (first ∷ rest) f e small h = small_answer given k first rest e small h

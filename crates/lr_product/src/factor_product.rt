@@ -1,0 +1,129 @@
+//! The product of several Schur polynomials in Schur polynomials.
+ghost use Rattle.std.specs.Prelude.{◌≡◌, ℕ, false, ◌+◌, List, Option, [], ◌∷◌, ◌^◌, ◌≤◌, ◌<◌, ◌↔◌, length, map, slice_get, Some, IsTrue, IfOk, OnOk, IsErrOf};
+ghost use Rattle.std.specs.Option.{ForSome};
+ghost use Rattle.sym_model.specs.Partition.{size, rows as number_of_rows};
+ghost use Rattle.sym_model.specs.Sum.{Among};
+ghost use Rattle.sym_model.specs.Polynomial.{Same};
+ghost use Rattle.sym_model.specs.WholeTerms.{numerators};
+ghost use Rattle.sym_model.specs.Kind as kinds;
+ghost use Rattle.sym_model.specs.Answer.{answer};
+ghost use Rattle.sym_model.specs.Command as commands;
+ghost use Rattle.sym_model.specs.LargeAnswer.{HasPastCoefficient};
+ghost use Rattle.sym_model.specs.Target.{Meets, ExpandsInSchurs, schur_product, classical_product};
+ghost use Rattle.product_laws.specs.CountedProducts.{IsShownIn, Reaches};
+ghost use Rattle.lr_product.specs.ProductOfFactors.{AreSmallCounts};
+
+use crate::next_factor::{is_canonical, times_factor};
+use calc_base::{NoMemory, SumFault};
+use coeff_rings::Int;
+use partitions::Factors;
+use crate::mult;
+use partitions::Partition;
+use sparse_polys::{Lin, Terms};
+use std::alloc::Global;
+
+/// The product of the Schur polynomials of all factors in Schur polynomials: in every number of variables, or, where
+/// `rows` is given, in so many, with the labels of at most so many rows alone.
+///
+/// It is refused as `Large` exactly where a coefficient is past 2^127 - 1.
+pub fn mult_all(
+    alloc: Global,
+    factors: &Factors,
+    rows: Option<u16>,
+) -> Result<Terms<Partition, Int>, SumFault>
+    requires { ForSome rows (λ k. (1 ≤ k) × (k ≤ 512)) }
+    ensures meets { IfOk result (λ terms. Meets (commands.mult rows false factors.now) (answer kinds.product terms)) }
+    ensures large { IsErrOf result SumFault.Large → HasPastCoefficient (commands.mult rows false factors.now) }
+    ensures fits { OnOk result (HasPastCoefficient (commands.mult rows false factors.now) → ⊥) }
+{
+    let variables = rows.unwrap_or(factors.rows().max(1));
+    if has_longer(factors, variables) {
+        return no_terms(alloc);
+    }
+    product_in(alloc, factors, variables)
+}
+
+/// The factor at a place.
+fn factor_at(factors: &Factors, at: usize) -> &Partition
+    requires { at < length factors.now }
+    ensures { slice_get factors.now at ≡ Some result.now }
+{
+    factors.get(at).unwrap()
+}
+
+/// Whether some factor has more than `k` rows.
+fn has_longer(factors: &Factors, k: u16) -> bool
+    ensures { IsTrue result ↔ ((parts : List ℕ) × Among parts factors.now × (k < number_of_rows parts)) }
+{
+    for at in 0..factors.len() {
+        if factor_at(factors, at).rows() > k {
+            return true;
+        }
+    }
+    false
+}
+
+/// The list with no terms.
+fn no_terms(alloc: Global) -> Result<Terms<Partition, Int>, SumFault>
+    ensures none { IfOk result (λ terms. terms ≡ []) }
+    ensures small { ¬ IsErrOf result SumFault.Large }
+{
+    let terms: Lin<Partition, Int> = Lin::new(alloc);
+    match terms.sorted_terms() {
+        Ok(terms) => Ok(terms),
+        Err(NoMemory) => Err(SumFault::NoMemory),
+    }
+}
+
+/// The product in so many variables, of factors with at most so many rows.
+fn product_in(
+    alloc: Global,
+    factors: &Factors,
+    variables: u16,
+) -> Result<Terms<Partition, Int>, SumFault>
+    requires variables { (1 ≤ variables) × (variables ≤ 512) }
+    requires rows { (parts : List ℕ) → Among parts factors.now → number_of_rows parts ≤ variables }
+    ensures meets { IfOk result (λ terms. (given : Option ℕ) → IsShownIn given (size (map number_of_rows factors.now)) variables
+        → ExpandsInSchurs given (schur_product factors.now) terms) }
+    ensures small { OnOk result (AreSmallCounts (classical_product variables factors.now)) }
+    ensures large { IsErrOf result SumFault.Large → Reaches variables (2 ^ 127) (classical_product variables factors.now) }
+{
+    let len = factors.len();
+    let mut product = match first_two(
+        alloc,
+        factor_at(factors, 0),
+        factor_at(factors, 1),
+        variables,
+    ) {
+        Ok(product) => product,
+        Err(fault) => return Err(fault),
+    };
+    is_canonical(&product);
+    for at in 2..len {
+        let next = match times_factor(alloc, &product, factor_at(factors, at), variables) {
+            Ok(next) => next,
+            Err(fault) => return Err(fault),
+        };
+        is_canonical(&next);
+        product = next;
+    }
+    Ok(product)
+}
+
+/// The product of two factors in so many variables.
+fn first_two(
+    alloc: Global,
+    left: &Partition,
+    right: &Partition,
+    variables: u16,
+) -> Result<Terms<Partition, Int>, SumFault>
+    requires sizes { size left.now + size right.now ≤ 4096 }
+    requires lengths { number_of_rows left.now + number_of_rows right.now ≤ 512 }
+    requires variables { (1 ≤ variables) × (variables ≤ 512) }
+    ensures product { IfOk result (λ terms. Same (numerators terms) (classical_product variables (left.now ∷ right.now ∷ []))) }
+    ensures small { OnOk result (AreSmallCounts (classical_product variables (left.now ∷ right.now ∷ []))) }
+    ensures large { IsErrOf result SumFault.Large → Reaches variables (2 ^ 127) (classical_product variables (left.now ∷ right.now ∷ [])) }
+{
+    let _ = (left.size(), right.size());
+    mult(alloc, left, right, Some(variables))
+}

@@ -1,5 +1,0 @@
-use Rattle.monomial_polys.proofs.Labels.{is_monomial_label-from}
-use Rattle.monomial_polys.proofs.label.MonomialLabel.cmp_printed.Goals as goal
-
-pub returns-clause-limits : goal.returns-clause-limits
-returns-clause-limits c = is_monomial_label-from c.args.self.now c.cmp_printed.ensures.limits

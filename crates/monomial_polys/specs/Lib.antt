@@ -1,4 +1,0 @@
-pub mod Limits
-pub mod Ties
-pub mod Raised
-pub mod Products

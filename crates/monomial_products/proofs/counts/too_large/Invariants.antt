@@ -1,6 +1,0 @@
-use Rattle.std.proofs.Common.{ℕ, ◌<◌, ◌^◌, get_or}
-use Rattle.monomial_products.specs.declared.search.Counted.{Counted}
-use Rattle.monomial_products.proofs.counts.too_large.Given as goal
-
-abbrev pub invariant-loop-term : goal.invariant-loop-term
-invariant-loop-term l = (k : ℕ) (t : Counted) → k < l.term-index → (get_or l.terms k t).count < 2 ^ 127

@@ -1,9 +1,0 @@
-use Rattle.std.proofs.Common.{◌≡◌, ◌+◌, ◌-◌, ◌^◌, ◌≤◌, [], drop}
-use Rattle.monomial_products.specs.Ways.{capped, ways}
-use Rattle.monomial_products.proofs.search.ways_to_end.Given as goal
-
-abbrev pub invariant-loop-state : goal.invariant-loop-state
-invariant-loop-state l = record {
-  ends : capped (l.total + ways (drop l.state-index l.states) []) ≡ capped (ways l.states []);
-  fits : l.total ≤ 2 ^ 128 - 1;
-}

@@ -1,5 +1,0 @@
-use Rattle.monomial_products.proofs.StepWays.{first-above}
-use Rattle.monomial_products.proofs.steps.is_within.Goals as goal
-
-pub returns-in-Some : goal.returns-in-Some
-returns-in-Some c = first-above c.args.part c.args.parts.now c.in-Some.first.now c.in-Some.ensures.item.3.0 c.in-Some.ensures.item.1

@@ -1,5 +1,0 @@
--- Lemmas of the crate.
-pub mod Pieces
-pub mod Atoms
-pub mod OneLines
-pub mod PrintedForms

@@ -1,3 +1,0 @@
--- Lemmas of the crate.
-pub mod Blocks
-pub mod LineReadings

@@ -1,7 +1,0 @@
-use Rattle.std.proofs.Common.{◌≡◌, ◌++◌, true, drop}
-use Rattle.one_line_reader.specs.Lines.{block_from}
-use Rattle.one_line_reader.proofs.rewriting.as_block.Given as goal
-
--- what the bytes so far came to, and what the rest comes to
-abbrev pub invariant-loop-byte : goal.invariant-loop-byte
-invariant-loop-byte l = l.block.items ++ block_from l.bare (drop l.byte-index l.text) ≡ block_from true l.text

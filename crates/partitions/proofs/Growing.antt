@@ -1,0 +1,55 @@
+-- Lists of factors with one factor more.
+use Rattle.std.proofs.Common.{◌≡◌, ℕ, ◌+◌, ◌≤◌, ◌<◌, ◌⊎◌, inl, inr, List, [], ◌∷◌, ◌++◌, length, length-append, map, refl, sym, subst, arith}
+use Rattle.sym_model.specs.Sum.{Among}
+use Rattle.sym_model.specs.Partition.{IsPartition, size, rows}
+use Rattle.partitions.specs.FactorList.{AreFactors, AreSmall, AreTooBig, HasSums, cells_of, rows_of}
+
+pub more_cells : (shapes : List (List ℕ)) (next : List ℕ) → cells_of (shapes ++ next ∷ []) ≡ cells_of shapes + size next
+more_cells [] next = omega arith
+more_cells (shape ∷ shapes) next = let h = more_cells shapes next in omega arith
+
+pub more_rows : (shapes : List (List ℕ)) (next : List ℕ) → rows_of (shapes ++ next ∷ []) ≡ rows_of shapes + rows next
+more_rows [] next = omega arith
+more_rows (shape ∷ shapes) next = let h = more_rows shapes next in omega arith
+
+more_partitions : (shapes : List (List ℕ)) (next : List ℕ)
+    → ((parts : List ℕ) → Among parts shapes → IsPartition parts) → IsPartition next
+    → (parts : List ℕ) → Among parts (shapes ++ next ∷ []) → IsPartition parts
+more_partitions [] next are is parts (inl e) = subst (λ (p : List ℕ). IsPartition p) (sym e) is
+more_partitions [] next are is parts (inr none) = absurd none
+more_partitions (shape ∷ shapes) next are is parts (inl e) = are parts (inl e)
+more_partitions (shape ∷ shapes) next are is parts (inr later) =
+    more_partitions shapes next (λ p among. are p (inr among)) is parts later
+
+not_more : (a b : ℕ) → (b < a → ⊥) → a ≤ b
+not_more a b h = omega (arith, h)
+
+-- factors and one more that makes them not too big
+pub HasSums-grown : (shapes items : List (List ℕ)) (next : List ℕ) (cells many a b : ℕ) → HasSums shapes cells many → IsPartition next
+    → length shapes < 8 → (AreTooBig (shapes ++ next ∷ []) → ⊥) → items ≡ shapes ++ next ∷ [] → a ≡ size next → b ≡ rows next
+    → HasSums items (cells + a) (many + b)
+HasSums-grown shapes items next cells many a b had is room small e cells_are rows_are = rw e (record {
+  factors = record {
+    least = let e = length-append shapes (next ∷ []) in let h = had.factors.least in omega arith;
+    most = let e = length-append shapes (next ∷ []) in omega arith;
+    small = record {
+      partitions = more_partitions shapes next had.factors.small.partitions is;
+      cells = not_more (cells_of (shapes ++ next ∷ [])) 4096 (λ h. small (inl h));
+      rows = not_more (rows_of (shapes ++ next ∷ [])) 512 (λ h. small (inr h));
+    };
+  };
+  cells_are = let e = more_cells shapes next in omega (arith, had.cells_are);
+  rows_are = let e = more_rows shapes next in omega (arith, had.rows_are);
+})
+
+-- the sums tell whether the factors with one more are too big
+pub AreTooBig-grown : (shapes : List (List ℕ)) (next : List ℕ) (cells many a b : ℕ) → HasSums shapes cells many
+    → a ≡ size next → b ≡ rows next
+    → (AreTooBig (shapes ++ next ∷ []) → (4096 < cells + a) ⊎ (512 < many + b))
+    × ((4096 < cells + a) ⊎ (512 < many + b) → AreTooBig (shapes ++ next ∷ []))
+AreTooBig-grown shapes next cells many a b had cells_are rows_are =
+    let c : cells_of (shapes ++ next ∷ []) ≡ cells + a = let e = more_cells shapes next in omega (arith, had.cells_are) in
+    let r : rows_of (shapes ++ next ∷ []) ≡ many + b = let e = more_rows shapes next in omega (arith, had.rows_are) in (
+      λ big. elim big [ inl h ↦ inl (omega arith) | inr h ↦ inr (omega arith) ],
+      λ big. elim big [ inl h ↦ inl (omega arith) | inr h ↦ inr (omega arith) ],
+    )

@@ -1,0 +1,154 @@
+//! The factors of a product.
+ghost use Rattle.std.specs.Prelude.{◌≡◌, ◌≤◌, ◌<◌, ◌↔◌, ◌++◌, ◌∷◌, [], length, slice_get, Some, IfOk, OnOk, OnErr, IsErrOf, IsTrue, MatchOption, ◌⊎◌};
+ghost use Rattle.partitions.specs.FactorList.{AreFactors, AreTooBig, rows_of};
+
+use crate::FactorsFault;
+use calc_base::NoMemory;
+use crate::Partition;
+use std::alloc::Global;
+use std::marker::Model;
+
+/// The most factors, and the most cells and the most rows of all factors together.
+const MAX_FACTORS: usize = 8;
+
+const MAX_CELLS: u16 = 4096;
+
+const MAX_ROWS: u16 = 512;
+
+/// The factors of a product: 2 to 8 partitions, with at most 4,096 cells and at most 512 rows in all. A contract sees
+/// the list of them.
+#[derive(Debug, Drop)]
+pub struct Factors {
+    factors: Vec<Partition>,
+    /// The cells of all factors together.
+    cells: u16,
+    /// The rows of all factors together.
+    rows: u16,
+}
+
+impl Model for Factors {
+    ghost use Rattle.std.specs.Prelude.{ℕ, List};
+    ghost use Rattle.partitions.specs.FactorList.{HasSums};
+
+    ghost Value = { List (List ℕ) };
+
+    ghost view = { λ f. f.factors.items };
+
+    ghost invariant = { λ f. HasSums f.factors.items f.cells f.rows };
+}
+
+impl Factors {
+    /// Two factors.
+    ///
+    /// They are refused as `TooBig` exactly where they have more than 4,096 cells or more than 512 rows together.
+    pub fn pair(alloc: Global, left: Partition, right: Partition) -> Result<Factors, FactorsFault>
+        ensures ok { IfOk result (λ factors. factors ≡ left ∷ right ∷ []) }
+        ensures too_many { ¬ IsErrOf result FactorsFault.TooMany }
+        ensures too_big { IsErrOf result FactorsFault.TooBig ↔ AreTooBig (left ∷ right ∷ []) }
+    {
+        let cells = left.size() + right.size();
+        let rows = left.rows() + right.rows();
+        if is_too_big(cells, rows) {
+            return Err(FactorsFault::TooBig);
+        }
+        let mut factors = Vec::new(alloc);
+        factors.push(left)?;
+        factors.push(right)?;
+        Ok(Factors {
+            factors,
+            cells,
+            rows,
+        })
+    }
+
+    /// Puts one more factor after the others.
+    ///
+    /// It is refused as `TooMany` exactly where there are eight factors, else as `TooBig` exactly where the factors would
+    /// have more than 4,096 cells or more than 512 rows in all. Where it is refused the factors are as before.
+    pub fn push(&mut self, next: Partition) -> Result<(), FactorsFault>
+        ensures ok { OnOk result (self.new ≡ self.old ++ next ∷ []) }
+        ensures kept { OnErr result (self.new ≡ self.old) }
+        ensures too_many { IsErrOf result FactorsFault.TooMany ↔ (length self.old ≡ 8) }
+        ensures too_big { IsErrOf result FactorsFault.TooBig ↔ ((length self.old < 8) × AreTooBig (self.old ++ next ∷ [])) }
+    {
+        if self.len() == MAX_FACTORS {
+            return Err(FactorsFault::TooMany);
+        }
+        if self.is_too_big_with(&next) {
+            return Err(FactorsFault::TooBig);
+        }
+        match self.grow(next) {
+            Ok(()) => Ok(()),
+            Err(NoMemory) => Err(FactorsFault::NoMemory),
+        }
+    }
+
+    /// Whether the factors would have too many cells or rows with this one after them.
+    fn is_too_big_with(&self, next: &Partition) -> bool
+        ensures { IsTrue result ↔ AreTooBig (self.now ++ next.now ∷ []) }
+    {
+        is_too_big(self.cells + next.size(), self.rows + next.rows())
+    }
+
+    /// Puts a factor for which there is room after the others.
+    fn grow(&mut self, next: Partition) -> Result<(), NoMemory>
+        requires room { length self.old < 8 }
+        requires small { AreTooBig (self.old ++ next ∷ []) → ⊥ }
+        ensures ok { OnOk result (self.new ≡ self.old ++ next ∷ []) }
+        ensures kept { OnErr result (self.new ≡ self.old) }
+    {
+        let cells = self.cells + next.size();
+        let rows = self.rows + next.rows();
+        self.factors.push(next)?;
+        self.cells = cells;
+        self.rows = rows;
+        Ok(())
+    }
+
+    /// How many factors there are. It takes no memory.
+    pub fn len(&self) -> usize
+        ensures value { result ≡ length self.now }
+        ensures limits { AreFactors self.now }
+    {
+        self.factors.len()
+    }
+
+    /// The factor at the place `i`, counted from 0. None exactly where there are no more than `i` factors. It takes no
+    /// memory.
+    pub fn get(&self, i: usize) -> Option<&Partition>
+        ensures value { MatchOption result (length self.now ≤ i) (λ factor. slice_get self.now i ≡ Some factor.now) }
+        ensures limits { AreFactors self.now }
+    {
+        self.factors.get(i)
+    }
+
+    /// The rows of all factors together. It takes no memory.
+    pub fn rows(&self) -> u16
+        ensures value { result ≡ rows_of self.now }
+        ensures limits { AreFactors self.now }
+    {
+        self.rows
+    }
+
+    /// Equal factors.
+    pub fn copy(&self) -> Result<Factors, NoMemory>
+        ensures { IfOk result (λ copy. copy ≡ self.now) }
+    {
+        let mut factors = Vec::new(*self.factors.allocator());
+        for factor in self.factors.iter() {
+            factors.push(factor.copy()?)?;
+        }
+        Ok(Factors {
+            factors,
+            cells: self.cells,
+            rows: self.rows,
+        })
+    }
+}
+
+/// Whether so many cells or so many rows are more than all factors may have.
+fn is_too_big(cells: u16, rows: u16) -> bool
+    ensures { IsTrue result ↔ ((4096 < cells) ⊎ (512 < rows)) }
+{
+    cells > MAX_CELLS || rows > MAX_ROWS
+}

@@ -1,0 +1,42 @@
+//! Why a list of factors is not made, or takes no further factor.
+ghost use Rattle.std.specs.Prelude.{◌≡◌};
+ghost use Rattle.partitions.specs.declared.factors_fault.FactorsFault.TheVariants.{NoMemory as no_memory};
+
+use calc_base::NoMemory;
+use std::alloc::{AllocError, AllocFailed};
+use thiserror::Error;
+
+/// Why a list of factors is not made, or takes no further factor.
+#[derive(Clone, Copy, Debug, PartialEq, Eq, Hash, Error)]
+pub enum FactorsFault {
+    #[error("more than 8 factors")]
+    TooMany,
+    #[error("more than 4096 cells or 512 rows in all")]
+    TooBig,
+    #[error("out of memory")]
+    NoMemory,
+}
+
+impl From<AllocError> for FactorsFault {
+    ghost from_gives = { λ _ e. e ≡ no_memory };
+
+    fn from(_: AllocError) -> Self {
+        FactorsFault::NoMemory
+    }
+}
+
+impl<T: Drop> From<AllocFailed<T>> for FactorsFault {
+    ghost from_gives = { λ _ e. e ≡ no_memory };
+
+    fn from(_: AllocFailed<T>) -> Self {
+        FactorsFault::NoMemory
+    }
+}
+
+impl From<NoMemory> for FactorsFault {
+    ghost from_gives = { λ _ e. e ≡ no_memory };
+
+    fn from(_: NoMemory) -> Self {
+        FactorsFault::NoMemory
+    }
+}

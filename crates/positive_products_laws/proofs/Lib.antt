@@ -1,4 +1,0 @@
-pub mod CountLists
-pub mod SomeLabel
-pub mod Growing
-pub mod Expanding

@@ -1,0 +1,127 @@
+-- A term without its sign is read as its label and the absolute value of its coefficient.
+use Rattle.std.proofs.Common.{◌≡◌, ℕ, ◌<◌, ◌≤◌, Bool, true, false, List, [], ◌∷◌, ◌++◌, length, cond, eqb, pos, nat_abs, refl, sym, ap, ◌∙◌, append_assoc, length-append, decimal, arith}
+use Rattle.std.proofs.lemmas.Bool.{eqb-true, and_parts}
+use Rattle.sym_model.specs.Expansion.{Basis, monomials, elementaries, completes, power_sums, schurs, Fraction}
+use Rattle.sym_model.specs.NumberText.{Lacks, fraction_text, numbers_text, fraction_of, numbers_of}
+use Rattle.sym_model.specs.OneLine.{atom_text, without_sign, is_unit, unsigned_text, numbers_in_atom, term_of_cut, unsigned_term}
+use Rattle.printing_laws.proofs.Decimals.{lacks-append, decimal-lacks}
+use Rattle.printing_laws.proofs.NumberTexts.{AreShort, IsShortFraction, numbers_text-lacks, numbers_of-text, without_last-push, fraction_of-text}
+use Rattle.printing_laws.proofs.Pieces.{LacksSigns, cut_at-front, cut_at-whole}
+
+-- what a term has to be so that it can be read
+pub record IsReadable (t : List ℕ × Fraction) : Type 0 where
+  pub numbers : AreShort t.0
+  pub fraction : IsShortFraction (without_sign t.1)
+
+-- ---- atoms
+
+-- an atom is its letter and the rest
+atom-lacks : (byte : ℕ) (basis : Basis) (numbers : List ℕ) → byte < 44 → AreShort numbers → Lacks byte (atom_text basis numbers)
+atom-lacks byte basis numbers low h = by basis
+  where
+    rest : Lacks byte (91 ∷ (numbers_text numbers ++ (93 ∷ [])))
+    rest = ((λ e. omega arith), lacks-append byte (numbers_text numbers) _ (numbers_text-lacks byte numbers (omega arith) (λ e. omega arith) h) ((λ e. omega arith), tt))
+
+    by : (basis : Basis) → Lacks byte (atom_text basis numbers)
+    by monomials = ((λ e. omega arith), rest)
+    by elementaries = ((λ e. omega arith), rest)
+    by completes = ((λ e. omega arith), rest)
+    by power_sums = ((λ e. omega arith), rest)
+    by schurs = ((λ e. omega arith), rest)
+
+-- the same for `-`, which stands above the comma
+atom-lacks_minus : (basis : Basis) (numbers : List ℕ) → AreShort numbers → Lacks 45 (atom_text basis numbers)
+atom-lacks_minus basis numbers h = by basis
+  where
+    rest : Lacks 45 (91 ∷ (numbers_text numbers ++ (93 ∷ [])))
+    rest = ((λ e. omega arith), lacks-append 45 (numbers_text numbers) _ (numbers_text-lacks 45 numbers (omega arith) (λ e. omega arith) h) ((λ e. omega arith), tt))
+
+    by : (basis : Basis) → Lacks 45 (atom_text basis numbers)
+    by monomials = ((λ e. omega arith), rest)
+    by elementaries = ((λ e. omega arith), rest)
+    by completes = ((λ e. omega arith), rest)
+    by power_sums = ((λ e. omega arith), rest)
+    by schurs = ((λ e. omega arith), rest)
+
+-- its numbers are read back
+numbers_in-atom : (basis : Basis) (numbers : List ℕ) → AreShort numbers → numbers_in_atom (atom_text basis numbers) ≡ numbers
+numbers_in-atom basis numbers h = by basis
+  where
+    inner : numbers_in_atom (0 ∷ 91 ∷ (numbers_text numbers ++ (93 ∷ []))) ≡ numbers
+    inner = ap numbers_of (without_last-push (numbers_text numbers) 93) ∙ numbers_of-text numbers h
+
+    by : (basis : Basis) → numbers_in_atom (atom_text basis numbers) ≡ numbers
+    by monomials = inner
+    by elementaries = inner
+    by completes = inner
+    by power_sums = inner
+    by schurs = inner
+
+-- an atom has at least three bytes
+pub atom-long : (basis : Basis) (numbers : List ℕ) → 3 ≤ length (atom_text basis numbers)
+atom-long basis numbers = by basis
+  where
+    inner : 3 ≤ length (0 ∷ 91 ∷ (numbers_text numbers ++ (93 ∷ [])))
+    inner = simp length-append (omega arith)
+
+    by : (basis : Basis) → 3 ≤ length (atom_text basis numbers)
+    by monomials = inner
+    by elementaries = inner
+    by completes = inner
+    by power_sums = inner
+    by schurs = inner
+
+-- ---- coefficients
+
+-- a number without its sign has no sign
+unsigned-lacks : (byte : ℕ) (c : Fraction) → byte < 47 → IsShortFraction (without_sign c) → Lacks byte (fraction_text (without_sign c))
+unsigned-lacks byte c low h = by (eqb c.1 1)
+  where
+    by : (b : Bool) → Lacks byte (cond b (decimal (nat_abs c.0)) (decimal (nat_abs c.0) ++ (47 ∷ decimal c.1)))
+    by true = decimal-lacks byte (nat_abs c.0) (omega arith) h.num
+    by false = lacks-append byte (decimal (nat_abs c.0)) _ (decimal-lacks byte (nat_abs c.0) (omega arith) h.num) ((λ e. omega arith), decimal-lacks byte c.1 (omega arith) h.den)
+
+-- where the absolute value is not printed, it is 1
+unit-is : (c : Fraction) → is_unit c ≡ true → without_sign c ≡ (pos 1, 1)
+unit-is c h =
+    let p = and_parts (eqb (nat_abs c.0) 1) (eqb c.1 1) h in
+    ap (λ n. (pos n, c.1)) (eqb-true (nat_abs c.0) 1 p.0) ∙ ap (λ d. (pos 1, d)) (eqb-true c.1 1 p.1)
+
+-- ---- terms without their signs
+
+module _ (basis : Basis) (t : List ℕ × Fraction) (h : IsReadable t) where
+  pub unsigned_text-lacks_signs : LacksSigns (unsigned_text basis t)
+  unsigned_text-lacks_signs = by (is_unit t.1)
+    where
+      lacks : (byte : ℕ) → byte < 47 → (42 ≡ byte → ⊥) → Lacks byte (atom_text basis t.0) → (b : Bool) → Lacks byte (cond b [] (fraction_text (without_sign t.1) ++ (42 ∷ [])) ++ atom_text basis t.0)
+      lacks byte low star atom true = atom
+      lacks byte low star atom false =
+          lacks-append byte _ _ (lacks-append byte (fraction_text (without_sign t.1)) _ (unsigned-lacks byte t.1 low h.fraction) (star, tt)) atom
+
+      by : (b : Bool) → LacksSigns (cond b [] (fraction_text (without_sign t.1) ++ (42 ∷ [])) ++ atom_text basis t.0)
+      by b = record {
+        plus = lacks 43 (omega arith) (λ e. omega arith) (atom-lacks 43 basis t.0 (omega arith) h.numbers) b;
+        minus = lacks 45 (omega arith) (λ e. omega arith) (atom-lacks_minus basis t.0 h.numbers) b;
+      }
+
+  pub unsigned_text-long : 3 ≤ length (unsigned_text basis t)
+  unsigned_text-long = behind (cond (is_unit t.1) [] (fraction_text (without_sign t.1) ++ (42 ∷ []))) (atom_text basis t.0) (atom-long basis t.0)
+    where
+      behind : (front atom : List ℕ) → 3 ≤ length atom → 3 ≤ length (front ++ atom)
+      behind front atom long = let e = length-append front atom in omega arith
+
+  pub unsigned_term-text : unsigned_term (unsigned_text basis t) ≡ (t.0, without_sign t.1)
+  unsigned_term-text = by (is_unit t.1) refl
+    where
+      atom_is : numbers_in_atom (atom_text basis t.0) ≡ t.0
+      atom_is = numbers_in-atom basis t.0 h.numbers
+
+      by : (b : Bool) → is_unit t.1 ≡ b → unsigned_term (cond b [] (fraction_text (without_sign t.1) ++ (42 ∷ [])) ++ atom_text basis t.0) ≡ (t.0, without_sign t.1)
+      by true e =
+          ap term_of_cut (cut_at-whole 42 (atom_text basis t.0) (atom-lacks 42 basis t.0 (omega arith) h.numbers))
+          ∙ (ap (λ ns. (ns, (pos 1, 1))) atom_is ∙ ap (λ c. (t.0, c)) (sym (unit-is t.1 e)))
+      by false e =
+          ap unsigned_term (append_assoc (fraction_text (without_sign t.1)) (42 ∷ []) (atom_text basis t.0))
+          ∙ (ap term_of_cut (cut_at-front 42 (fraction_text (without_sign t.1)) (atom_text basis t.0) (unsigned-lacks 42 t.1 (omega arith) h.fraction))
+          ∙ (ap (λ ns. (ns, fraction_of (fraction_text (without_sign t.1)))) atom_is
+          ∙ ap (λ c. (t.0, c)) (fraction_of-text (without_sign t.1) h.fraction)))

@@ -1,0 +1,100 @@
+-- Lists of terms with coefficients that are not negative, and what a coefficient that is not 0 tells.
+use Rattle.std.proofs.Common.{◌≡◌, ◌+◌, ◌*◌, ◌⊎◌, inl, inr, Bool, true, false, cond, ℕ, zero, suc, List, [], ◌∷◌, ◌++◌, map, refl, sym, ◌∙◌, ap, ap₂, subst, arith, ℤ, pos, negsuc, ◌+ℤ◌, ◌*ℤ◌}
+use Rattle.std.specs.Prelude.{◌≤ℤ◌}
+use Rattle.std.proofs.lemmas.Int.{ints}
+use Rattle.std.proofs.Math.Nat.{mul-suc}
+use Rattle.sym_model.specs.Sum.{each, Among, Once}
+use Rattle.sym_model.specs.Polynomial.{Term, same, coefficient, scale}
+use Rattle.sym_model.specs.WholeTerms.{WholeTerms}
+use Rattle.sym_model.proofs.Sums.{total_none, Among-map, Among_from_append, Among_from_map, Among_from_each}
+use Rattle.sym_model.proofs.Exponents.{same_refl, same_from, same_apart, same_or_not}
+use Rattle.sym_model.proofs.Polynomials.{coefficient_plus}
+use Rattle.product_laws.specs.CountedProducts.{AreCounts}
+use lib.IntN.{+ℤ_idl, +ℤ_idr}
+
+-- ---- products of counts
+
+product_not_negative : (a b : ℤ) → pos 0 ≤ℤ a → pos 0 ≤ℤ b → pos 0 ≤ℤ (a *ℤ b)
+product_not_negative (pos a) (pos b) h k = omega (arith, ints)
+product_not_negative (pos a) (negsuc b) h k = absurd (omega (arith, ints))
+product_not_negative (negsuc a) b h k = absurd (omega (arith, ints))
+
+pub times_at_least : (a b : ℤ) → pos 0 ≤ℤ a → pos 1 ≤ℤ b → a ≤ℤ (a *ℤ b)
+times_at_least (pos a) (pos zero) h k = absurd (omega (arith, ints))
+times_at_least (pos a) (pos (suc b)) h k = let e = mul-suc a b in omega (arith, ints)
+times_at_least (pos a) (negsuc b) h k = absurd (omega (arith, ints))
+times_at_least (negsuc a) b h k = absurd (omega (arith, ints))
+
+-- ---- coefficients of lists of counts
+
+chosen : (b : Bool) (z : ℤ) → pos 0 ≤ℤ z → pos 0 ≤ℤ cond b z (pos 0)
+chosen true z h = h
+chosen false z h = omega (arith, ints)
+
+pub counts-coefficient : (terms : WholeTerms) (α : List ℕ) → AreCounts terms → pos 0 ≤ℤ coefficient terms α
+counts-coefficient [] α h = omega (arith, ints)
+counts-coefficient (t ∷ terms) α h =
+    let r = counts-coefficient terms α (λ u m. h u (inr m)) in
+    let c = chosen (same t.0 α) t.1 (h t (inl refl)) in
+    omega (arith, ints)
+
+pub counts-append : (xs ys : WholeTerms) → AreCounts xs → AreCounts ys → AreCounts (xs ++ ys)
+counts-append xs ys h k t m = elim (Among_from_append t xs ys m) [ inl a ↦ h t a | inr b ↦ k t b ]
+
+pub counts-scale : (c : ℤ) (terms : WholeTerms) → pos 0 ≤ℤ c → AreCounts terms → AreCounts (scale c terms)
+counts-scale c terms h k t m =
+    let s = Among_from_map (λ (u : Term). let scaled : Term = (u.0, c *ℤ u.1) in scaled) t terms m in
+    subst (λ (z : ℤ). pos 0 ≤ℤ z) (sym (ap (λ (u : Term). u.1) s.2)) (product_not_negative c s.0.1 h (k s.0 s.1))
+
+pub counts-each : {A : Type 0} (h : A → WholeTerms) (xs : List A) → ((x : A) → Among x xs → AreCounts (h x)) → AreCounts (each h xs)
+counts-each h xs c t m = let s = Among_from_each h t xs m in c s.0 s.1 t s.2
+
+-- further counts lower no coefficient
+pub coefficient-more : (xs ys : WholeTerms) (α : List ℕ) → AreCounts ys → coefficient xs α ≤ℤ coefficient (xs ++ ys) α
+coefficient-more xs ys α h = let e = coefficient_plus xs ys α in let c = counts-coefficient ys α h in omega (arith, ints)
+
+-- nor is one part of a sum above the sum
+pub coefficient-each : {A : Type 0} (h : A → WholeTerms) (xs : List A) (x : A) (α : List ℕ) → ((y : A) → Among y xs → AreCounts (h y)) → Among x xs
+    → coefficient (h x) α ≤ℤ coefficient (each h xs) α
+coefficient-each h [] x α c m = absurd m
+coefficient-each h (y ∷ xs) x α c (inl e) =
+    let s = coefficient_plus (h y) (each h xs) α in
+    let r = counts-coefficient (each h xs) α (counts-each h xs (λ z m. c z (inr m))) in
+    let d : coefficient (h x) α ≡ coefficient (h y) α = ap (λ z. coefficient (h z) α) e in
+    omega (arith, ints)
+coefficient-each h (y ∷ xs) x α c (inr m) =
+    let s = coefficient_plus (h y) (each h xs) α in
+    let r = coefficient-each h xs x α (λ z n. c z (inr n)) m in
+    let d = counts-coefficient (h y) α (c y (inl refl)) in
+    omega (arith, ints)
+
+-- ---- labels
+
+pub no_label : (terms : WholeTerms) (α : List ℕ) → ((t : Term) → Among t terms → t.0 ≡ α → ⊥) → coefficient terms α ≡ pos 0
+no_label terms α h =
+    total_none (λ (t : Term). cond (same t.0 α) t.1 (pos 0)) terms (λ t m. ap (λ b. cond b t.1 (pos 0)) (same_apart t.0 α (h t m)))
+
+-- a label whose coefficient is not 0 is there
+pub some_term : (terms : WholeTerms) (α : List ℕ) → (coefficient terms α ≡ pos 0 → ⊥) → (t : Term) × Among t terms × (t.0 ≡ α)
+some_term [] α h = absurd (h refl)
+some_term (t ∷ terms) α h = by (same_or_not t.0 α) (some_term terms α)
+  where
+    by : (t.0 ≡ α) ⊎ (t.0 ≡ α → ⊥) → ((coefficient terms α ≡ pos 0 → ⊥) → (u : Term) × Among u terms × (u.0 ≡ α))
+        → (u : Term) × Among u (t ∷ terms) × (u.0 ≡ α)
+    by (inl e) later = (t, inl refl, e)
+    by (inr n) later =
+        let found = later (λ z. h (ap₂ ◌+ℤ◌ (ap (λ b. cond b t.1 (pos 0)) (same_apart t.0 α n)) z ∙ +ℤ_idl (pos 0))) in
+        (found.0, inr found.1, found.2)
+
+-- where each label stands once, its term has its coefficient
+pub coefficient_of_once : (terms : WholeTerms) → Once (map (λ (t : Term). t.0) terms) → (t : Term) → Among t terms → coefficient terms t.0 ≡ t.1
+coefficient_of_once [] once t m = absurd m
+coefficient_of_once (u ∷ terms) once t (inl e) =
+    ap₂ ◌+ℤ◌ (ap (λ b. cond b u.1 (pos 0)) (same_from u.0 t.0 (ap (λ (v : Term). v.0) (sym e)))
+    ∙ ap (λ (v : Term). v.1) (sym e))
+    (no_label terms t.0 (λ v n d. once.0 (subst (λ label. Among label (map (λ (w : Term). w.0) terms)) (d ∙ ap (λ (w : Term). w.0) e) (Among-map (λ (w : Term). w.0) v terms n))))
+    ∙ +ℤ_idr t.1
+coefficient_of_once (u ∷ terms) once t (inr m) =
+    ap₂ ◌+ℤ◌ (ap (λ b. cond b u.1 (pos 0)) (same_apart u.0 t.0 (λ d. once.0 (subst (λ label. Among label (map (λ (w : Term). w.0) terms)) (sym d) (Among-map (λ (w : Term). w.0) t terms m)))))
+    (coefficient_of_once terms once.1 t m)
+    ∙ +ℤ_idl t.1

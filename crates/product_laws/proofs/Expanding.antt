@@ -1,0 +1,112 @@
+-- Expansions of products of Schur polynomials with one factor more, by the classical products of the labels.
+use Rattle.std.proofs.Common.{◌≡◌, ℕ, ◌+◌, ◌≤◌, ◌<◌, inl, inr, List, [], ◌∷◌, ◌++◌, map, refl, sym, ◌∙◌, ap, ap₂, subst, arith, ℤ, pos, ◌*ℤ◌, Option, Some, None}
+use Rattle.sym_model.specs.Sum.{each, Among}
+use Rattle.sym_model.specs.Polynomial.{Poly, Term, Same, nothing, coefficient, scale, times, pair}
+use Rattle.sym_model.specs.Partition.{IsPartition, rows}
+use Rattle.sym_model.specs.Schur.{schur}
+use Rattle.sym_model.specs.GoodTableau.{product_count}
+use Rattle.sym_model.specs.Expansion.{Fraction, Terms}
+use Rattle.sym_model.specs.WholeTerms.{WholeTerms, AreWhole, as_fractions, numerators}
+use Rattle.sym_model.specs.Kind.{product}
+use Rattle.sym_model.specs.Answer.{answer}
+use Rattle.sym_model.specs.Command.{mult}
+use Rattle.sym_model.specs.Target.{Meets, schur_product, ExpandsInSchurs, classical_product}
+use Rattle.sym_model.proofs.Sums.{Among_from_map}
+use Rattle.sym_model.proofs.Polynomials.{pair_times, pair_zero, pair_exchange, same_from_pair, Same_refl, Same_trans, times_respects}
+use Rattle.alternant_laws.specs.GoodSums.{ListsCounts}
+use Rattle.alternant_laws.proofs.ClassicalProducts.{classical_product-coefficient, classical_product-term}
+use Rattle.alternant_laws.proofs.CountedTerms.{product_coefficients, product_counts_stable, mult_meets}
+use Rattle.alternant_laws.proofs.SchurProducts.{schur_few_variables}
+use Rattle.product_laws.specs.FactorSteps.{ArePartitions, multiplied, products_of}
+use Rattle.product_laws.proofs.Expansions.{every_step, limited_step}
+use Rattle.product_laws.specs.CountedProducts.{IsShownIn}
+use Rattle.product_laws.proofs.Growing.{two_rows}
+
+-- ---- lists of whole numbers written as fractions
+
+numerators-as_fractions : (terms : WholeTerms) → numerators (as_fractions terms) ≡ terms
+numerators-as_fractions [] = refl
+numerators-as_fractions (t ∷ terms) = ap (λ l. t ∷ l) (numerators-as_fractions terms)
+
+AreWhole-as_fractions : (terms : WholeTerms) → AreWhole (as_fractions terms)
+AreWhole-as_fractions [] = tt
+AreWhole-as_fractions (t ∷ terms) = (refl, AreWhole-as_fractions terms)
+
+each_same : {A : Type 0} (f g : A → WholeTerms) (xs : List A) → ((x : A) → f x ≡ g x) → each f xs ≡ each g xs
+each_same f g [] e = refl
+each_same f g (x ∷ xs) e = ap₂ ◌++◌ (e x) (each_same f g xs e)
+
+-- ---- two factors
+
+two_listed : (k m : ℕ) (left right : List ℕ) → IsPartition left → IsPartition right → m ≤ k
+    → ((t : Term) → Among t (classical_product k (left ∷ right ∷ [])) → rows t.0 ≤ m)
+    → ListsCounts m (product_count m left right) (as_fractions (classical_product k (left ∷ right ∷ [])))
+two_listed k m left right p q h few = record {
+  whole = AreWhole-as_fractions (classical_product k (left ∷ right ∷ []));
+  labels = λ t n.
+      let s = Among_from_map (λ (u : Term). let written : List ℕ × Fraction = (u.0, (u.1, 1)) in written) t (classical_product k (left ∷ right ∷ [])) n in
+      let c = classical_product-term k (left ∷ right ∷ []) s.0 s.1 in
+      let e : t.0 ≡ s.0.0 = ap (λ (u : List ℕ × Fraction). u.0) s.2 in
+      (subst IsPartition (sym e) c.partition, subst (λ label. rows label ≤ m) (sym e) (few s.0 s.1));
+  counts = λ parts r l.
+      ap (λ (terms : WholeTerms). coefficient terms parts) (numerators-as_fractions (classical_product k (left ∷ right ∷ [])))
+      ∙ classical_product-coefficient k (left ∷ right ∷ []) parts r (omega arith)
+      ∙ product_coefficients k left right parts p q r (omega arith)
+      ∙ ap pos (product_counts_stable m k left right parts h p q r l);
+}
+
+two_expand : (variables : Option ℕ) (k : ℕ) (left right : List ℕ) → IsPartition left → IsPartition right → rows left ≤ k → IsShownIn variables (rows left + rows right) k
+    → ExpandsInSchurs variables (schur_product (left ∷ right ∷ [])) (as_fractions (classical_product k (left ∷ right ∷ [])))
+two_expand None k left right p q h shown =
+    mult_meets None left right (as_fractions (classical_product k (left ∷ right ∷ []))) p q
+    (two_listed k (rows left + rows right) left right p q shown (two_rows k left right p q h))
+two_expand (Some given) k left right p q h shown =
+    mult_meets (Some given) left right (as_fractions (classical_product k (left ∷ right ∷ []))) p q
+    (two_listed k given left right p q (omega (arith, shown)) (λ t m. let c = classical_product-term k (left ∷ right ∷ []) t m in let f = c.few in omega (arith, shown)))
+
+-- ---- one factor more
+
+by_products : (k : ℕ) (next : List ℕ) (terms : WholeTerms) → products_of (λ label. as_fractions (classical_product k (label ∷ next ∷ []))) terms ≡ multiplied k next terms
+by_products k next terms =
+    each_same (λ (t : Term). scale t.1 (numerators (as_fractions (classical_product k (t.0 ∷ next ∷ []))))) (λ (t : Term). scale t.1 (classical_product k (t.0 ∷ next ∷ []))) terms
+    (λ t. ap (λ (l : WholeTerms). scale t.1 l) (numerators-as_fractions (classical_product k (t.0 ∷ next ∷ []))))
+
+-- no label has more rows than there are variables, where they are given
+abbrev pub HasFewRows : Option ℕ → Terms (List ℕ) → Type 0
+HasFewRows None terms = Unit {0}
+HasFewRows (Some given) terms = (t : List ℕ × Fraction) → Among t terms → rows t.0 ≤ given
+
+pub expands_next : (variables : Option ℕ) (k : ℕ) (front : List (List ℕ)) (next : List ℕ) (terms after : Terms (List ℕ)) → AreWhole terms → AreWhole after → IsPartition next
+    → ((t : Term) → Among t (numerators terms) → IsPartition t.0 × (rows t.0 ≤ k) × IsShownIn variables (rows t.0 + rows next) k)
+    → HasFewRows variables after
+    → ExpandsInSchurs variables (schur_product front) terms
+    → Same (numerators after) (multiplied k next (numerators terms))
+    → ExpandsInSchurs variables (schur_product (front ++ (next ∷ []))) after
+expands_next None k front next terms after w v q labels few e is =
+    every_step front next (λ label. as_fractions (classical_product k (label ∷ next ∷ []))) terms after w v
+    (λ t m. let l = labels t m in (AreWhole-as_fractions (classical_product k (t.0 ∷ next ∷ [])), two_expand None k t.0 next l.0 q l.1 l.2))
+    e (subst (λ (l : WholeTerms). Same (numerators after) l) (sym (by_products k next (numerators terms))) is)
+expands_next (Some given) k front next terms after w v q labels few e is =
+    limited_step given front next (λ label. as_fractions (classical_product k (label ∷ next ∷ []))) terms after w v
+    (λ t m. let l = labels t m in (AreWhole-as_fractions (classical_product k (t.0 ∷ next ∷ [])), two_expand (Some given) k t.0 next l.0 q l.1 l.2))
+    e (subst (λ (l : WholeTerms). Same (numerators after) l) (sym (by_products k next (numerators terms))) is)
+    few
+
+-- ---- a factor with more rows than there are variables
+
+times-nothing_left : (f g : Poly) → Same f nothing → Same (times f g) nothing
+times-nothing_left f g e = times_respects f nothing g g e (Same_refl g)
+
+times-nothing_right : (f g : Poly) → Same g nothing → Same (times f g) nothing
+times-nothing_right f g e =
+    Same_trans (times f g) (times f nothing) nothing (times_respects f f g nothing (Same_refl f) e)
+    (same_from_pair (times f nothing) nothing (λ φ. pair_times f nothing φ ∙ pair_zero f))
+
+pub product_nothing : (n : ℕ) (factors : List (List ℕ)) (parts : List ℕ) → Among parts factors → IsPartition parts → n < rows parts → Same (schur_product factors n) nothing
+product_nothing n [] parts m p h = absurd m
+product_nothing n (first ∷ []) parts (inl e) p h = subst (λ shape. Same (schur shape n) nothing) e (schur_few_variables n parts p h)
+product_nothing n (first ∷ []) parts (inr m) p h = absurd m
+product_nothing n (first ∷ second ∷ factors) parts (inl e) p h =
+    times-nothing_left (schur first n) (schur_product (second ∷ factors) n) (subst (λ shape. Same (schur shape n) nothing) e (schur_few_variables n parts p h))
+product_nothing n (first ∷ second ∷ factors) parts (inr m) p h =
+    times-nothing_right (schur first n) (schur_product (second ∷ factors) n) (product_nothing n (second ∷ factors) parts m p h)

@@ -1,0 +1,124 @@
+-- Pieri's rules, by alternants: h_k and e_k are sums of monomials, and what is no strip cancels.
+use Rattle.std.proofs.Common.{◌≡◌, ℕ, ◌+◌, ◌≤◌, Bool, true, false, ◌&&◌, cond, eqb, nat_le, List, [], ◌∷◌, ◌++◌, length, refl, sym, ◌∙◌, ap, ap₂, arith, ℤ, pos, ◌*ℤ◌}
+use Rattle.std.proofs.lemmas.Int.{ints}
+use Rattle.std.proofs.lemmas.Bool.{leb-true}
+use Rattle.sym_model.specs.Sum.{total, each, select}
+use Rattle.sym_model.specs.Partition.{Falls, IsPartition, Holds, rows, size, without_last_zeros}
+use Rattle.sym_model.specs.Polynomial.{Same, join, resize, pair, times}
+use Rattle.sym_model.specs.Symmetric.{Symmetric}
+use Rattle.sym_model.specs.Strip.{IsHorizontalStrip, IsVerticalStrip}
+use Rattle.sym_model.specs.Bases.{exponent_lists, monomials, at_most_one, complete_of, elementary_of}
+use Rattle.sym_model.specs.Schur.{schur}
+use Rattle.sym_model.specs.Alternant.{alternant, staircase}
+use Rattle.sym_model.specs.GoodTableau.{is_falling}
+use Rattle.sym_model.proofs.Sums.{total_ext, total_among, total_select, Among_from_select}
+use Rattle.sym_model.proofs.Exponents.{join_comm, join_assoc, length-resize}
+use Rattle.sym_model.proofs.Polynomials.{pair_monomials}
+use Rattle.sym_model.proofs.Monomials.{coefficient-monomials, members_of-exponent_lists, In-monomials}
+use Rattle.monomial_laws.proofs.SchurMajorants.{In-schur}
+use Rattle.beta_list_laws.proofs.NeighbourExchanges.{length-exchange, size-exchange}
+use Rattle.tableau_laws.proofs.ColumnCounts.{falling-resize}
+use Rattle.alternant_laws.proofs.FallingAlternants.{join_padded, falls_from_test}
+use Rattle.alternant_laws.proofs.SortedAlternants.{alternant-equal}
+use Rattle.product_laws.specs.StripLists.{ListsEach, AddsHorizontalStrip, AddsVerticalStrip}
+use Rattle.product_laws.proofs.StripShapes.{keeps_below, adds_column, shapes_total, horizontal_sound, horizontal_complete, vertical_sound, vertical_complete}
+use Rattle.product_laws.proofs.StaircaseProducts.{strip_product}
+use Rattle.product_laws.proofs.Overlaps.{alternants_turn, strips_remain, equal_found}
+
+-- ---- sums of all monomials whose exponents pass a symmetric test
+
+pub symmetric-monomials : (test : List ℕ → Bool) (n d : ℕ) → ((left : List ℕ) (a b : ℕ) (right : List ℕ) → test (left ++ (a ∷ b ∷ right)) ≡ test (left ++ (b ∷ a ∷ right)))
+    → Symmetric (monomials test n d)
+symmetric-monomials test n d h left a b right =
+    coefficient-monomials test n d (left ++ (a ∷ b ∷ right))
+    ∙ ap₂ (λ (s t : Bool). cond s (cond t (pos 1) (pos 0)) (pos 0))
+    (ap₂ (λ (l s : ℕ). eqb l n && eqb s d) (length-exchange left a b right) (size-exchange left a b right)) (h left a b right)
+    ∙ sym (coefficient-monomials test n d (left ++ (b ∷ a ∷ right)))
+
+ones-exchange : (left : List ℕ) (a b : ℕ) (right : List ℕ) → at_most_one (left ++ (a ∷ b ∷ right)) ≡ at_most_one (left ++ (b ∷ a ∷ right))
+ones-exchange [] a b right = turned (nat_le a 1) (nat_le b 1) (at_most_one right)
+  where
+    turned : (x y z : Bool) → (x && (y && z)) ≡ (y && (x && z))
+    turned true true z = refl
+    turned true false z = refl
+    turned false true z = refl
+    turned false false z = refl
+ones-exchange (c ∷ left) a b right = ap (λ (t : Bool). nat_le c 1 && t) (ones-exchange left a b right)
+
+-- ---- the sums in n places
+
+turned_sum : (n : ℕ) (m α : List ℕ) → join (join m (staircase n)) α ≡ join (join m α) (staircase n)
+turned_sum n m α = join_assoc m (staircase n) α ∙ ap (join m) (join_comm (staircase n) α) ∙ sym (join_assoc m α (staircase n))
+
+once_times : (x : ℤ) → x ≡ pos 1 *ℤ x
+once_times x = omega (arith, ints)
+
+-- what is summed over shapes is what is summed over the exponents that pass the test
+pub strips_total : (n k : ℕ) (parts : List ℕ) → IsPartition parts → rows parts ≤ n → (test : List ℕ → Bool) (S : List ℕ → Type 0)
+    → ((α : List ℕ) → length α ≡ n → test α ≡ true → Falls (join (resize n parts) α) × S (without_last_zeros (join (resize n parts) α)))
+    → ((α : List ℕ) → length α ≡ n → Falls (join (resize n parts) α) → S (without_last_zeros (join (resize n parts) α)) → test α ≡ true)
+    → ((ν : List ℕ) → S ν → Holds ν parts)
+    → (list : List (List ℕ)) → ListsEach (λ ν. IsPartition ν × (size ν ≡ size parts + k) × S ν) list
+    → (φ : List ℕ → ℤ)
+    → total (λ (α : List ℕ). pair (alternant (join (join (resize n parts) (staircase n)) α)) φ) (select test (exponent_lists n k))
+    ≡ total (λ (ν : List ℕ). pos 1 *ℤ pair (alternant (join ν (staircase n))) φ) (select (λ (ν : List ℕ). nat_le (rows ν) n) list)
+strips_total n k parts p few test S sound complete held list l φ =
+    total_ext (λ (α : List ℕ). pair (alternant (join (join (resize n parts) (staircase n)) α)) φ) (λ (α : List ℕ). pair (alternant (join (join (resize n parts) α) (staircase n))) φ)
+    (λ α. ap (λ β. pair (alternant β) φ) (turned_sum n (resize n parts) α)) (select test (exponent_lists n k))
+    ∙ shapes_total n k parts p few test S sound complete held list l (λ γ. pair (alternant (join γ (staircase n))) φ)
+    ∙ total_among (λ (ν : List ℕ). pair (alternant (join (resize n ν) (staircase n))) φ) (λ (ν : List ℕ). pos 1 *ℤ pair (alternant (join ν (staircase n))) φ) (select (λ (ν : List ℕ). nat_le (rows ν) n) list)
+    (λ ν i.
+    ap (λ β. pair (alternant β) φ) (join_padded n ν (leb-true (rows ν) n (Among_from_select (λ (ν : List ℕ). nat_le (rows ν) n) ν list i).1))
+    ∙ once_times (pair (alternant (join ν (staircase n))) φ))
+
+falls-padded : (n : ℕ) (parts : List ℕ) → Falls parts → Falls (resize n parts)
+falls-padded n parts f = falls_from_test (resize n parts) (falling-resize n parts f)
+
+pub horizontal : (n k : ℕ) (parts : List ℕ) (list : List (List ℕ)) → IsPartition parts
+    → ListsEach (AddsHorizontalStrip k parts) list
+    → Same (times (complete_of k n) (schur parts n)) (each (λ ν. schur ν n) list)
+horizontal n k parts list p l =
+    strip_product n parts (complete_of k n) (λ ν. schur ν n) (λ ν. pos 1) list p (In-monomials (λ α. true) n k) (symmetric-monomials (λ α. true) n k (λ left a b right. refl))
+    (λ ν. In-schur ν n) (λ ν φ. once_times (pair (schur ν n) φ)) (λ ν i. let q = (l.members ν).0 i in (q.0, q.2.holds))
+    (λ few φ.
+    pair_monomials (select (λ (α : List ℕ). true) (exponent_lists n k)) (λ α. pair (alternant (join (join parts (staircase n)) α)) φ)
+    ∙ total_select (λ (α : List ℕ). pair (alternant (join (join parts (staircase n)) α)) φ) (λ (α : List ℕ). true) (exponent_lists n k)
+    ∙ total_ext (λ (α : List ℕ). pair (alternant (join (join parts (staircase n)) α)) φ) (λ (α : List ℕ). pair (alternant (join (join (resize n parts) (staircase n)) α)) φ)
+    (λ α. ap (λ β. pair (alternant (join β α)) φ) (sym (join_padded n parts few))) (exponent_lists n k)
+    ∙ strips_remain n (resize n parts) (λ β. pair (alternant β) φ) (length-resize n parts) (falls-padded n parts p.falls) (alternants_turn φ) k
+    ∙ strips_total n k parts p few (keeps_below (resize n parts)) (λ ν. IsHorizontalStrip ν parts)
+    (λ α e t. horizontal_sound n parts α few e t) (λ α e f s. horizontal_complete n parts α p.falls few e f s) (λ ν s. s.holds) list l φ)
+
+pub vertical : (n k : ℕ) (parts : List ℕ) (list : List (List ℕ)) → IsPartition parts
+    → ListsEach (AddsVerticalStrip k parts) list
+    → Same (times (elementary_of k n) (schur parts n)) (each (λ ν. schur ν n) list)
+vertical n k parts list p l =
+    strip_product n parts (elementary_of k n) (λ ν. schur ν n) (λ ν. pos 1) list p (In-monomials at_most_one n k) (symmetric-monomials at_most_one n k ones-exchange)
+    (λ ν. In-schur ν n) (λ ν φ. once_times (pair (schur ν n) φ)) (λ ν i. let q = (l.members ν).0 i in (q.0, q.2.holds))
+    (λ few φ.
+    pair_monomials (select at_most_one (exponent_lists n k)) (λ α. pair (alternant (join (join parts (staircase n)) α)) φ)
+    ∙ total_ext (λ (α : List ℕ). pair (alternant (join (join parts (staircase n)) α)) φ) (λ (α : List ℕ). pair (alternant (join (join (resize n parts) (staircase n)) α)) φ)
+    (λ α. ap (λ β. pair (alternant (join β α)) φ) (sym (join_padded n parts few))) (select at_most_one (exponent_lists n k))
+    ∙ columns_remain φ
+    ∙ strips_total n k parts p few (adds_column (resize n parts)) (λ ν. IsVerticalStrip ν parts)
+    (λ α e t. vertical_sound n parts α few e t) (λ α e f s. vertical_complete n parts α few e f s) (λ ν s. s.holds) list l φ)
+  where
+    m : List ℕ
+    m = resize n parts
+
+    columns_remain : (φ : List ℕ → ℤ) → total (λ (α : List ℕ). pair (alternant (join (join m (staircase n)) α)) φ) (select at_most_one (exponent_lists n k))
+        ≡ total (λ (α : List ℕ). pair (alternant (join (join m (staircase n)) α)) φ) (select (adds_column m) (exponent_lists n k))
+    columns_remain φ =
+        total_select F at_most_one (exponent_lists n k)
+        ∙ total_among (λ (α : List ℕ). cond (at_most_one α) (F α) (pos 0)) (λ (α : List ℕ). cond (adds_column m α) (F α) (pos 0)) (exponent_lists n k)
+        (λ α i. by (at_most_one α) (is_falling (join m α)) (F α) (λ o e. alternant-equal (join (join m (staircase n)) α) φ
+        (equal_found n m α (length-resize n parts) (members_of-exponent_lists α n k i).0 (falls-padded n parts p.falls) o e)))
+        ∙ sym (total_select F (adds_column m) (exponent_lists n k))
+      where
+        F : List ℕ → ℤ
+        F α = pair (alternant (join (join m (staircase n)) α)) φ
+
+        by : (o f : Bool) (z : ℤ) → (o ≡ true → f ≡ false → z ≡ pos 0) → cond o z (pos 0) ≡ cond (o && f) z (pos 0)
+        by true true z h = refl
+        by true false z h = h refl refl
+        by false f z h = refl

@@ -1,0 +1,42 @@
+-- The relation of rim-hook reduction, one factor after another.
+use Rattle.std.proofs.Common.{◌≡◌, ◌≤◌, ℕ, List, [], ◌∷◌, ◌++◌, refl, ◌∙◌, ap, ap₂, inl, inr, ℤ}
+use Rattle.sym_model.specs.Sum.{Among}
+use Rattle.sym_model.specs.Partition.{IsPartition, rows}
+use Rattle.sym_model.specs.Expansion.{Terms}
+use Rattle.sym_model.specs.WholeTerms.{WholeTerms, coefficient_by, same_power, numerators, EachLabel}
+use Rattle.sym_model.specs.Target.{Reduction, AreReductions, IsRimHookReduction, classical_product, reduced_terms}
+use Rattle.alternant_laws.proofs.ClassicalProducts.{classical_product-term}
+use Rattle.beta_list_laws.specs.ReductionLists.{reductions_of}
+use Rattle.beta_list_laws.proofs.Ends.{reduces_only}
+use Rattle.beta_list_laws.proofs.ReducedSums.{are_reductions}
+use Rattle.product_laws.specs.FactorSteps.{ArePartitions, quantized}
+use Rattle.product_laws.proofs.Quantum.{quantum_step}
+
+-- reductions of labels are the reductions by remainders
+are_only : (k n : ℕ) (terms : WholeTerms) (reductions : List Reduction) → 1 ≤ n → ((t : List ℕ × ℤ) → Among t terms → IsPartition t.0)
+    → AreReductions k n terms reductions → reductions ≡ reductions_of k n terms
+are_only k n [] [] h p a = refl
+are_only k n [] (r ∷ reductions) h p a = absurd a
+are_only k n (t ∷ terms) [] h p a = absurd a
+are_only k n (t ∷ terms) (r ∷ reductions) h p a = ap₂ ◌∷◌ (reduces_only k n t.0 r h (p t (inl refl)) a.0) (are_only k n terms reductions h (λ u m. p u (inr m)) a.1)
+
+each_shape : (k : ℕ) (terms : WholeTerms) → ((t : List ℕ × ℤ) → Among t terms → IsPartition t.0 × (rows t.0 ≤ k)) → EachLabel (λ shape. IsPartition shape × (rows shape ≤ k)) terms
+each_shape k [] p = tt
+each_shape k (t ∷ terms) p = (p t (inl refl), each_shape k terms (λ u m. p u (inr m)))
+
+pub rim_hook_step : (k n : ℕ) (front : List (List ℕ)) (next : List ℕ) (terms after : Terms (ℕ × List ℕ)) → 1 ≤ n → ArePartitions front → IsPartition next
+    → IsRimHookReduction k n (classical_product k front) terms
+    → ((label : ℕ × List ℕ) → coefficient_by same_power (numerators after) label ≡ coefficient_by same_power (quantized k n next (numerators terms)) label)
+    → IsRimHookReduction k n (classical_product k (front ++ (next ∷ []))) after
+rim_hook_step k n front next terms after h p q r e = record {
+  reductions = reductions_of k n (classical_product k (front ++ (next ∷ [])));
+  reduce =
+      are_reductions k n (classical_product k (front ++ (next ∷ []))) h
+      (each_shape k (classical_product k (front ++ (next ∷ []))) (λ t m. let c = classical_product-term k (front ++ (next ∷ [])) t m in (c.partition, c.few)));
+  sums = λ label.
+      e label
+      ∙ quantum_step k n front next (numerators terms) h p q (λ l.
+      r.sums l
+      ∙ ap (λ (list : List Reduction). coefficient_by same_power (reduced_terms (classical_product k front) list) l)
+      (are_only k n (classical_product k front) r.reductions h (λ t m. (classical_product-term k front t m).partition) r.reduce)) label;
+}

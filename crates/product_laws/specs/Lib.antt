@@ -1,0 +1,4 @@
+pub mod FactorSteps
+pub mod CountedProducts
+pub mod StripLists
+pub mod StripTerms

@@ -1,5 +1,0 @@
-use Rattle.std.proofs.Common.{◌-◌, length}
-use Rattle.reduced_products.proofs.long_factors.+has_long_from.Given as goal
-
-abbrev pub decreases-has_long_from : goal.decreases-has_long_from
-decreases-has_long_from l = length l.factors.now - l.at

@@ -1,4 +1,0 @@
-pub mod Collected
-pub mod ReducedLists
-pub mod FactorRows
-pub mod HeavySteps

@@ -1,6 +1,0 @@
-pub mod Remainders
-pub mod Lowest
-pub mod Ends
-pub mod Windows
-pub mod AlcoveEnds
-pub mod ReducedSums

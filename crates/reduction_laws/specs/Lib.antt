@@ -1,3 +1,0 @@
-pub mod LowestList
-pub mod AlcoveEnd
-pub mod ReductionLists

@@ -1,9 +1,0 @@
--- The reductions of the labels of a list.
-use Rattle.std.specs.Prelude.{ℕ, ℤ, List, map}
-use Rattle.sym_model.specs.WholeTerms.{WholeTerms}
-use Rattle.sym_model.specs.Target.{Reduction}
-use Rattle.reduction_laws.specs.LowestList.{reduction_by_remainders}
-
--- the reduction by rim hooks of n cells of each label, for partitions with at most k rows
-abbrev pub reductions_of : ℕ → ℕ → WholeTerms → List Reduction
-reductions_of k n terms = map (λ (t : List ℕ × ℤ). reduction_by_remainders k n t.0) terms

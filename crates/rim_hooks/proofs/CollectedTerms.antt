@@ -1,0 +1,137 @@
+-- Terms added to a table: what it has then, and how large its coefficients can be.
+--     collects-more       one term more
+--     refused_product     a sign times a coefficient that does not fit
+--     refused_sum         a sum that does not fit
+use Rattle.std.proofs.Common.{◌≡◌, ◌+◌, ◌^◌, ◌≤◌, inl, inr, Bool, true, false, cond, [], ◌∷◌, ◌++◌, refl, sym, ◌∙◌, ap, subst, arith, ℤ, pos, negsuc, ◌+ℤ◌, ◌*ℤ◌, Some, None, FitsSigned, to_z, of_z, w8}
+use Rattle.std.specs.Prelude.{nat_abs, Result, Ok, Err, OnOk}
+use Rattle.std.specs.Int.{w128}
+use Rattle.std.proofs.lemmas.Bool.Decides.{nat_tests}
+use Rattle.std.proofs.lemmas.Int.{ints}
+use Rattle.std.proofs.Math.IntN.{+ℤ_idr}
+use Rattle.sym_model.specs.Canonical.{fits_128_bits}
+use Rattle.sym_model.specs.Expansion.{Terms, Fraction}
+use Rattle.sym_model.specs.WholeTerms.{WholeTermsOf, coefficient_by, absolute_total}
+use Rattle.sym_model.proofs.Sums.{total_append}
+use Rattle.coeff_rings.specs.Fractions.{whole, fraction_sum}
+use Rattle.coeff_rings.specs.Checked.{checked_i128}
+use Rattle.coeff_rings.specs.Proved.Whole.{sum-whole}
+use Rattle.sparse_polys.specs.Combination.{coefficient, HasMoreAt}
+use Rattle.sparse_polys.specs.Refusal.{IsRefused}
+use Rattle.rim_hooks.specs.Collected.{Collects, IsSign}
+
+-- ---- absolute values
+
+pub nat_abs-sum : (a b : ℤ) → nat_abs (a +ℤ b) ≤ nat_abs a + nat_abs b
+nat_abs-sum (pos m) (pos n) = omega (arith, ints)
+nat_abs-sum (pos m) (negsuc n) = omega (arith, ints)
+nat_abs-sum (negsuc m) (pos n) = omega (arith, ints)
+nat_abs-sum (negsuc m) (negsuc n) = omega (arith, ints)
+
+nat_abs-signed : (c sign : ℤ) → IsSign sign → nat_abs (c *ℤ sign) ≡ nat_abs c
+nat_abs-signed c sign (inl e) = ap (λ s. nat_abs (c *ℤ s)) e ∙ by c
+  where
+    by : (z : ℤ) → nat_abs (z *ℤ pos 1) ≡ nat_abs z
+    by (pos n) = omega (arith, ints)
+    by (negsuc n) = omega (arith, ints)
+nat_abs-signed c sign (inr e) = ap (λ s. nat_abs (c *ℤ s)) e ∙ by c
+  where
+    by : (z : ℤ) → nat_abs (z *ℤ negsuc 0) ≡ nat_abs z
+    by (pos n) = omega (arith, ints)
+    by (negsuc n) = omega (arith, ints)
+
+past_bound : (z : ℤ) → fits_128_bits z ≡ false → 2 ^ 127 ≤ nat_abs z
+past_bound (pos n) e = grind (arith, nat_tests)
+past_bound (negsuc n) e = let h : 2 ^ 127 ≤ n = grind (arith, nat_tests) in omega arith
+
+pub unanswered : (z : ℤ) → checked_i128 z ≡ None → 2 ^ 127 ≤ nat_abs z
+unanswered z e = by (fits_128_bits z) refl e
+  where
+    by : (b : Bool) → fits_128_bits z ≡ b → cond b (Some z) None ≡ None → 2 ^ 127 ≤ nat_abs z
+    by true d h = absurd (cc)
+    by false d h = past_bound z d
+
+pub refused_product : (c sign : ℤ) → IsSign sign → checked_i128 (c *ℤ sign) ≡ None → 2 ^ 127 ≤ nat_abs c
+refused_product c sign s e = subst (λ n. 2 ^ 127 ≤ n) (nat_abs-signed c sign s) (unanswered (c *ℤ sign) e)
+
+module _ {L : Type 0} (eq : L → L → Bool) where
+  coefficient-push : (before : WholeTermsOf L) (label : L) (z : ℤ) (other : L)
+      → coefficient_by eq (before ++ (label, z) ∷ []) other ≡ coefficient_by eq before other +ℤ cond (eq label other) z (pos 0)
+  coefficient-push before label z other =
+      total_append (λ (t : L × ℤ). cond (eq t.0 other) t.1 (pos 0)) before ((label, z) ∷ [])
+      ∙ ap (λ s. coefficient_by eq before other +ℤ s) (+ℤ_idr (cond (eq label other) z (pos 0)))
+
+  pub absolute-push : (before : WholeTermsOf L) (label : L) (z : ℤ) → absolute_total (before ++ (label, z) ∷ []) ≡ absolute_total before + nat_abs z
+  absolute-push [] label z = omega arith
+  absolute-push (t ∷ before) label z = let e = absolute-push before label z in omega arith
+
+  coefficient_within : (before : WholeTermsOf L) (label : L) → nat_abs (coefficient_by eq before label) ≤ absolute_total before
+  coefficient_within [] label = omega arith
+  coefficient_within (t ∷ before) label =
+      let r = coefficient_within before label in
+      let s = nat_abs-sum (cond (eq t.0 label) t.1 (pos 0)) (coefficient_by eq before label) in
+      let c = chosen (eq t.0 label) t.1 in
+      omega arith
+    where
+      chosen : (b : Bool) (z : ℤ) → nat_abs (cond b z (pos 0)) ≤ nat_abs z
+      chosen true z = omega arith
+      chosen false z = omega arith
+
+  pub collects-none : (table : Terms L) → table ≡ [] → Collects eq [] table
+  collects-none table e = subst (Collects eq []) (sym e) (λ label. refl)
+
+  pub collects-more : ((a b : L) → eq a b ≡ true → a ≡ b) → (before : WholeTermsOf L) (label : L) (z : ℤ) (old new : Terms L) → Collects eq before old → HasMoreAt eq old label (whole z) new
+      → Collects eq (before ++ (label, z) ∷ []) new
+  collects-more same before label z old new was more other = by (eq label other) refl (more other)
+    where
+      by : (b : Bool) → eq label other ≡ b → coefficient eq new other ≡ cond (eq label other) (fraction_sum (coefficient eq old label) (whole z)) (coefficient eq old other)
+          → coefficient eq new other ≡ whole (coefficient_by eq (before ++ (label, z) ∷ []) other)
+      by true e m =
+          m
+          ∙ ap (λ b. cond b (fraction_sum (coefficient eq old label) (whole z)) (coefficient eq old other)) e
+          ∙ ap (λ c. fraction_sum c (whole z)) (was label ∙ ap (λ l. whole (coefficient_by eq before l)) (same label other e))
+          ∙ sum-whole (coefficient_by eq before other) z
+          ∙ ap whole (sym (coefficient-push before label z other ∙ ap (λ b. coefficient_by eq before other +ℤ cond b z (pos 0)) e))
+      by false e m =
+          m
+          ∙ ap (λ b. cond b (fraction_sum (coefficient eq old label) (whole z)) (coefficient eq old other)) e
+          ∙ was other
+          ∙ ap whole (sym (coefficient-push before label z other ∙ ap (λ b. coefficient_by eq before other +ℤ cond b z (pos 0)) e ∙ +ℤ_idr (coefficient_by eq before other)))
+
+  pub refused_sum : (before : WholeTermsOf L) (label : L) (c sign z : ℤ) (old : Terms L) → IsSign sign → z ≡ c *ℤ sign → Collects eq before old
+      → IsRefused (FitsSigned w128) whole (λ a b. checked_i128 (a +ℤ b)) (coefficient eq old label) (whole z) → 2 ^ 127 ≤ absolute_total before + nat_abs c
+  refused_sum before label c sign z old s e was r =
+      let left : r.left ≡ coefficient_by eq before label = ap (λ (f : Fraction). f.0) (r.left_value ∙ was label) in
+      let right : r.right ≡ c *ℤ sign = ap (λ (f : Fraction). f.0) r.right_value ∙ e in
+      let past = unanswered (r.left +ℤ r.right) r.refused in
+      let sum = nat_abs-sum r.left r.right in
+      let a = ap nat_abs left in
+      let b = ap nat_abs right ∙ nat_abs-signed c sign s in
+      let w = coefficient_within before label in
+      omega arith
+
+pub collects_same : {L : Type 0} (eq : L → L → Bool) (xs ys : WholeTermsOf L) (table : Terms L) → ((label : L) → coefficient_by eq xs label ≡ coefficient_by eq ys label)
+    → Collects eq xs table → Collects eq ys table
+collects_same eq xs ys table e was label = was label ∙ ap whole (e label)
+
+pub answered_is : (z s : ℤ) → Some s ≡ checked_i128 z → s ≡ z
+answered_is z s e = by (fits_128_bits z) e
+  where
+    by : (b : Bool) → Some s ≡ cond b (Some z) None → s ≡ z
+    by true h = cc
+    by false h = absurd (cc)
+
+pub kept_wide : (z : ℤ) → IsSign z → to_z w128 (of_z w128 z) ≡ z
+kept_wide z (inl e) = subst (λ y. to_z w128 (of_z w128 y) ≡ y) (sym e) refl
+kept_wide z (inr e) = subst (λ y. to_z w128 (of_z w128 y) ≡ y) (sym e) refl
+
+pub kept_narrow : (z : ℤ) → IsSign z → to_z w8 (of_z w8 z) ≡ z
+kept_narrow z (inl e) = subst (λ y. to_z w8 (of_z w8 y) ≡ y) (sym e) refl
+kept_narrow z (inr e) = subst (λ y. to_z w8 (of_z w8 y) ≡ y) (sym e) refl
+
+-- a sign that passed through a narrow and a wide number
+pub kept_through : (sign narrow wide : ℤ) → IsSign sign → narrow ≡ to_z w8 (of_z w8 sign) → wide ≡ to_z w128 (of_z w128 narrow) → wide ≡ sign
+kept_through sign narrow wide s e d = d ∙ ap (λ z. to_z w128 (of_z w128 z)) (e ∙ kept_narrow sign s) ∙ kept_wide sign s
+
+pub on_ok : {T E : Type 0} {P Q : Type 0} (r : Result T E) → (P → Q) → OnOk r P → OnOk r Q
+on_ok (Ok x) f p = f p
+on_ok (Err e) f p = p

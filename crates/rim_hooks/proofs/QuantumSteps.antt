@@ -1,0 +1,313 @@
+-- The steps of a quantum product.
+--     quantum_step_made    what makes a step
+--     quantum_step_is      and what a step makes
+--     room_left            the shapes after a step have room
+--     quantum_steps_meet   steps through all factors make the quantum product
+--     quantum_none         where a factor has more than k rows, they can lead to 0
+use Rattle.std.proofs.Common.{◌≡◌, ◌⊎◌, ℕ, ◌+◌, ◌*◌, ◌^◌, ◌<◌, ◌≤◌, List, [], ◌∷◌, ◌++◌, map, length, drop, refl, sym, ◌∙◌, ap, ap₂, subst, inl, inr, arith, append-nil, append_assoc, ℤ, pos, Some, None}
+use Rattle.std.specs.Prelude.{slice_get}
+use Rattle.std.proofs.Math.Nat.{mul-le-mul_left}
+use Rattle.sym_model.specs.Sum.{Among}
+use Rattle.sym_model.specs.Partition.{IsPartition, size, rows}
+use Rattle.sym_model.specs.LabelLimits.{is_power_label}
+use Rattle.sym_model.specs.Expansion.{Terms}
+use Rattle.sym_model.specs.WholeTerms.{WholeTerms, coefficient_by, same_power, numerators, EachLabel}
+use Rattle.sym_model.specs.RimHookReduction.{ReducesTo}
+use Rattle.sym_model.specs.Target.{Reduction, AreReductions, IsRimHookReduction, classical_product, reduced_terms}
+use Rattle.sym_model.specs.ReductionSteps.{classical_weight, shape_of, step_weight, AreCollected, ReduceEach, reduced_each, IsQuantumStep, StepsLead, IsReducedInSteps}
+use Rattle.sym_model.proofs.Ring.{one-product}
+use Rattle.sym_model.proofs.Sums.{Among-append_left, Among-append_right}
+use Rattle.beta_list_laws.specs.LowestList.{reduction_by_remainders}
+use Rattle.beta_list_laws.specs.ReductionLists.{reductions_of}
+use Rattle.beta_list_laws.proofs.Ends.{goes_cells, goes_rows, reduces_by_remainders, reduces_only}
+use Rattle.beta_list_laws.proofs.ReducedSums.{are_reductions}
+use Rattle.product_laws.specs.FactorSteps.{ArePartitions, raised, reduced_product, quantized}
+use Rattle.product_laws.proofs.Quantum.{quantum_step}
+use Rattle.sparse_polys.specs.Combination.{IsCombination, HasSameCoefficients}
+use Rattle.partitions.specs.FactorList.{cells_of}
+use Rattle.rim_hooks.specs.Collected.{Collects}
+use Rattle.rim_hooks.specs.FactorRows.{AreFew, HasLong, HaveRoom}
+use Rattle.rim_hooks.specs.HeavySteps.{HasHeavyPowers, IsHeavyQuantum}
+use Rattle.rim_hooks.specs.ReducedLists.{PowerTerms, reduced_list, same_power_label}
+use Rattle.rim_hooks.proofs.Reducing.{equal_power, power_label_self, power_true, power_self}
+use Rattle.rim_hooks.proofs.ClassicalLists.{classical_labels, classical_sizes, classical_long_left, classical_long_right}
+use Rattle.rim_hooks.proofs.CollectedLists.{collected_table, table_read, same_read, label_there, each_append, each_among, each_from, numerator_among, gathered, coefficient-gathered, collected-gathered}
+use Rattle.rim_hooks.proofs.FactorSteps.{last_changed, none_stays, vanishes, factor_at}
+
+-- ---- reductions at each term
+
+abbrev reductions_each : ℕ → ℕ → List ℕ → PowerTerms → List (List Reduction)
+reductions_each k n factor terms = map (λ (t : (ℕ × List ℕ) × ℤ). reductions_of k n (classical_product k (t.0.1 ∷ factor ∷ []))) terms
+
+reduce_each : (k n : ℕ) (factor : List ℕ) (terms : PowerTerms) → 1 ≤ n → ReduceEach k n factor terms (reductions_each k n factor terms)
+reduce_each k n factor [] h = tt
+reduce_each k n factor (t ∷ terms) h =
+    (are_reductions k n (classical_product k (t.0.1 ∷ factor ∷ [])) h (classical_labels k (t.0.1 ∷ factor ∷ [])), reduce_each k n factor terms h)
+
+reduced_each-quantized : (k n : ℕ) (factor : List ℕ) (terms : PowerTerms) → reduced_each k factor terms (reductions_each k n factor terms) ≡ quantized k n factor terms
+reduced_each-quantized k n factor [] = refl
+reduced_each-quantized k n factor (t ∷ terms) =
+    ap (λ (l : PowerTerms). raised t.0.0 t.1 (reduced_product k n (t.0.1 ∷ factor ∷ [])) ++ l) (reduced_each-quantized k n factor terms)
+
+-- reductions of labels are the reductions by remainders
+are_only : (k n : ℕ) (terms : WholeTerms) (reductions : List Reduction) → 1 ≤ n → EachLabel (λ shape. IsPartition shape × (rows shape ≤ k)) terms
+    → AreReductions k n terms reductions → reductions ≡ reductions_of k n terms
+are_only k n [] [] h p a = refl
+are_only k n [] (r ∷ reductions) h p a = absurd a
+are_only k n (t ∷ terms) [] h p a = absurd a
+are_only k n (t ∷ terms) (r ∷ reductions) h p a = ap₂ ◌∷◌ (reduces_only k n t.0 r h p.0.0 a.0) (are_only k n terms reductions h p.1 a.1)
+
+each_only : (k n : ℕ) (factor : List ℕ) (terms : PowerTerms) (reductions : List (List Reduction)) → 1 ≤ n → ReduceEach k n factor terms reductions
+    → reductions ≡ reductions_each k n factor terms
+each_only k n factor [] [] h a = refl
+each_only k n factor [] (r ∷ reductions) h a = absurd a
+each_only k n factor (t ∷ terms) [] h a = absurd a
+each_only k n factor (t ∷ terms) (r ∷ reductions) h a =
+    ap₂ ◌∷◌ (are_only k n (classical_product k (t.0.1 ∷ factor ∷ [])) r h (classical_labels k (t.0.1 ∷ factor ∷ [])) a.0) (each_only k n factor terms reductions h a.1)
+
+-- ---- one step
+
+pub quantum_step_made : (k n : ℕ) (factor : List ℕ) (terms next : PowerTerms) → 1 ≤ n → AreCollected same_power next
+    → ((label : ℕ × List ℕ) → coefficient_by same_power next label ≡ coefficient_by same_power (quantized k n factor terms) label)
+    → IsQuantumStep k n factor terms next
+quantum_step_made k n factor terms next h c e = record {
+  reductions = reductions_each k n factor terms;
+  reduce = reduce_each k n factor terms h;
+  collected = c;
+  sums = λ label. e label ∙ ap (λ (l : PowerTerms). coefficient_by same_power l label) (sym (reduced_each-quantized k n factor terms));
+}
+
+pub quantum_step_is : (k n : ℕ) (factor : List ℕ) (terms next : PowerTerms) → 1 ≤ n → IsQuantumStep k n factor terms next
+    → (label : ℕ × List ℕ) → coefficient_by same_power next label ≡ coefficient_by same_power (quantized k n factor terms) label
+quantum_step_is k n factor terms next h s label =
+    s.sums label
+    ∙ ap (λ (r : List (List Reduction)). coefficient_by same_power (reduced_each k factor terms r) label) (each_only k n factor terms s.reductions h s.reduce)
+    ∙ ap (λ (l : PowerTerms). coefficient_by same_power l label) (reduced_each-quantized k n factor terms)
+
+-- the table that collects the product with the factor
+pub quantum_step_table : (k n : ℕ) (factor : List ℕ) (terms : PowerTerms) (next : Terms (ℕ × List ℕ)) → 1 ≤ n
+    → Collects same_power_label (quantized k n factor terms) next → IsCombination same_power_label is_power_label next
+    → IsQuantumStep k n factor terms (numerators next)
+quantum_step_table k n factor terms next h c t =
+    quantum_step_made k n factor terms (numerators next) h
+    (collected_table same_power_label same_power equal_power power_label_self power_true power_self is_power_label next t)
+    (table_read same_power_label same_power equal_power power_label_self power_true power_self is_power_label (quantized k n factor terms) next c t)
+
+-- another table with the same coefficients
+pub quantum_step_other : (k n : ℕ) (factor : List ℕ) (terms : PowerTerms) (next other : Terms (ℕ × List ℕ))
+    → IsCombination same_power_label is_power_label next → IsCombination same_power_label is_power_label other → HasSameCoefficients same_power_label next other
+    → IsQuantumStep k n factor terms (numerators next) → IsQuantumStep k n factor terms (numerators other)
+quantum_step_other k n factor terms next other t u e s = record {
+  reductions = s.reductions;
+  reduce = s.reduce;
+  collected = collected_table same_power_label same_power equal_power power_label_self power_true power_self is_power_label other u;
+  sums = λ label.
+      same_read same_power_label same_power equal_power power_label_self power_true power_self is_power_label next other t u e label
+      ∙ s.sums label;
+}
+
+-- ---- room
+
+abbrev FitsWith : ℕ → ℕ → ℕ × List ℕ → Type 0
+FitsWith k most label = (rows label.1 ≤ k) × (label.0 + size label.1 ≤ most)
+
+power_within : (k n cells : ℕ) (end : List ℕ) (power : ℕ) → 1 ≤ n → cells ≡ size end + power * n → power + size end ≤ cells
+power_within k n cells end power h e = let p : power * 1 ≤ power * n = mul-le-mul_left power h in omega arith
+
+reduced_room : (k n cells : ℕ) (terms : WholeTerms) → 1 ≤ n → EachLabel (λ shape. IsPartition shape × (rows shape ≤ k) × (size shape ≡ cells)) terms
+    → EachLabel (FitsWith k cells) (reduced_list k n terms)
+reduced_room k n cells [] h p = tt
+reduced_room k n cells (t ∷ terms) h p =
+    by (reduction_by_remainders k n t.0) (reduces_by_remainders k n t.0 h p.0.0 p.0.1) (reduced_room k n cells terms h p.1)
+  where
+    by : (r : Reduction) → ReducesTo k n t.0 r → EachLabel (FitsWith k cells) (reduced_list k n terms)
+        → EachLabel (FitsWith k cells) (reduced_terms (t ∷ terms) (r ∷ reductions_of k n terms))
+    by None g e = e
+    by (Some r) g e =
+        ((goes_rows k n t.0 r.0 r.1 r.2 g.0, power_within k n cells r.0 r.2 h (sym p.0.2 ∙ goes_cells k n t.0 r.0 r.1 r.2 g.0)), e)
+
+raised_room : (k cells power : ℕ) (c : ℤ) (xs : PowerTerms) → EachLabel (FitsWith k cells) xs → EachLabel (FitsWith k (power + cells)) (raised power c xs)
+raised_room k cells power c [] p = tt
+raised_room k cells power c (x ∷ xs) p = ((p.0.0, (let h = p.0.1 in omega arith)), raised_room k cells power c xs p.1)
+
+-- with so many cells more there are at most 4096
+abbrev Leaves : ℕ → ℕ → ℕ × List ℕ → Type 0
+Leaves k cells label = (rows label.1 ≤ k) × (label.0 + size label.1 + cells ≤ 4096)
+
+each_leaves : (k most cells : ℕ) (xs : PowerTerms) → most + cells ≤ 4096 → EachLabel (FitsWith k most) xs → EachLabel (Leaves k cells) xs
+each_leaves k most cells [] h p = tt
+each_leaves k most cells (x ∷ xs) h p = ((p.0.0, (let g = p.0.1 in omega arith)), each_leaves k most cells xs h p.1)
+
+quantized_room : (k n cells : ℕ) (factor : List ℕ) (terms : PowerTerms) → 1 ≤ n → EachLabel (Leaves k (size factor + cells)) terms
+    → EachLabel (Leaves k cells) (quantized k n factor terms)
+quantized_room k n cells factor [] h p = tt
+quantized_room k n cells factor (t ∷ terms) h p =
+    let pair = t.0.1 ∷ factor ∷ [] in
+    let here = raised_room k (size (map size pair)) t.0.0 t.1 (reduced_product k n pair) (reduced_room k n (size (map size pair)) (classical_product k pair) h (classical_sizes k pair)) in
+    let g = p.0.1 in
+    each_append (Leaves k cells) (raised t.0.0 t.1 (reduced_product k n pair)) (quantized k n factor terms)
+    (each_leaves k (t.0.0 + size (map size pair)) cells (raised t.0.0 t.1 (reduced_product k n pair)) (omega arith) here)
+    (quantized_room k n cells factor terms h p.1)
+
+-- cells that are left for further factors
+pub room_left : (k n cells : ℕ) (factor : List ℕ) (terms : PowerTerms) (next : Terms (ℕ × List ℕ)) → 1 ≤ n → EachLabel (Leaves k (size factor + cells)) terms
+    → Collects same_power_label (quantized k n factor terms) next → IsCombination same_power_label is_power_label next → HaveRoom k cells next
+room_left k n cells factor terms next h p c t u m =
+    each_among (Leaves k cells) (quantized k n factor terms) (quantized_room k n cells factor terms h p) u.0
+    (label_there same_power power_true power_self (quantized k n factor terms) (numerators next)
+    (collected_table same_power_label same_power equal_power power_label_self power_true power_self is_power_label next t)
+    (table_read same_power_label same_power equal_power power_label_self power_true power_self is_power_label (quantized k n factor terms) next c t)
+    (u.0, u.1.0) (numerator_among u next m))
+
+pub room_table : (k cells : ℕ) (terms : Terms (ℕ × List ℕ)) → HaveRoom k cells terms → EachLabel (Leaves k cells) (numerators terms)
+room_table k cells terms h = each_from (Leaves k cells) terms h
+
+-- the room at a place among the factors
+room_here : (k at : ℕ) (factors : List (List ℕ)) (factor : List ℕ) (terms : Terms (ℕ × List ℕ)) → slice_get factors at ≡ Some factor → HaveRoom k (cells_of (drop at factors)) terms
+    → HaveRoom k (size factor + cells_of (drop (at + 1) factors)) terms
+room_here k at factors factor terms e h = subst (λ (l : List (List ℕ)). HaveRoom k (cells_of l) terms) (factor_at factors at factor e) h
+
+pub powers_room : (k at : ℕ) (factors : List (List ℕ)) (factor : List ℕ) (terms : Terms (ℕ × List ℕ)) → slice_get factors at ≡ Some factor → HaveRoom k (cells_of (drop at factors)) terms
+    → HaveRoom k (size factor) terms
+powers_room k at factors factor terms e h t m =
+    let r = room_here k at factors factor terms e h t m in
+    let l = r.1 in
+    (r.0, omega arith)
+
+pub powers_room_next : (k n at : ℕ) (factors : List (List ℕ)) (factor : List ℕ) (terms next : Terms (ℕ × List ℕ)) → 1 ≤ n → slice_get factors at ≡ Some factor
+    → HaveRoom k (cells_of (drop at factors)) terms → Collects same_power_label (quantized k n factor (numerators terms)) next → IsCombination same_power_label is_power_label next
+    → HaveRoom k (cells_of (drop (at + 1) factors)) next
+powers_room_next k n at factors factor terms next g e h c t =
+    room_left k n (cells_of (drop (at + 1) factors)) factor (numerators terms) next g
+    (room_table k (size factor + cells_of (drop (at + 1) factors)) terms (room_here k at factors factor terms e h)) c t
+
+-- ---- all steps
+
+-- factors put together
+are_front : (front back : List (List ℕ)) → ArePartitions (front ++ back) → ArePartitions front
+are_front front back p parts m = p parts (Among-append_left parts front back m)
+
+later_steps : (k n : ℕ) (front factors : List (List ℕ)) (terms last : PowerTerms) → 1 ≤ n → ArePartitions (front ++ factors)
+    → ((label : ℕ × List ℕ) → coefficient_by same_power terms label ≡ coefficient_by same_power (reduced_product k n front) label)
+    → StepsLead (IsQuantumStep k n) terms factors last
+    → (label : ℕ × List ℕ) → coefficient_by same_power last label ≡ coefficient_by same_power (reduced_product k n (front ++ factors)) label
+later_steps k n front [] terms last h p e lead label =
+    ap (λ (l : PowerTerms). coefficient_by same_power l label) (sym lead)
+    ∙ e label
+    ∙ ap (λ (l : List (List ℕ)). coefficient_by same_power (reduced_product k n l) label) (sym (append-nil front))
+later_steps k n front (factor ∷ factors) terms last h p e lead label =
+    let whole : (front ++ (factor ∷ [])) ++ factors ≡ front ++ (factor ∷ factors) = append_assoc front (factor ∷ []) factors in
+    let q : ArePartitions ((front ++ (factor ∷ [])) ++ factors) = subst ArePartitions (sym whole) p in
+    later_steps k n (front ++ (factor ∷ [])) factors lead.0 last h q
+    (λ l.
+    quantum_step_is k n factor terms lead.0 h lead.1 l
+    ∙ quantum_step k n front factor terms h (are_front front (factor ∷ factors) p) (p factor (Among-append_right factor front (factor ∷ factors) (inl refl))) e l)
+    lead.2 label
+    ∙ ap (λ (l : List (List ℕ)). coefficient_by same_power (reduced_product k n l) label) whole
+
+-- a list that is not raised
+raised_itself : (xs : PowerTerms) → raised 0 (pos 1) xs ≡ xs
+raised_itself [] = refl
+raised_itself (x ∷ xs) =
+    let zero_more : 0 + x.0.0 ≡ x.0.0 = omega arith in
+    let term : ℕ → ℤ → (ℕ × List ℕ) × ℤ = λ p c. ((p, x.0.1), c) in
+    ap₂ ◌∷◌ (ap₂ term zero_more (one-product x.1)) (raised_itself xs)
+
+first_step : (k n : ℕ) (first second : List ℕ) → quantized k n second (((0, first), pos 1) ∷ []) ≡ reduced_product k n (first ∷ second ∷ [])
+first_step k n first second =
+    append-nil (raised 0 (pos 1) (reduced_product k n (first ∷ second ∷ []))) ∙ raised_itself (reduced_product k n (first ∷ second ∷ []))
+
+pub quantum_steps_meet : (k n : ℕ) (factors : List (List ℕ)) (terms : Terms (ℕ × List ℕ)) → 1 ≤ n → 2 ≤ length factors → ArePartitions factors
+    → IsReducedInSteps k n factors (numerators terms) → IsRimHookReduction k n (classical_product k factors) terms
+quantum_steps_meet k n [] terms h l p s = absurd (omega arith)
+quantum_steps_meet k n (first ∷ []) terms h l p s = absurd (omega arith)
+quantum_steps_meet k n (first ∷ second ∷ factors) terms h l p s = record {
+  reductions = reductions_of k n (classical_product k (first ∷ second ∷ factors));
+  reduce = are_reductions k n (classical_product k (first ∷ second ∷ factors)) h (classical_labels k (first ∷ second ∷ factors));
+  sums =
+      later_steps k n (first ∷ second ∷ []) factors s.0 (numerators terms) h p
+      (λ label.
+      quantum_step_is k n second (((0, first), pos 1) ∷ []) s.0 h s.1 label
+      ∙ ap (λ (xs : PowerTerms). coefficient_by same_power xs label) (first_step k n first second))
+      s.2;
+}
+
+-- ---- the product 0
+
+step_none : (k n : ℕ) → 1 ≤ n → (factor : List ℕ) → IsQuantumStep k n factor [] []
+step_none k n h factor = quantum_step_made k n factor [] [] h tt (λ label. refl)
+
+nothing_quantized : (k n : ℕ) (factor : List ℕ) (terms : PowerTerms) → IsPartition factor → k < rows factor → quantized k n factor terms ≡ []
+nothing_quantized k n factor [] p l = refl
+nothing_quantized k n factor (t ∷ terms) p l =
+    ap (λ (xs : WholeTerms). raised t.0.0 t.1 (reduced_terms xs (reductions_of k n xs)) ++ quantized k n factor terms) (classical_long_right k t.0.1 factor p l)
+    ∙ nothing_quantized k n factor terms p l
+
+step_long : (k n : ℕ) → 1 ≤ n → (factor : List ℕ) (terms : PowerTerms) → IsPartition factor → k < rows factor → IsQuantumStep k n factor terms []
+step_long k n h factor terms p l =
+    quantum_step_made k n factor terms [] h tt (λ label. ap (λ (xs : PowerTerms). coefficient_by same_power xs label) (sym (nothing_quantized k n factor terms p l)))
+
+step_some : (k n : ℕ) → 1 ≤ n → (factor : List ℕ) (terms : PowerTerms) → (next : PowerTerms) × IsQuantumStep k n factor terms next
+step_some k n h factor terms =
+    let next = gathered same_power power_true power_self (quantized k n factor terms) in (
+      next,
+      quantum_step_made k n factor terms next h (collected-gathered same_power power_true power_self (quantized k n factor terms))
+          (coefficient-gathered same_power power_true power_self (quantized k n factor terms)),
+    )
+
+pub quantum_none : (k n : ℕ) (factors : List (List ℕ)) → 1 ≤ n → 2 ≤ length factors → ArePartitions factors → HasLong k factors → IsReducedInSteps k n factors []
+quantum_none k n [] h l p g = absurd (omega arith)
+quantum_none k n (first ∷ []) h l p g = absurd (omega arith)
+quantum_none k n (first ∷ second ∷ factors) h l p g = by g.1
+  where
+    by : (g.0 ≡ first) ⊎ Among g.0 (second ∷ factors) → StepsLead (IsQuantumStep k n) (((0, first), pos 1) ∷ []) (second ∷ factors) []
+    by (inl e) =
+        let long = subst (λ parts. k < rows parts) e g.2 in
+        let made : IsQuantumStep k n second (((0, first), pos 1) ∷ []) [] =
+        quantum_step_made k n second (((0, first), pos 1) ∷ []) [] h tt
+        (λ label.
+        ap (λ (xs : WholeTerms). coefficient_by same_power (raised 0 (pos 1) (reduced_terms xs (reductions_of k n xs)) ++ []) label)
+        (sym (classical_long_left k first second (p first (inl refl)) long))) in
+        ([], made, none_stays (IsQuantumStep k n) k (step_none k n h) (step_long k n h) (step_some k n h) factors)
+    by (inr m) =
+        vanishes (IsQuantumStep k n) k (step_none k n h) (step_long k n h) (step_some k n h) (second ∷ factors) (((0, first), pos 1) ∷ [])
+        (λ parts q. p parts (inr q)) (g.0, m, g.2)
+
+-- ---- the last list, sorted
+
+pub quantum_sorted : (k n : ℕ) (factors : List (List ℕ)) (sums sorted : Terms (ℕ × List ℕ)) → 2 ≤ length factors
+    → IsCombination same_power_label is_power_label sums → IsCombination same_power_label is_power_label sorted → HasSameCoefficients same_power_label sums sorted
+    → IsReducedInSteps k n factors (numerators sums) → IsReducedInSteps k n factors (numerators sorted)
+quantum_sorted k n [] sums sorted l t u e s = absurd (omega arith)
+quantum_sorted k n (first ∷ []) sums sorted l t u e s = absurd (omega arith)
+quantum_sorted k n (first ∷ second ∷ factors) sums sorted l t u e s =
+    last_changed (IsQuantumStep k n) (numerators sums) (numerators sorted) (λ factor terms. quantum_step_other k n factor terms sums sorted t u e) factors second (((0, first), pos 1) ∷ []) s
+
+-- ---- from the first factor on
+
+pub started : (k n : ℕ) (first second : List ℕ) (sums : Terms (ℕ × List ℕ)) → 1 ≤ n
+    → Collects same_power_label (raised 0 (pos 1) (reduced_product k n (first ∷ second ∷ []))) sums → IsCombination same_power_label is_power_label sums
+    → IsQuantumStep k n second (((0, first), pos 1) ∷ []) (numerators sums)
+started k n first second sums h c t =
+    quantum_step_table k n second (((0, first), pos 1) ∷ []) sums h
+    (subst (λ (l : PowerTerms). Collects same_power_label l sums) (sym (append-nil (raised 0 (pos 1) (reduced_product k n (first ∷ second ∷ []))))) c) t
+
+pub started_room : (k n : ℕ) (factors rest : List (List ℕ)) (first second : List ℕ) (sums : Terms (ℕ × List ℕ)) → 1 ≤ n → factors ≡ first ∷ second ∷ rest → AreFew k factors → cells_of factors ≤ 4096
+    → Collects same_power_label (raised 0 (pos 1) (reduced_product k n (first ∷ second ∷ []))) sums → IsCombination same_power_label is_power_label sums
+    → HaveRoom k (cells_of rest) sums
+started_room k n factors rest first second sums h e f s c t =
+    let cells : cells_of factors ≡ size first + (size second + cells_of rest) = ap cells_of e in
+    room_left k n (cells_of rest) second (((0, first), pos 1) ∷ []) sums h ((f first (subst (Among first) (sym e) (inl refl)), omega arith), tt)
+    (subst (λ (l : PowerTerms). Collects same_power_label l sums) (sym (append-nil (raised 0 (pos 1) (reduced_product k n (first ∷ second ∷ []))))) c) t
+
+pub all_led : (k n : ℕ) (factors rest : List (List ℕ)) (first second : List ℕ) (next last : PowerTerms) → factors ≡ first ∷ second ∷ rest
+    → IsQuantumStep k n second (((0, first), pos 1) ∷ []) next → StepsLead (IsQuantumStep k n) next rest last → IsReducedInSteps k n factors last
+all_led k n factors rest first second next last e s l = subst (λ (f : List (List ℕ)). IsReducedInSteps k n f last) (sym e) (next, s, l)
+
+pub heavy_start : (k n : ℕ) (factors rest : List (List ℕ)) (first second : List ℕ) → factors ≡ first ∷ second ∷ rest → 2 ^ 127 ≤ 0 + 1 * classical_weight k (first ∷ second ∷ []) → IsHeavyQuantum k n factors
+heavy_start k n factors rest first second e h =
+    subst (λ (f : List (List ℕ)). IsHeavyQuantum k n f) (sym e) (step_weight shape_of k second (((0, first), pos 1) ∷ []), inl refl, omega arith)
+
+pub heavy_after : (k n : ℕ) (factors rest : List (List ℕ)) (first second : List ℕ) (next : PowerTerms) → factors ≡ first ∷ second ∷ rest → IsQuantumStep k n second (((0, first), pos 1) ∷ []) next
+    → HasHeavyPowers k n next rest → IsHeavyQuantum k n factors
+heavy_after k n factors rest first second next e s h = subst (λ (f : List (List ℕ)). IsHeavyQuantum k n f) (sym e) (h.0, inr (next, s, h.1), h.2)

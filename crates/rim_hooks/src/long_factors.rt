@@ -1,0 +1,28 @@
+//! Factors with more rows than there are variables.
+ghost use Rattle.std.specs.Prelude.{◌≡◌, ◌+◌, ◌≤◌, false, length, drop, IsTrue};
+ghost use Rattle.rim_hooks.specs.FactorRows.{HasLong, AreFew};
+
+use partitions::Factors;
+
+/// Whether some factor has more than `k` rows. In `k` variables its Schur polynomial is 0.
+pub(crate) fn has_long(factors: &Factors, k: u16) -> bool
+    ensures long { IsTrue result → HasLong k factors.now }
+    ensures few { result ≡ false → AreFew k factors.now }
+{
+    has_long_from(factors, 0, k)
+}
+
+/// The same of the factors from a place on.
+fn has_long_from(factors: &Factors, at: usize, k: u16) -> bool
+    requires { at ≤ length factors.now }
+    ensures long { IsTrue result → HasLong k (drop at factors.now) }
+    ensures few { result ≡ false → AreFew k (drop at factors.now) }
+{
+    let Some(factor) = factors.get(at) else {
+        return false;
+    };
+    if factor.rows() > k {
+        return true;
+    }
+    has_long_from(factors, at + 1, k)
+}

@@ -1,5 +1,0 @@
-use Rattle.schubert_memo.proofs.KeptEntries.{found_if}
-use Rattle.schubert_memo.proofs.memo.Memo.kept.Goals as goal
-
-pub returns-clause-is : goal.returns-clause-is
-returns-clause-is c = found_if c.args.w.now c.self.inside.cache.entries c.peek.result c.self.invariant.kept c.peek.ensures

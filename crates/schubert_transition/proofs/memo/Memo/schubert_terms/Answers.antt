@@ -1,0 +1,12 @@
+use Rattle.std.proofs.lemmas.Cmp.{nat_list_eq_equiv}
+use Rattle.sparse_polys.specs.Labels.{same_partition}
+use Rattle.sparse_polys.proofs.Values.{represents-same_coefficients}
+use Rattle.sym_model.specs.DividedDifference.{x_to_in}
+use Rattle.sym_model.specs.Schubert.{schubert_in}
+use Rattle.schubert_transition.proofs.memo.Memo.schubert_terms.Goals as goal
+
+pub returns-in-Ok-clause-meets : goal.returns-in-Ok-clause-meets
+returns-in-Ok-clause-meets c = λ n.
+    represents-same_coefficients nat_list_eq_equiv same_partition c.in_ok-terms.terms c.in-Ok.terms c.len.ensures.combination
+    c.in-Ok.ensures.combination c.in-Ok.ensures.same (λ exponents. x_to_in exponents n) (schubert_in c.args.w.now n) 1
+    (c.in_ok-terms.ensures.is.represents n)

@@ -1,0 +1,196 @@
+//! A bounded store of Schubert polynomials.
+ghost use Rattle.std.specs.Prelude.{◌≡◌, ◌≤◌, ◌^◌, ℕ, [], length, nat_eq, option_copied, List, IsSome, IfOk, OnOk, IfSome, IsErrOf};
+ghost use Rattle.std.specs.Cmp.Lexicographic.{pointwise};
+ghost use Rattle.std.specs.Map.{lookup};
+ghost use Rattle.sym_model.specs.Answer.{answer};
+ghost use Rattle.sym_model.specs.Command as commands;
+ghost use Rattle.sym_model.specs.Kind.{polynomial};
+ghost use Rattle.sym_model.specs.LargeAnswer.{HasPastCoefficient};
+ghost use Rattle.sym_model.specs.Target.{Meets};
+ghost use Rattle.lru.specs.LruCache.{lru_cache};
+ghost use Rattle.schubert_transition.specs.Kept.{IsSchubertOf, IsSchubertStore};
+
+use calc_base::{NoMemory, SumFault};
+use coeff_rings::Int;
+use lru::LruCache;
+use sparse_polys::{Monomial, Poly};
+use perm_codes::Perm;
+use crate::schubert;
+use sparse_polys::Terms;
+use std::alloc::Global;
+use std::marker::Model;
+use std::num::NonZeroUsize;
+
+/// The most terms of a polynomial that is kept.
+const MOST_TERMS: usize = 4096;
+
+/// A bounded store of Schubert polynomials, the least recently asked of which goes when another one comes. A contract sees
+/// the permutations with their polynomials, the most recently asked first, and how many there may be. Never are there more.
+#[derive(Drop)]
+pub struct Memo {
+    cache: LruCache<Perm, Poly<Int>>,
+    alloc: Global,
+}
+
+impl Model for Memo {
+    ghost use Rattle.std.specs.Prelude.{ℕ, List};
+    ghost use Rattle.sym_model.specs.Expansion.{Terms as TermList};
+    ghost use Rattle.lru.specs.LruCache.{LruCache as Entries};
+    ghost use Rattle.schubert_transition.specs.Kept.{IsSchubertStore};
+
+    ghost Value = { Entries (List ℕ) (TermList (List ℕ)) };
+
+    ghost view = { λ m. m.cache };
+
+    ghost invariant = { λ m. IsSchubertStore m.cache };
+}
+
+impl Memo {
+    /// A store of at most `capacity` polynomials, which is empty.
+    pub fn new(alloc: Global, capacity: usize) -> Result<Memo, NoMemory>
+        requires { (1 ≤ capacity) × (capacity ≤ 4096) }
+        ensures { IfOk result (λ memo. memo ≡ lru_cache [] capacity) }
+    {
+        let Some(most) = NonZeroUsize::new(capacity) else {
+            return Err(NoMemory);
+        };
+        let cache = LruCache::new(alloc, most)?;
+        Ok(Memo { cache, alloc })
+    }
+
+    /// The Schubert polynomial of a permutation. One with at most 4,096 terms is kept, but where there is no memory for that.
+    ///
+    /// It is refused as `Large` exactly where a coefficient is past 2^127 - 1. Where it is refused, the store may keep other
+    /// polynomials than before, each of them that of its permutation.
+    pub fn schubert(&mut self, w: &Perm) -> Result<Poly<Int>, SumFault>
+        ensures is { IfOk result (IsSchubertOf w.now) }
+        ensures large { IsErrOf result SumFault.Large → HasPastCoefficient (commands.schubert w.now) }
+        ensures fits { OnOk result (HasPastCoefficient (commands.schubert w.now) → ⊥) }
+        ensures kept { IsSchubertStore self.new }
+        ensures capacity { self.new.cap ≡ self.old.cap }
+    {
+        match self.copy_of(w) {
+            Ok(Some(terms)) => {
+                self.promote(w);
+                Ok(terms)
+            }
+            Ok(None) => self.made(w),
+            Err(NoMemory) => Err(SumFault::NoMemory),
+        }
+    }
+
+    /// The polynomial that is kept for a permutation. None exactly where none is kept for it. It takes no memory.
+    pub fn kept(&self, w: &Perm) -> Option<&Poly<Int>>
+        ensures value { option_copied result ≡ lookup (pointwise nat_eq w.now) self.now.entries }
+        ensures is { IfSome result (λ terms. IsSchubertOf w.now terms.now) }
+        ensures all { IsSchubertStore self.now }
+    {
+        self.cache.peek(w)
+    }
+
+    /// The terms of the Schubert polynomial of a permutation, in the printed order, kept as `schubert` keeps it.
+    ///
+    /// It is refused as `Large` exactly where a coefficient is past 2^127 - 1.
+    pub fn schubert_terms(&mut self, w: &Perm) -> Result<Terms<Monomial, Int>, SumFault>
+        ensures meets { IfOk result (λ terms. Meets (commands.schubert w.now) (answer polynomial terms)) }
+        ensures large { IsErrOf result SumFault.Large → HasPastCoefficient (commands.schubert w.now) }
+        ensures fits { OnOk result (HasPastCoefficient (commands.schubert w.now) → ⊥) }
+        ensures kept { IsSchubertStore self.new }
+        ensures capacity { self.new.cap ≡ self.old.cap }
+    {
+        let terms = self.schubert(w)?;
+        // This tells the proof that no label stands twice in it.
+        terms.len();
+        match terms.sorted_terms() {
+            Ok(terms) => Ok(terms),
+            Err(NoMemory) => Err(SumFault::NoMemory),
+        }
+    }
+
+    /// A copy of the polynomial that is kept for a permutation, where one is.
+    fn copy_of(&self, w: &Perm) -> Result<Option<Poly<Int>>, NoMemory>
+        ensures is { IfOk result (λ kept. IfSome kept (IsSchubertOf w.now)) }
+        ensures kept { IsSchubertStore self.now }
+    {
+        match self.kept(w) {
+            Some(kept) => Ok(Some(copy(kept)?)),
+            None => Ok(None),
+        }
+    }
+
+    /// Makes the permutation the most recently asked.
+    fn promote(&mut self, w: &Perm)
+        ensures kept { IsSchubertStore self.new }
+        ensures capacity { self.new.cap ≡ self.old.cap }
+    {
+        self.cache.promote(w);
+        // This tells the proof that no more are kept than may be.
+        self.cache.len();
+    }
+
+    /// The Schubert polynomial of a permutation, which is made, and kept where it has at most 4,096 terms.
+    fn made(&mut self, w: &Perm) -> Result<Poly<Int>, SumFault>
+        ensures is { IfOk result (IsSchubertOf w.now) }
+        ensures large { IsErrOf result SumFault.Large → HasPastCoefficient (commands.schubert w.now) }
+        ensures fits { OnOk result (HasPastCoefficient (commands.schubert w.now) → ⊥) }
+        ensures kept { IsSchubertStore self.new }
+        ensures capacity { self.new.cap ≡ self.old.cap }
+    {
+        match self.fresh(w) {
+            Ok(terms) => {
+                if terms.len() <= MOST_TERMS {
+                    self.keep(w, &terms);
+                }
+                Ok(terms)
+            }
+            Err(fault) => Err(fault),
+        }
+    }
+
+    /// The Schubert polynomial of a permutation, which is made.
+    fn fresh(&self, w: &Perm) -> Result<Poly<Int>, SumFault>
+        ensures is { IfOk result (IsSchubertOf w.now) }
+        ensures large { IsErrOf result SumFault.Large → HasPastCoefficient (commands.schubert w.now) }
+        ensures fits { OnOk result (HasPastCoefficient (commands.schubert w.now) → ⊥) }
+        ensures kept { IsSchubertStore self.now }
+    {
+        schubert(self.alloc, w)
+    }
+
+    /// Keeps a copy of the polynomial, or finds no memory for that.
+    fn keep(&mut self, w: &Perm, terms: &Poly<Int>)
+        requires is { IsSchubertOf w.now terms.now }
+        requires few { length terms.now ≤ 4096 }
+        ensures kept { IsSchubertStore self.new }
+        ensures capacity { self.new.cap ≡ self.old.cap }
+    {
+        if let Ok(perm) = w.copy() {
+            if let Ok(copy) = copy(terms) {
+                put(&mut self.cache, perm, copy);
+            }
+        }
+    }
+}
+
+/// A copy of a polynomial.
+fn copy(terms: &Poly<Int>) -> Result<Poly<Int>, NoMemory>
+    ensures is { IfOk result (λ copy. (w : List ℕ) → IsSchubertOf w terms.now → IsSchubertOf w copy) }
+    ensures long { IfOk result (λ copy. length copy ≡ length terms.now) }
+{
+    // This tells the proof that no label stands twice in it.
+    terms.len();
+    terms.copy()
+}
+
+/// Puts a polynomial into the store, or finds no memory for that.
+fn put(cache: &mut LruCache<Perm, Poly<Int>>, w: Perm, terms: Poly<Int>)
+    requires held { IsSchubertStore cache.old }
+    requires is { IsSchubertOf w terms }
+    requires few { length terms ≤ 4096 }
+    ensures kept { IsSchubertStore cache.new }
+    ensures capacity { cache.new.cap ≡ cache.old.cap }
+{
+    let _ = cache.put(w, terms);
+    // This tells the proof that no more are kept than may be.
+    cache.len();
+}

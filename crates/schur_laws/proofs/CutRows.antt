@@ -1,0 +1,166 @@
+-- Semistandard tableaux row by row from the top, each row below the one above it.
+use Rattle.std.proofs.Common.{◌≡◌, ℕ, zero, suc, ◌-◌, Bool, true, false, ◌&&◌, cond, List, [], ◌∷◌, map, length, drop, get_or, refl, sym, ap, ◌∙◌, subst, inl, inr, arith, ℤ, pos}
+use Rattle.sym_model.specs.Sum.{total, each, Among}
+use Rattle.sym_model.specs.Partition.{part}
+use Rattle.sym_model.specs.Schur.{words, row_lengths, fillings_of, row_rises, columns_rise, semistandard}
+use Rattle.sym_model.proofs.Sums.{total_ext, total_map, total_each, Among_from_each, Among_from_map}
+use Rattle.schur_laws.proofs.RisingWords.{rising_words, IsWord, AreLetters, total_listed, total_tested, total_rising_words, rising-tells}
+
+-- the tableaux of outer/inner with entries from 1 to n that may stand below a row p, which begins in column c + 1
+abbrev pub tableaux_below : ℕ → List ℕ → List ℕ → ℕ → List ℕ → List (List (List ℕ))
+tableaux_below n [] inner c p = [] ∷ []
+tableaux_below n (a ∷ outer) inner c p =
+    each (λ w. cond (columns_rise p (drop (c - part inner 1) w)) (map (λ T. w ∷ T) (tableaux_below n outer (drop 1 inner) (part inner 1) w)) []) (rising_words n 0 (a - part inner 1))
+
+-- whether the first row of a filling, which begins d columns before p, may stand below it
+abbrev pub may_follow : ℕ → List ℕ → List (List ℕ) → Bool
+may_follow d p [] = true
+may_follow d p (w ∷ T) = columns_rise p (drop d w)
+
+pub drop_none : (w : List ℕ) → drop 0 w ≡ w
+drop_none [] = refl
+drop_none (a ∷ w) = refl
+
+pub rises_nothing : (p : List ℕ) → columns_rise p [] ≡ true
+rises_nothing [] = refl
+rises_nothing (a ∷ p) = refl
+
+-- ---- sums over the first row
+
+pub total_below : (n a : ℕ) (outer inner : List ℕ) (c : ℕ) (p : List ℕ) (h : List (List ℕ) → ℤ)
+    → total h (tableaux_below n (a ∷ outer) inner c p)
+    ≡ total (λ w. cond (columns_rise p (drop (c - part inner 1) w)) (total (λ T. h (w ∷ T)) (tableaux_below n outer (drop 1 inner) (part inner 1) w)) (pos 0)) (rising_words n 0 (a - part inner 1))
+total_below n a outer inner c p h =
+    total_each h (λ w. cond (columns_rise p (drop (c - part inner 1) w)) (map (λ T. w ∷ T) (tableaux_below n outer (drop 1 inner) (part inner 1) w)) []) (rising_words n 0 (a - part inner 1))
+    ∙ total_ext (λ w. total h (cond (columns_rise p (drop (c - part inner 1) w)) (map (λ T. w ∷ T) (tableaux_below n outer (drop 1 inner) (part inner 1) w)) []))
+    (λ w. cond (columns_rise p (drop (c - part inner 1) w)) (total (λ T. h (w ∷ T)) (tableaux_below n outer (drop 1 inner) (part inner 1) w)) (pos 0))
+    (λ w. total_listed (columns_rise p (drop (c - part inner 1) w)) h (map (λ T. w ∷ T) (tableaux_below n outer (drop 1 inner) (part inner 1) w))
+    ∙ ap (λ z. cond (columns_rise p (drop (c - part inner 1) w)) z (pos 0)) (total_map h (λ T. w ∷ T) (tableaux_below n outer (drop 1 inner) (part inner 1) w))) (rising_words n 0 (a - part inner 1))
+
+-- of a straight shape
+pub total_straight : (n a : ℕ) (outer p : List ℕ) (h : List (List ℕ) → ℤ)
+    → total h (tableaux_below n (a ∷ outer) [] 0 p) ≡ total (λ w. cond (columns_rise p w) (total (λ T. h (w ∷ T)) (tableaux_below n outer [] 0 w)) (pos 0)) (rising_words n 0 a)
+total_straight n a outer p h =
+    total_below n a outer [] 0 p h
+    ∙ total_ext (λ w. cond (columns_rise p (drop 0 w)) (total (λ T. h (w ∷ T)) (tableaux_below n outer [] 0 w)) (pos 0)) (λ w. cond (columns_rise p w) (total (λ T. h (w ∷ T)) (tableaux_below n outer [] 0 w)) (pos 0))
+    (λ w. ap (λ v. cond (columns_rise p v) (total (λ T. h (w ∷ T)) (tableaux_below n outer [] 0 w)) (pos 0)) (drop_none w)) (rising_words n 0 (a - 0))
+    ∙ ap (λ i. total (λ w. cond (columns_rise p w) (total (λ T. h (w ∷ T)) (tableaux_below n outer [] 0 w)) (pos 0)) (rising_words n 0 i)) (let e : a - 0 ≡ a = omega arith in e)
+
+-- of a shape whose inner partition is written with a number for each row
+pub total_skew : (n a b c : ℕ) (outer inner p : List ℕ) (h : List (List ℕ) → ℤ)
+    → total h (tableaux_below n (a ∷ outer) (b ∷ inner) c p) ≡ total (λ w. cond (columns_rise p (drop (c - b) w)) (total (λ T. h (w ∷ T)) (tableaux_below n outer inner b w)) (pos 0)) (rising_words n 0 (a - b))
+total_skew n a b c outer inner p h =
+    total_below n a outer (b ∷ inner) c p h
+    ∙ ap (λ l. total (λ w. cond (columns_rise p (drop (c - b) w)) (total (λ T. h (w ∷ T)) (tableaux_below n outer l b w)) (pos 0)) (rising_words n 0 (a - b))) (drop_none inner)
+
+-- ---- the tableaux of the definitions
+
+part_next : (inner : List ℕ) → part (drop 1 inner) 1 ≡ part inner 2
+part_next [] = refl
+part_next (b ∷ inner) = ap (λ l. part l 1) (drop_none inner)
+
+semistandard_row : (inner w : List ℕ) (T : List (List ℕ)) → semistandard inner (w ∷ T) ≡ row_rises w && (may_follow (part inner 1 - part (drop 1 inner) 1) w T && semistandard (drop 1 inner) T)
+semistandard_row inner w [] = by (row_rises w)
+  where
+    by : (t : Bool) → t ≡ t && true
+    by true = refl
+    by false = refl
+semistandard_row inner w (v ∷ T) =
+    by (row_rises w) (columns_rise w (drop (part inner 1 - part inner 2) v)) (semistandard (drop 1 inner) (v ∷ T))
+    ∙ ap (λ i. row_rises w && (columns_rise w (drop (part inner 1 - i) v) && semistandard (drop 1 inner) (v ∷ T))) (sym (part_next inner))
+  where
+    by : (p q r : Bool) → (p && q) && r ≡ p && (q && r)
+    by true q r = refl
+    by false q r = refl
+
+row_lengths-first : (a : ℕ) (outer inner : List ℕ) → row_lengths (a ∷ outer) inner ≡ (a - part inner 1) ∷ row_lengths outer (drop 1 inner)
+row_lengths-first a outer [] = ap (λ i. i ∷ row_lengths outer []) (let e : a ≡ a - 0 = omega arith in e)
+row_lengths-first a outer (b ∷ inner) = ap (λ l. (a - b) ∷ row_lengths outer l) (sym (drop_none inner))
+
+-- the sum over the tableaux with this first row
+abbrev row_sum : ℕ → List ℕ → List ℕ → ℕ → List ℕ → (List (List ℕ) → ℤ) → List ℕ → ℤ
+row_sum n outer inner c p h w = cond (columns_rise p (drop (c - part inner 1) w)) (total (λ T. h (w ∷ T)) (tableaux_below n outer (drop 1 inner) (part inner 1) w)) (pos 0)
+
+-- the sum over the semistandard fillings that may stand below p
+pub total_semistandard : (n : ℕ) (outer inner : List ℕ) (c : ℕ) (p : List ℕ) (h : List (List ℕ) → ℤ)
+    → total (λ T. cond (may_follow (c - part inner 1) p T && semistandard inner T) (h T) (pos 0)) (fillings_of n (row_lengths outer inner)) ≡ total h (tableaux_below n outer inner c p)
+total_semistandard n [] inner c p h = refl
+total_semistandard n (a ∷ outer) inner c p h =
+    ap (λ l. total (λ T. cond (may_follow (c - part inner 1) p T && semistandard inner T) (h T) (pos 0)) (fillings_of n l)) (row_lengths-first a outer inner)
+    ∙ total_each (λ T. cond (may_follow (c - part inner 1) p T && semistandard inner T) (h T) (pos 0)) (λ w. map (λ T. w ∷ T) (fillings_of n (row_lengths outer (drop 1 inner)))) (words n (a - part inner 1))
+    ∙ total_ext (λ w. total (λ T. cond (may_follow (c - part inner 1) p T && semistandard inner T) (h T) (pos 0)) (map (λ T. w ∷ T) (fillings_of n (row_lengths outer (drop 1 inner)))))
+    (λ w. cond (row_rises w) (row_sum n outer inner c p h w) (pos 0)) (λ w. row w (total_semistandard n outer (drop 1 inner) (part inner 1) w (λ T. h (w ∷ T)))) (words n (a - part inner 1))
+    ∙ total_rising_words n (a - part inner 1) (row_sum n outer inner c p h)
+    ∙ sym (total_below n a outer inner c p h)
+  where
+    tests : (q r s : Bool) (z : ℤ) → cond (q && (r && s)) z (pos 0) ≡ cond r (cond q (cond s z (pos 0)) (pos 0)) (pos 0)
+    tests true true s z = refl
+    tests true false s z = refl
+    tests false true s z = refl
+    tests false false s z = refl
+
+    row : (w : List ℕ)
+        → total (λ T. cond (may_follow (part inner 1 - part (drop 1 inner) 1) w T && semistandard (drop 1 inner) T) (h (w ∷ T)) (pos 0)) (fillings_of n (row_lengths outer (drop 1 inner)))
+        ≡ total (λ T. h (w ∷ T)) (tableaux_below n outer (drop 1 inner) (part inner 1) w)
+        → total (λ T. cond (may_follow (c - part inner 1) p T && semistandard inner T) (h T) (pos 0)) (map (λ T. w ∷ T) (fillings_of n (row_lengths outer (drop 1 inner)))) ≡ cond (row_rises w) (row_sum n outer inner c p h w) (pos 0)
+    row w rec =
+        let rows = fillings_of n (row_lengths outer (drop 1 inner)) in
+        let rises = columns_rise p (drop (c - part inner 1) w) in
+        total_map (λ T. cond (may_follow (c - part inner 1) p T && semistandard inner T) (h T) (pos 0)) (λ T. w ∷ T) rows
+        ∙ total_ext (λ T. cond (rises && semistandard inner (w ∷ T)) (h (w ∷ T)) (pos 0))
+        (λ T. cond (row_rises w) (cond rises (cond (may_follow (part inner 1 - part (drop 1 inner) 1) w T && semistandard (drop 1 inner) T) (h (w ∷ T)) (pos 0)) (pos 0)) (pos 0))
+        (λ T. ap (λ t. cond (rises && t) (h (w ∷ T)) (pos 0)) (semistandard_row inner w T)
+        ∙ tests rises (row_rises w) (may_follow (part inner 1 - part (drop 1 inner) 1) w T && semistandard (drop 1 inner) T) (h (w ∷ T))) rows
+        ∙ total_tested (row_rises w) (λ T. cond rises (cond (may_follow (part inner 1 - part (drop 1 inner) 1) w T && semistandard (drop 1 inner) T) (h (w ∷ T)) (pos 0)) (pos 0)) rows
+        ∙ ap (λ z. cond (row_rises w) z (pos 0))
+        (total_tested rises (λ T. cond (may_follow (part inner 1 - part (drop 1 inner) 1) w T && semistandard (drop 1 inner) T) (h (w ∷ T)) (pos 0)) rows ∙ ap (λ z. cond rises z (pos 0)) rec)
+
+-- ---- what the rows of a tableau are
+
+-- each row has letters from 1 to n
+abbrev pub HaveLetters : ℕ → List (List ℕ) → Type 0
+HaveLetters n [] = Unit {0}
+HaveLetters n (w ∷ T) = AreLetters n w × HaveLetters n T
+
+pub record IsFilling (n k : ℕ) (T : List (List ℕ)) : Type 0 where
+  pub letters : HaveLetters n T
+  pub rows : length T ≡ k
+
+pub below-tells : (n : ℕ) (outer inner : List ℕ) (c : ℕ) (p : List ℕ) (T : List (List ℕ)) → Among T (tableaux_below n outer inner c p) → IsFilling n (length outer) T
+below-tells n [] inner c p T (inl e) = subst (λ S. IsFilling n 0 S) (sym e) (record { letters = tt; rows = refl })
+below-tells n [] inner c p T (inr m) = absurd m
+below-tells n (a ∷ outer) inner c p T m =
+    let w = Among_from_each (λ w. cond (columns_rise p (drop (c - part inner 1) w)) (map (λ S. w ∷ S) (tableaux_below n outer (drop 1 inner) (part inner 1) w)) []) T (rising_words n 0 (a - part inner 1)) m in
+    by w.0 (rising-tells n 0 (a - part inner 1) w.0 w.1) (columns_rise p (drop (c - part inner 1) w.0)) w.2 (λ S k. below-tells n outer (drop 1 inner) (part inner 1) w.0 S k)
+  where
+    by : (w : List ℕ) → IsWord n (a - part inner 1) w → (t : Bool) → Among T (cond t (map (λ S. w ∷ S) (tableaux_below n outer (drop 1 inner) (part inner 1) w)) [])
+        → ((S : List (List ℕ)) → Among S (tableaux_below n outer (drop 1 inner) (part inner 1) w) → IsFilling n (length outer) S) → IsFilling n (suc (length outer)) T
+    by w r false k rec = absurd k
+    by w r true k rec =
+        let S = Among_from_map (λ (S : List (List ℕ)). w ∷ S) T (tableaux_below n outer (drop 1 inner) (part inner 1) w) k in
+        let i = rec S.0 S.1 in
+        subst (λ U. IsFilling n (suc (length outer)) U) (sym S.2) (record { letters = (r.letters, i.letters); rows = ap suc i.rows })
+
+-- ---- other ways to write the inner partition
+
+-- two lists with the same numbers, where the shorter goes on with zeros
+abbrev pub SameParts : List ℕ → List ℕ → Type 0
+SameParts inner other = (i : ℕ) → get_or inner i 0 ≡ get_or other i 0
+
+next_parts : (inner other : List ℕ) → SameParts inner other → SameParts (drop 1 inner) (drop 1 other)
+next_parts inner other e i = at inner i ∙ e (suc i) ∙ sym (at other i)
+  where
+    at : (l : List ℕ) (j : ℕ) → get_or (drop 1 l) j 0 ≡ get_or l (suc j) 0
+    at [] zero = refl
+    at [] (suc j) = refl
+    at (b ∷ l) j = ap (λ m. get_or m j 0) (drop_none l)
+
+pub below-same : (n : ℕ) (outer inner other : List ℕ) (c : ℕ) (p : List ℕ) (h : List (List ℕ) → ℤ) → SameParts inner other
+    → total h (tableaux_below n outer inner c p) ≡ total h (tableaux_below n outer other c p)
+below-same n [] inner other c p h e = refl
+below-same n (a ∷ outer) inner other c p h e =
+    total_below n a outer inner c p h
+    ∙ ap (λ b. total (λ w. cond (columns_rise p (drop (c - b) w)) (total (λ T. h (w ∷ T)) (tableaux_below n outer (drop 1 inner) b w)) (pos 0)) (rising_words n 0 (a - b))) (e 0)
+    ∙ total_ext (λ w. cond (columns_rise p (drop (c - part other 1) w)) (total (λ T. h (w ∷ T)) (tableaux_below n outer (drop 1 inner) (part other 1) w)) (pos 0)) (row_sum n outer other c p h)
+    (λ w. ap (λ z. cond (columns_rise p (drop (c - part other 1) w)) z (pos 0)) (below-same n outer (drop 1 inner) (drop 1 other) (part other 1) w (λ T. h (w ∷ T)) (next_parts inner other e))) (rising_words n 0 (a - part other 1))
+    ∙ sym (total_below n a outer other c p h)

@@ -1,0 +1,126 @@
+-- Lists of Kostka numbers, and what bounds them.
+--     list-schur            the list of the Kostka numbers is the Schur polynomial
+--     kostka-other_size     none of another size
+--     kostka-not_negative   and -within: bounds
+--     kostka-ones           there is a standard tableau of each shape
+use Rattle.std.proofs.Common.{◌≡◌, ℕ, zero, suc, ◌+◌, ◌-◌, ◌*◌, ◌≤◌, Bool, true, false, cond, eqb, min, List, [], ◌∷◌, ◌++◌, map, length, replicate, length-append, sym, ◌∙◌, ap, subst, refl, inl, inr, arith, ℤ, pos}
+use Rattle.std.specs.Prelude.{◌≤ℤ◌, nat_abs}
+use Rattle.std.proofs.lemmas.Bool.{eq-eqb, cond-true}
+use Rattle.std.proofs.lemmas.Int.{ints}
+use Rattle.std.proofs.lemmas.List.{length-replicate}
+use Rattle.sym_model.specs.Sum.{total, Among}
+use Rattle.sym_model.specs.Partition.{IsPartition, size, part, in_front, sorted_parts}
+use Rattle.sym_model.specs.Polynomial.{same, coefficient, In}
+use Rattle.sym_model.specs.Schur.{schur}
+use Rattle.sym_model.specs.Expansion.{Basis}
+use Rattle.sym_model.specs.Weight.{growth}
+use Rattle.sym_model.specs.WholeTerms.{WholeTerms}
+use Rattle.sym_model.proofs.Sums.{total_none, Among-each, Among-map}
+use Rattle.sym_model.proofs.Polynomials.{same_in}
+use Rattle.sym_model.proofs.Restrictions.{coefficient_restrict_padded}
+use Rattle.sym_model.proofs.SortedParts.{IsPartition-none, IsPartition-sorted_parts}
+use Rattle.tableau_laws.proofs.FewerLetters.{restrict-skew_schur}
+use Rattle.alternant_laws.proofs.TableauInvolution.{symmetric-skew_schur}
+use Rattle.monomial_laws.specs.ExpressionTerms.{in_monomials, IsList}
+use Rattle.monomial_laws.proofs.PowerSumCoefficients.{coefficient-monomial_terms}
+use Rattle.monomial_laws.proofs.Splits.{In-monomial_terms}
+use Rattle.monomial_laws.proofs.SchurMajorants.{In-schur}
+use Rattle.monomial_laws.proofs.Majorants.{bounded-atom}
+use Rattle.monomial_laws.proofs.WeightBounds.{coefficient_within_growth}
+use Rattle.schur_laws.specs.Kostka.{below, strips_off, kostka}
+use Rattle.schur_laws.proofs.Exchanged.{coefficient-sorted}
+use Rattle.schur_laws.proofs.KostkaNumbers.{Among-below, partition_tail, strips_off-tell, coefficient-kostka}
+
+-- ---- the list
+
+-- the coefficient at exponents in any order, with any zeros
+coefficient-schur_sorted : (n : ℕ) (parts α : List ℕ) → IsPartition parts → length α ≡ n
+    → coefficient (schur parts n) α ≡ coefficient (schur parts (length (sorted_parts α))) (sorted_parts α)
+coefficient-schur_sorted n parts α p long =
+    let s = coefficient-sorted (schur parts n) α (symmetric-skew_schur n parts [] p IsPartition-none) in
+    let r = length (sorted_parts α) in
+    let e : n ≡ length (sorted_parts α) + s.0 = omega (arith, length-append (sorted_parts α) (replicate s.0 0), length-replicate {A = ℕ} s.0 0) in
+    s.1
+    ∙ sym
+    (coefficient_restrict_padded (length (sorted_parts α)) s.0 (schur parts n) (sorted_parts α) (subst (λ k. In k (schur parts n)) e (In-schur parts n))
+    ∙ cond-true (eqb (length (sorted_parts α)) (length (sorted_parts α))) (coefficient (schur parts n) (sorted_parts α ++ replicate s.0 0)) (pos 0) (eq-eqb (length (sorted_parts α)) (length (sorted_parts α)) refl))
+    ∙ restrict-skew_schur parts [] (length (sorted_parts α)) n (omega arith) IsPartition-none (sorted_parts α)
+
+pub list-schur : (parts : List ℕ) (terms : WholeTerms) → IsPartition parts
+    → ((κ : List ℕ) → IsPartition κ → coefficient terms κ ≡ kostka parts κ) → IsList terms (schur parts)
+list-schur parts terms p h n =
+    same_in n (in_monomials terms n) (schur parts n) (In-monomial_terms terms n) (In-schur parts n)
+    (λ α long.
+    coefficient-monomial_terms terms n α long
+    ∙ h (sorted_parts α) (IsPartition-sorted_parts α)
+    ∙ coefficient-kostka parts (sorted_parts α) p
+    ∙ sym (coefficient-schur_sorted n parts α p long))
+
+-- ---- bounds
+
+pub kostka-other_size : (parts content : List ℕ) → IsPartition parts → (size content ≡ size parts → ⊥) → kostka parts content ≡ pos 0
+kostka-other_size [] [] p h = absurd (h refl)
+kostka-other_size (a ∷ parts) [] p h = refl
+kostka-other_size parts (k ∷ content) p h =
+    total_none (λ rest. kostka rest content) (strips_off k parts)
+    (λ rest m. let l = strips_off-tell k parts rest p m in kostka-other_size rest content l.partition (λ e. h (let s = l.size_is in omega arith)))
+
+-- sums of numbers that are not negative
+total_not_negative : {A : Type 0} (f : A → ℤ) (xs : List A) → ((x : A) → pos 0 ≤ℤ f x) → pos 0 ≤ℤ total f xs
+total_not_negative f [] h = omega (arith, ints)
+total_not_negative f (x ∷ xs) h = let r = total_not_negative f xs h in let k = h x in omega (arith, ints)
+
+total-at_least : {A : Type 0} (f : A → ℤ) (xs : List A) (x : A) → ((x : A) → pos 0 ≤ℤ f x) → Among x xs → f x ≤ℤ total f xs
+total-at_least f [] x h m = absurd m
+total-at_least f (y ∷ ys) x h (inl e) = let r = total_not_negative f ys h in let k : f x ≡ f y = ap f e in omega (arith, ints)
+total-at_least f (y ∷ ys) x h (inr m) = let r = total-at_least f ys x h m in let k = h y in omega (arith, ints)
+
+pub kostka-not_negative : (content parts : List ℕ) → pos 0 ≤ℤ kostka parts content
+kostka-not_negative [] parts = by (same parts [])
+  where
+    by : (b : Bool) → pos 0 ≤ℤ cond b (pos 1) (pos 0)
+    by true = omega (arith, ints)
+    by false = omega (arith, ints)
+kostka-not_negative (k ∷ content) parts = total_not_negative (λ rest. kostka rest content) (strips_off k parts) (λ rest. kostka-not_negative content rest)
+
+pub kostka-within : (parts content : List ℕ) → IsPartition parts → nat_abs (kostka parts content) ≤ growth Basis.monomials (size parts)
+kostka-within parts content p =
+    subst (λ z. nat_abs z ≤ growth Basis.monomials (size parts)) (sym (coefficient-kostka parts content p))
+    (let h = coefficient_within_growth 1 (size parts) (length content) (schur parts (length content)) (bounded-atom Basis.schurs parts (length content)) content refl in
+    one_times (nat_abs (coefficient (schur parts (length content)) content)) (growth Basis.monomials (size parts)) h)
+  where
+    one_times : (a b : ℕ) → a ≤ 1 * b → a ≤ b
+    one_times a b h = omega arith
+
+-- ---- each shape has a standard tableau
+
+-- a strip of any size up to the number of columns can be taken off
+pub some_strip : (k : ℕ) (parts : List ℕ) → k ≤ part parts 1 → IsPartition parts → (rest : List ℕ) × Among rest (strips_off k parts)
+some_strip zero [] h p = ([], inl refl)
+some_strip (suc k) [] h p = absurd (omega arith)
+some_strip k (a ∷ parts) h p =
+    let t = partition_tail a parts p in
+    let i : ℕ = min k (a - part parts 1) in
+    let r = some_strip (k - min k (a - part parts 1)) parts (let g = t.1 in omega arith) t.0 in
+    let f : ℕ → List (List ℕ) = λ i. map (λ rest. in_front (a - i) rest) (strips_off (k - i) parts) in (
+      in_front (a - min k (a - part parts 1)) r.0,
+      Among-each f (min k (a - part parts 1)) (in_front (a - min k (a - part parts 1)) r.0) (below (suc (min k (a - part parts 1)))) (Among-below (min k (a - part parts 1)))
+          (Among-map (λ rest. in_front (a - min k (a - part parts 1)) rest) r.0 (strips_off (k - min k (a - part parts 1)) parts) r.1),
+    )
+
+pub kostka-ones : (d : ℕ) (parts : List ℕ) → IsPartition parts → size parts ≡ d → pos 1 ≤ℤ kostka parts (replicate d 1)
+kostka-ones zero [] p e = omega (arith, ints)
+kostka-ones zero (a ∷ parts) p e = absurd (let h = p.positive.0 in omega arith)
+kostka-ones (suc d) parts p e =
+    let s = some_strip 1 parts (columns parts p e) p in
+    let l = strips_off-tell 1 parts s.0 p s.1 in
+    at_least (kostka s.0 (replicate d 1)) (kostka parts (1 ∷ replicate d 1))
+    (kostka-ones d s.0 l.partition (let q = l.size_is in omega arith))
+    (total-at_least (λ rest. kostka rest (replicate d 1)) (strips_off 1 parts) s.0 (λ rest. kostka-not_negative (replicate d 1) rest) s.1)
+  where
+    columns : (parts : List ℕ) → IsPartition parts → size parts ≡ suc d → 1 ≤ part parts 1
+    columns [] p e = absurd (omega arith)
+    columns (a ∷ parts) p e = p.positive.0
+
+    at_least : (x y : ℤ) → pos 1 ≤ℤ x → x ≤ℤ y → pos 1 ≤ℤ y
+    at_least x y h k = omega (arith, ints)

@@ -1,0 +1,235 @@
+-- The cells with the greatest letter of a semistandard tableau are a horizontal strip, and what is left is a semistandard
+-- tableau with fewer letters.
+--     removals            all shapes with a horizontal strip taken off, empty rows kept, and its number of cells
+--     ended_content       the content of a row with the greatest letter at its end
+--     over_rows-greatest  sums over tableaux with one letter more
+use Rattle.std.proofs.Common.{◌≡◌, ℕ, zero, suc, ◌+◌, ◌-◌, ◌<◌, ◌≤◌, Bool, true, false, cond, ◌&&◌, List, [], ◌∷◌, ◌++◌, map, length, replicate, nat_le, nat_lt, sym, ◌∙◌, ap, ap₂, refl, arith, ℤ, pos, ◌+ℤ◌, append-nil}
+use Rattle.std.proofs.lemmas.Bool.{le-leb, lt-leb, lt-ltb, ne_eqb, eq-eqb, leb-true}
+use Rattle.std.proofs.lemmas.List.{map-append, length-replicate}
+use Rattle.sym_model.specs.Sum.{total, each}
+use Rattle.sym_model.specs.Partition.{Falls, part, after}
+use Rattle.sym_model.specs.Polynomial.{join}
+use Rattle.sym_model.specs.Bases.{down_from}
+use Rattle.sym_model.specs.Schur.{words, row_rises, columns_rise, times_in, content}
+use Rattle.sym_model.proofs.Sums.{total_ext, total_zero, total_map, total_each, total_exchange}
+use Rattle.sym_model.proofs.Exponents.{tests_agree}
+use Rattle.sym_model.proofs.SortedParts.{Falls_tail}
+use Rattle.sym_model.proofs.AfterLists.{after_among}
+use Rattle.tableau_laws.proofs.Contents.{map_among, times_in-append}
+use Rattle.alternant_laws.proofs.Exchanges.{length_content}
+use Rattle.schur_laws.proofs.GreatestLetters.{over_rising, rising-ext, rising-greatest, ended, AreLetters, after_zero-last, total_down_from-ext, total_down_from-cut}
+use Rattle.schur_laws.proofs.TableauRows.{over_rows, over_rows-ext, over_rows-no_row_above}
+use lib.IntN.{+ℤ_idr}
+
+-- the shapes that are left when a horizontal strip is taken off, with how many cells it has; empty rows are kept
+abbrev pub removals : List ℕ → List (List ℕ × ℕ)
+removals [] = ([], 0) ∷ []
+removals (a ∷ parts) =
+    each (λ (i : ℕ). map (λ (r : List ℕ × ℕ). ((a - i) ∷ r.0, i + r.1)) (removals parts)) (down_from (a - part parts 1))
+
+-- each letter is at most n
+abbrev pub AreUpTo : ℕ → List ℕ → Type 0
+AreUpTo n [] = Unit {0}
+AreUpTo n (a ∷ w) = (a ≤ n) × AreUpTo n w
+
+pub letters_up_to : (n : ℕ) (w : List ℕ) → AreLetters n w → AreUpTo n w
+letters_up_to n [] h = tt
+letters_up_to n (a ∷ w) h = (h.0.1, letters_up_to n w h.1)
+
+-- ---- contents
+
+times_in-higher : (n k : ℕ) (w : List ℕ) → AreLetters n w → n < k → times_in k w ≡ 0
+times_in-higher n k [] h l = refl
+times_in-higher n k (a ∷ w) h l =
+    let b = h.0.1 in
+    ap (λ (t : Bool). cond {A = ℕ} t 1 0 + times_in k w) (ne_eqb a k (λ e. absurd (omega arith))) ∙ omega (arith, times_in-higher n k w h.1 l)
+
+times_in-others : (k m i : ℕ) → (m ≡ k → ⊥) → times_in k (replicate i m) ≡ 0
+times_in-others k m zero h = refl
+times_in-others k m (suc i) h = ap (λ (t : Bool). cond {A = ℕ} t 1 0 + times_in k (replicate i m)) (ne_eqb m k h) ∙ omega (arith, times_in-others k m i h)
+
+times_in-itself : (m i : ℕ) → times_in m (replicate i m) ≡ i
+times_in-itself m zero = refl
+times_in-itself m (suc i) = ap (λ (t : Bool). cond {A = ℕ} t 1 0 + times_in m (replicate i m)) (eq-eqb m m refl) ∙ omega (arith, times_in-itself m i)
+
+content-greatest : (n : ℕ) (w : List ℕ) → content (suc n) w ≡ content n w ++ (times_in (suc n) w ∷ [])
+content-greatest n w = ap (map (λ (k : ℕ). times_in k w)) (after_zero-last n) ∙ map-append (λ (k : ℕ). times_in k w) (after 0 n) (suc n ∷ [])
+
+pub ended_content : (n i : ℕ) (v : List ℕ) → AreLetters n v → content (suc n) (ended n i v) ≡ content n v ++ (i ∷ [])
+ended_content n i v h = content-greatest n (ended n i v) ∙ ap₂ (λ (κ : List ℕ) (k : ℕ). κ ++ (k ∷ [])) others greatest
+  where
+    others : content n (ended n i v) ≡ content n v
+    others =
+        map_among (λ k. times_in k (ended n i v)) (λ k. times_in k v) (after 0 n)
+        (λ k m. let b = after_among 0 n k m in let l = b.1 in
+        times_in-append k v (replicate i (suc n)) ∙ omega (arith, times_in-others k (suc n) i (λ e. absurd (omega arith))))
+
+    greatest : times_in (suc n) (ended n i v) ≡ i
+    greatest = times_in-append (suc n) v (replicate i (suc n)) ∙ omega (arith, times_in-higher n (suc n) v h (omega arith), times_in-itself (suc n) i)
+
+join-last : (β γ : List ℕ) (i j : ℕ) → length β ≡ length γ → join (β ++ (i ∷ [])) (γ ++ (j ∷ [])) ≡ join β γ ++ ((i + j) ∷ [])
+join-last [] [] i j e = refl
+join-last [] (c ∷ γ) i j e = absurd (omega arith)
+join-last (b ∷ β) [] i j e = absurd (omega arith)
+join-last (b ∷ β) (c ∷ γ) i j e = ap (λ l. (b + c) ∷ l) (join-last β γ i j (omega arith))
+
+-- ---- columns
+
+-- below a row that ends with the greatest letter a row stands only as far as the smaller letters go
+columns_rise-ended : (n c i : ℕ) (upper v : List ℕ) → AreUpTo n upper → AreLetters n v → length v + i ≤ length upper + c
+    → columns_rise (ended n c upper) (ended n i v) ≡ (nat_le (length v + i) (length upper) && columns_rise upper v)
+columns_rise-ended n zero zero [] [] u h l = refl
+columns_rise-ended n (suc c) zero [] [] u h l = refl
+columns_rise-ended n zero (suc i) [] [] u h l = absurd (omega arith)
+columns_rise-ended n (suc c) (suc i) [] [] u h l =
+    ap (λ b. b && columns_rise (replicate c (suc n)) (replicate i (suc n))) (not_above (suc n) (suc n) (omega arith))
+    ∙ ap (λ b. b && true) (sym (lt-leb (0 + suc i) 0 (omega arith)))
+  where
+    not_above : (a b : ℕ) → b ≤ a → nat_lt a b ≡ false
+    not_above a b h = lt-leb (suc a) b (omega arith)
+columns_rise-ended n zero i [] (b ∷ v) u h l = absurd (omega arith)
+columns_rise-ended n (suc c) i [] (b ∷ v) u h l =
+    let k = h.0.1 in
+    ap (λ t. t && columns_rise (replicate c (suc n)) (ended n i v)) (not_above (suc n) b (omega arith))
+    ∙ ap (λ t. t && true) (sym (lt-leb (suc (length v) + i) 0 (omega arith)))
+  where
+    not_above : (a b : ℕ) → b ≤ a → nat_lt a b ≡ false
+    not_above a b h = lt-leb (suc a) b (omega arith)
+columns_rise-ended n c zero (a ∷ upper) [] u h l = ap (λ t. t && true) (sym (le-leb (0 + 0) (suc (length upper)) (omega arith)))
+columns_rise-ended n c (suc i) (a ∷ upper) [] u h l =
+    let k = u.0 in
+    ap (λ t. t && columns_rise (ended n c upper) (ended n i [])) (lt-ltb a (suc n) (omega arith))
+    ∙ columns_rise-ended n c i upper [] u.1 tt (omega arith)
+    ∙ ap₂ (λ (s t : Bool). s && t) (tests_agree (nat_le (0 + i) (length upper)) (nat_le (0 + suc i) (suc (length upper))) (λ e. le-leb (0 + suc i) (suc (length upper)) (let m = leb-true (0 + i) (length upper) e in omega arith)) (λ e. le-leb (0 + i) (length upper) (let m = leb-true (0 + suc i) (suc (length upper)) e in omega arith))) (nothing_below upper)
+  where
+    nothing_below : (w : List ℕ) → columns_rise w [] ≡ true
+    nothing_below [] = refl
+    nothing_below (b ∷ w) = refl
+columns_rise-ended n c i (a ∷ upper) (b ∷ v) u h l =
+    ap (λ t. nat_lt a b && t) (columns_rise-ended n c i upper v u.1 h.1 (omega arith))
+    ∙ swap (nat_lt a b) (nat_le (length v + i) (length upper)) (columns_rise upper v)
+    ∙ ap (λ t. t && (nat_lt a b && columns_rise upper v)) (tests_agree (nat_le (length v + i) (length upper)) (nat_le (suc (length v) + i) (suc (length upper))) (λ e. le-leb (suc (length v) + i) (suc (length upper)) (let m = leb-true (length v + i) (length upper) e in omega arith)) (λ e. le-leb (length v + i) (length upper) (let m = leb-true (suc (length v) + i) (suc (length upper)) e in omega arith)))
+  where
+    swap : (p q r : Bool) → (p && (q && r)) ≡ (q && (p && r))
+    swap true true r = refl
+    swap true false r = refl
+    swap false true r = refl
+    swap false false r = refl
+
+-- ---- sums
+
+rising-under : (n k : ℕ) (b : Bool) (f : List ℕ → ℤ) → over_rising n k (λ v. cond b (f v) (pos 0)) ≡ cond b (over_rising n k f) (pos 0)
+rising-under n k true f = refl
+rising-under n k false f = total_ext (λ (w : List ℕ). cond (row_rises w) (pos 0) (pos 0)) (λ (w : List ℕ). pos 0) (λ w. nothing_either (row_rises w)) (words n k) ∙ total_zero (words n k)
+  where
+    nothing_either : (b : Bool) → cond b (pos 0) (pos 0) ≡ pos 0
+    nothing_either true = refl
+    nothing_either false = refl
+
+cond_total : {A : Type 0} (b : Bool) (f : A → ℤ) (xs : List A) → cond b (total f xs) (pos 0) ≡ total (λ (x : A). cond b (f x) (pos 0)) xs
+cond_total true f xs = refl
+cond_total false f xs = sym (total_zero xs)
+
+rising-total : {A : Type 0} (n k : ℕ) (f : A → List ℕ → ℤ) (xs : List A) → over_rising n k (λ v. total (λ (x : A). f x v) xs) ≡ total (λ (x : A). over_rising n k (f x)) xs
+rising-total {A} n k f xs =
+    total_ext (λ (w : List ℕ). cond (row_rises w) (total (λ (x : A). f x w) xs) (pos 0)) (λ (w : List ℕ). total (λ (x : A). cond (row_rises w) (f x w) (pos 0)) xs)
+    (λ w. cond_total (row_rises w) (λ (x : A). f x w) xs) (words n k)
+    ∙ total_exchange (λ (w : List ℕ) (x : A). cond (row_rises w) (f x w) (pos 0)) (words n k) xs
+
+four : {A : Type 0} (b q s : Bool) (f : A → ℤ) (xs : List A)
+    → cond (b && q) (cond s (total f xs) (pos 0)) (pos 0) ≡ cond b (cond s (total (λ (x : A). cond q (f x) (pos 0)) xs) (pos 0)) (pos 0)
+four true true s f xs = refl
+four true false s f xs = sym (ap (λ z. cond s z (pos 0)) (total_zero xs) ∙ nothing_either s)
+  where
+    nothing_either : (b : Bool) → cond b (pos 0) (pos 0) ≡ pos 0
+    nothing_either true = refl
+    nothing_either false = refl
+four false q s f xs = refl
+
+-- ---- the greatest letter taken off
+
+-- what is to be shown, for a shape
+abbrev LosesGreatest : ℕ → List ℕ → Type 0
+LosesGreatest n parts =
+    (c : ℕ) (upper : List ℕ) (φ : List ℕ → ℤ) → AreUpTo n upper → Falls parts → part parts 1 ≤ length upper + c
+    → over_rows (suc n) (ended n c upper) parts φ
+    ≡ cond (nat_le (part parts 1) (length upper)) (total (λ (r : List ℕ × ℕ). over_rows n upper r.0 (λ γ. φ (γ ++ (r.1 ∷ [])))) (removals parts)) (pos 0)
+
+second_below : (a : ℕ) (parts : List ℕ) → Falls (a ∷ parts) → part parts 1 ≤ a
+second_below a [] f = omega arith
+second_below a (b ∷ parts) f = f.0
+
+-- one row with i of the greatest letter, and what stands below it
+row_ended : (n c i a : ℕ) (upper v parts : List ℕ) (φ : List ℕ → ℤ) → LosesGreatest n parts → AreUpTo n upper → Falls (a ∷ parts) → a ≤ length upper + c → i ≤ a
+    → length v ≡ a - i → AreLetters n v
+    → cond (columns_rise (ended n c upper) (ended n i v)) (over_rows (suc n) (ended n i v) parts (λ γ. φ (join (content (suc n) (ended n i v)) γ))) (pos 0)
+    ≡ cond (nat_le a (length upper)) (cond (nat_le (part parts 1) (a - i))
+    (total (λ (r : List ℕ × ℕ). cond (columns_rise upper v) (over_rows n v r.0 (λ γ. φ (join (content n v) γ ++ ((i + r.1) ∷ [])))) (pos 0)) (removals parts)) (pos 0)) (pos 0)
+row_ended n c i a upper v parts φ rec u f l h e m =
+    ap₂ (λ (b : Bool) (z : ℤ). cond b z (pos 0))
+    (columns_rise-ended n c i upper v u m (omega arith) ∙ ap (λ k. nat_le k (length upper) && columns_rise upper v) (let k : length v + i ≡ a = omega arith in k))
+    (rec i v (λ γ. φ (join (content (suc n) (ended n i v)) γ)) (letters_up_to n v m) (Falls_tail a parts f) (let s = second_below a parts f in omega arith)
+    ∙ ap₂ (λ (k : ℕ) (z : ℤ). cond (nat_le (part parts 1) k) z (pos 0)) e
+    (total_ext (λ (r : List ℕ × ℕ). over_rows n v r.0 (λ γ. φ (join (content (suc n) (ended n i v)) (γ ++ (r.1 ∷ [])))))
+    (λ (r : List ℕ × ℕ). over_rows n v r.0 (λ γ. φ (join (content n v) γ ++ ((i + r.1) ∷ []))))
+    (λ r. over_rows-ext n v r.0 _ _
+    (λ γ k. ap φ (ap (λ κ. join κ (γ ++ (r.1 ∷ []))) (ended_content n i v m) ∙ join-last (content n v) γ i r.1 (length_content n v ∙ sym k))))
+    (removals parts)))
+    ∙ four (nat_le a (length upper)) (columns_rise upper v) (nat_le (part parts 1) (a - i)) (λ (r : List ℕ × ℕ). over_rows n v r.0 (λ γ. φ (join (content n v) γ ++ ((i + r.1) ∷ [])))) (removals parts)
+
+-- the numbers of the greatest letter that a first row can have
+total_greatest : (a p : ℕ) (g : ℕ → ℤ) → p ≤ a → total (λ (i : ℕ). cond (nat_le p (a - i)) (g i) (pos 0)) (down_from a) ≡ total g (down_from (a - p))
+total_greatest a p g h =
+    ap (λ d. total f (down_from d)) (let e : a ≡ p + (a - p) = omega arith in e)
+    ∙ total_down_from-cut f (a - p) p (λ i l k. ap (λ b. cond b (g i) (pos 0)) (lt-leb p (a - i) (omega arith)))
+    ∙ total_down_from-ext f g (a - p) (λ i l. ap (λ b. cond b (g i) (pos 0)) (le-leb p (a - i) (omega arith)))
+  where
+    f : ℕ → ℤ
+    f i = cond (nat_le p (a - i)) (g i) (pos 0)
+
+loses_greatest : (n : ℕ) (parts : List ℕ) → LosesGreatest n parts
+loses_greatest n [] c upper φ u f l =
+    ap φ (ended_content n 0 [] tt)
+    ∙ sym (ap (λ b. cond b (φ (content n [] ++ (0 ∷ [])) +ℤ pos 0) (pos 0)) (le-leb 0 (length upper) (omega arith)) ∙ +ℤ_idr (φ (content n [] ++ (0 ∷ []))))
+loses_greatest n (a ∷ parts) c upper φ u f l =
+    rising-greatest n a (λ w. cond (columns_rise (ended n c upper) w) (over_rows (suc n) w parts (λ γ. φ (join (content (suc n) w) γ))) (pos 0))
+    ∙ total_down_from-ext _ (λ (i : ℕ). cond (nat_le a (length upper)) (cond (nat_le (part parts 1) (a - i)) (left i) (pos 0)) (pos 0)) a
+    (λ i h.
+    rising-ext n (a - i) _ _ (λ v k m. row_ended n c i a upper v parts φ (loses_greatest n parts) u f l h k m)
+    ∙ rising-under n (a - i) (nat_le a (length upper)) _
+    ∙ ap (λ z. cond (nat_le a (length upper)) z (pos 0))
+    (rising-under n (a - i) (nat_le (part parts 1) (a - i)) _
+    ∙ ap (λ z. cond (nat_le (part parts 1) (a - i)) z (pos 0))
+    (rising-total n (a - i) (λ (r : List ℕ × ℕ) (v : List ℕ). cond (columns_rise upper v) (over_rows n v r.0 (λ γ. φ (join (content n v) γ ++ ((i + r.1) ∷ [])))) (pos 0)) (removals parts))))
+    ∙ sym (cond_total (nat_le a (length upper)) (λ (i : ℕ). cond (nat_le (part parts 1) (a - i)) (left i) (pos 0)) (down_from a))
+    ∙ ap (λ z. cond (nat_le a (length upper)) z (pos 0))
+    (total_greatest a (part parts 1) left (second_below a parts f)
+    ∙ total_ext left (λ (i : ℕ). total value (map (λ (r : List ℕ × ℕ). ((a - i) ∷ r.0, i + r.1)) (removals parts)))
+    (λ i. sym (total_map value (λ (r : List ℕ × ℕ). ((a - i) ∷ r.0, i + r.1)) (removals parts))) (down_from (a - part parts 1))
+    ∙ sym (total_each value (λ (i : ℕ). map (λ (r : List ℕ × ℕ). ((a - i) ∷ r.0, i + r.1)) (removals parts)) (down_from (a - part parts 1))))
+  where
+    value : List ℕ × ℕ → ℤ
+    value r = over_rows n upper r.0 (λ γ. φ (γ ++ (r.1 ∷ [])))
+
+    left : ℕ → ℤ
+    left i = total (λ (r : List ℕ × ℕ). over_rows n upper ((a - i) ∷ r.0) (λ γ. φ (γ ++ ((i + r.1) ∷ [])))) (removals parts)
+
+pub over_rows-greatest : (n : ℕ) (parts : List ℕ) (φ : List ℕ → ℤ) → Falls parts
+    → over_rows (suc n) [] parts φ ≡ total (λ (r : List ℕ × ℕ). over_rows n [] r.0 (λ γ. φ (γ ++ (r.1 ∷ [])))) (removals parts)
+over_rows-greatest n parts φ f =
+    over_rows-no_row_above (suc n) (part parts 1) parts φ
+    ∙ ap (λ w. over_rows (suc n) w parts φ) (sym (append-nil zeros))
+    ∙ loses_greatest n parts 0 zeros φ (zeros_up_to (part parts 1)) f (let e = long in omega arith)
+    ∙ ap (λ b. cond b (total (λ (r : List ℕ × ℕ). over_rows n zeros r.0 (λ γ. φ (γ ++ (r.1 ∷ [])))) (removals parts)) (pos 0)) (le-leb (part parts 1) (length zeros) (let e = long in omega arith))
+    ∙ total_ext (λ (r : List ℕ × ℕ). over_rows n zeros r.0 (λ γ. φ (γ ++ (r.1 ∷ [])))) (λ (r : List ℕ × ℕ). over_rows n [] r.0 (λ γ. φ (γ ++ (r.1 ∷ []))))
+    (λ r. sym (over_rows-no_row_above n (part parts 1) r.0 (λ γ. φ (γ ++ (r.1 ∷ []))))) (removals parts)
+  where
+    zeros : List ℕ
+    zeros = replicate (part parts 1) 0
+
+    long : length zeros ≡ part parts 1
+    long = length-replicate (part parts 1) 0
+
+    zeros_up_to : (m : ℕ) → AreUpTo n (replicate m 0)
+    zeros_up_to zero = tt
+    zeros_up_to (suc m) = (omega arith, zeros_up_to m)

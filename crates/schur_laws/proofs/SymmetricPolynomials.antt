@@ -1,0 +1,98 @@
+-- Which polynomials are symmetric.
+--     symmetric-monomials             a sum of monomials whose test no exchange changes
+--     symmetric-plus, -scale, -negate, -times
+use Rattle.std.proofs.Common.{◌≡◌, ℕ, zero, suc, ◌==◌, Bool, true, false, ◌&&◌, cond, eqb, nat_le, ℤ, pos, neg_ℤ, ◌+ℤ◌, ◌*ℤ◌, List, [], ◌∷◌, ◌++◌, length, replicate, refl, sym, ◌∙◌, ap, ap₂}
+use Rattle.sym_model.specs.Polynomial.{Poly, same, coefficient, In, one, plus, scale, negate, times, join, pair}
+use Rattle.sym_model.specs.Partition.{insert_part, sorted_parts}
+use Rattle.sym_model.specs.Bases.{monomials, at_most_one}
+use Rattle.sym_model.specs.Symmetric.{Symmetric}
+use Rattle.sym_model.proofs.SortedParts.{insert_part_comm}
+use Rattle.sym_model.proofs.Monomials.{coefficient-monomials}
+use Rattle.sym_model.proofs.Polynomials.{at_only, coefficient_pair, coefficient_plus, coefficient_scale, coefficient_negate, pair_ext, pair_in, pair_times}
+use Rattle.alternant_laws.proofs.Exchanges.{exchanged, same_exchanged, exchanged_at, exchanged-join}
+use Rattle.beta_list_laws.proofs.NeighbourExchanges.{size-exchange, length-exchange}
+use Rattle.alternant_laws.proofs.Symmetry.{pair_exchanged}
+
+-- no exchange of neighbours changes the test
+abbrev pub SeesNoExchange : (List ℕ → Bool) → Type 0
+SeesNoExchange test = (left : List ℕ) (a b : ℕ) (right : List ℕ) → test (left ++ (a ∷ b ∷ right)) ≡ test (left ++ (b ∷ a ∷ right))
+
+pub symmetric-monomials : (test : List ℕ → Bool) (n d : ℕ) → SeesNoExchange test → Symmetric (monomials test n d)
+symmetric-monomials test n d e left a b right =
+    coefficient-monomials test n d (left ++ (a ∷ b ∷ right))
+    ∙ ap₂ (λ (x y : Bool). cond x (cond y (pos 1) (pos 0)) (pos 0))
+    (ap₂ (λ k l. eqb k n && eqb l d) (length-exchange left a b right) (size-exchange left a b right))
+    (e left a b right)
+    ∙ sym (coefficient-monomials test n d (left ++ (b ∷ a ∷ right)))
+
+-- ---- tests that see no exchange
+
+sorted_parts-exchange : (left : List ℕ) (a b : ℕ) (right : List ℕ) → sorted_parts (left ++ (a ∷ b ∷ right)) ≡ sorted_parts (left ++ (b ∷ a ∷ right))
+sorted_parts-exchange [] a b right = insert_part_comm a b (sorted_parts right)
+sorted_parts-exchange (c ∷ left) a b right = ap (insert_part c) (sorted_parts-exchange left a b right)
+
+pub sorts_to-exchange : (parts : List ℕ) → SeesNoExchange (λ α. same (sorted_parts α) parts)
+sorts_to-exchange parts left a b right = ap (λ (l : List ℕ). same l parts) (sorted_parts-exchange left a b right)
+
+and_middle : (x y z : Bool) → (x && (y && z)) ≡ (y && (x && z))
+and_middle true true z = refl
+and_middle true false z = refl
+and_middle false true z = refl
+and_middle false false z = refl
+
+pub at_most_one-exchange : SeesNoExchange at_most_one
+at_most_one-exchange [] a b right = and_middle (nat_le a 1) (nat_le b 1) (at_most_one right)
+at_most_one-exchange (c ∷ left) a b right = ap (λ t. nat_le c 1 && t) (at_most_one-exchange left a b right)
+
+-- ---- sums, multiples, products
+
+pub symmetric-plus : (f g : Poly) → Symmetric f → Symmetric g → Symmetric (plus f g)
+symmetric-plus f g s t left a b right =
+    coefficient_plus f g (left ++ (a ∷ b ∷ right))
+    ∙ ap₂ ◌+ℤ◌ (s left a b right) (t left a b right)
+    ∙ sym (coefficient_plus f g (left ++ (b ∷ a ∷ right)))
+
+pub symmetric-scale : (c : ℤ) (f : Poly) → Symmetric f → Symmetric (scale c f)
+symmetric-scale c f s left a b right =
+    coefficient_scale c f (left ++ (a ∷ b ∷ right)) ∙ ap (λ z. c *ℤ z) (s left a b right) ∙ sym (coefficient_scale c f (left ++ (b ∷ a ∷ right)))
+
+pub symmetric-negate : (f : Poly) → Symmetric f → Symmetric (negate f)
+symmetric-negate f s left a b right =
+    coefficient_negate f (left ++ (a ∷ b ∷ right)) ∙ ap neg_ℤ (s left a b right) ∙ sym (coefficient_negate f (left ++ (b ∷ a ∷ right)))
+
+-- an exchange at place k changes no coefficient of a product
+times-exchanged : (n k : ℕ) (f g : Poly) (γ : List ℕ) → In n f → In n g → Symmetric f → Symmetric g
+    → coefficient (times f g) (exchanged k γ) ≡ coefficient (times f g) γ
+times-exchanged n k f g γ i j s t =
+    coefficient_pair (times f g) (exchanged k γ)
+    ∙ pair_times f g (at_only (exchanged k γ))
+    ∙ pair_in n f (λ α. pair g (λ β. at_only (exchanged k γ) (join α β))) (λ α. pair g (λ β. at_only γ (join (exchanged k α) (exchanged k β)))) i
+    (λ α l. pair_in n g (λ β. at_only (exchanged k γ) (join α β)) (λ β. at_only γ (join (exchanged k α) (exchanged k β))) j (λ β m.
+    ap (λ x. cond x (pos 1) (pos 0)) (sym (same_exchanged k (join α β) γ) ∙ ap (λ δ. same δ γ) (exchanged-join k α β (l ∙ sym m)))))
+    ∙ pair_exchanged k f (λ α. pair g (λ β. at_only γ (join α (exchanged k β)))) s
+    ∙ pair_ext f (λ α. pair g (λ β. at_only γ (join α (exchanged k β)))) (λ α. pair g (λ β. at_only γ (join α β)))
+    (λ α. pair_exchanged k g (λ β. at_only γ (join α β)) t)
+    ∙ sym (coefficient_pair (times f g) γ ∙ pair_times f g (at_only γ))
+
+pub symmetric-times : (n : ℕ) (f g : Poly) → In n f → In n g → Symmetric f → Symmetric g → Symmetric (times f g)
+symmetric-times n f g i j s t left a b right =
+    sym (times-exchanged n (length left) f g (left ++ (a ∷ b ∷ right)) i j s t)
+    ∙ ap (coefficient (times f g)) (exchanged_at left a b right)
+
+-- ---- the polynomial 1
+
+zeros-exchange : (n : ℕ) → SeesNoExchange (λ α. same (replicate n 0) α)
+zeros-exchange zero [] a b right = refl
+zeros-exchange zero (c ∷ left) a b right = refl
+zeros-exchange (suc zero) [] a b right = short (0 == a) (0 == b)
+  where
+    short : (x y : Bool) → (x && false) ≡ (y && false)
+    short true true = refl
+    short true false = refl
+    short false true = refl
+    short false false = refl
+zeros-exchange (suc (suc n)) [] a b right = and_middle (0 == a) (0 == b) (same (replicate n 0) right)
+zeros-exchange (suc n) (c ∷ left) a b right = ap (λ t. (0 == c) && t) (zeros-exchange n left a b right)
+
+pub symmetric-one : (n : ℕ) → Symmetric (one n)
+symmetric-one n left a b right = ap (λ t. cond t (pos 1) (pos 0) +ℤ pos 0) (zeros-exchange n left a b right)

@@ -1,0 +1,4 @@
+pub mod Kostka
+pub mod InnerShapes
+pub mod SymmetricFamily
+pub mod PartitionAtoms

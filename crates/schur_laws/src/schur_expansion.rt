@@ -1,0 +1,27 @@
+//! Schur polynomials in the monomial basis, in every number of variables.
+
+ghost use Rattle.std.specs.Prelude.{◌≡◌, ℕ, ◌≤◌, ℤ, pos, nat_abs, List, [], ◌∷◌, length};
+ghost use Rattle.sym_model.specs.Partition.{IsPartition, size};
+ghost use Rattle.sym_model.specs.Polynomial.{coefficient};
+ghost use Rattle.sym_model.specs.Schur.{schur};
+ghost use Rattle.sym_model.specs.Expansion.{monomials};
+ghost use Rattle.sym_model.specs.Weight.{growth};
+ghost use Rattle.sym_model.specs.WholeTerms.{WholeTerms};
+ghost use Rattle.monomial_laws.specs.ExpressionTerms.{IsList};
+ghost use Rattle.schur_laws.specs.Kostka.{kostka};
+
+/// A list with the Kostka numbers K(λ,κ) as the coefficients of the partitions κ is the Schur
+/// polynomial of λ, in every number of variables. K(λ,κ) is the number of semistandard tableaux of
+/// shape λ and content κ, for contents in any order; it counts the ways to take λ off by horizontal
+/// strips of κ₁, κ₂, .. cells, and is at most the growth at the size of λ.
+///
+/// Example: two tableaux of shape (2,1) have the content (1,1,1).
+pub fn schur_in_monomials_law()
+    ensures expansion { (parts : List ℕ) (terms : WholeTerms) → IsPartition parts
+        → ((κ : List ℕ) → IsPartition κ → coefficient terms κ ≡ kostka parts κ) → IsList terms (schur parts) }
+    ensures numbers { (parts content : List ℕ) → IsPartition parts
+        → kostka parts content ≡ coefficient (schur parts (length content)) content }
+    ensures bounded { (parts content : List ℕ) → IsPartition parts
+        → nat_abs (kostka parts content) ≤ growth monomials (size parts) }
+    ensures example { kostka (2 ∷ 1 ∷ []) (1 ∷ 1 ∷ 1 ∷ []) ≡ pos 2 }
+{}

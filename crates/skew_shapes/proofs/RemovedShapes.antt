@@ -1,0 +1,362 @@
+-- The rim hooks that can be taken from a partition (specs/RemovedHooks).
+--     beginning_none, beginning_one, beginning_next    the rim hooks with one first row after another, upwards
+--     hooks_removed                                    they are the rim hooks, in falling lexicographic order
+use Rattle.std.proofs.Common.{◌≡◌, ◌⊎◌, ℕ, zero, suc, ◌+◌, ◌-◌, ◌<◌, ◌≤◌, ◌==◌, nat_lt, nat_le, Bool, true, false, ◌||◌, cond, List, [], ◌∷◌, ◌++◌, map, refl, sym, ap, ◌∙◌, subst, inl, inr, arith}
+use Rattle.std.proofs.lemmas.Bool.{cases_lt, cases_eq, and_parts, and_from}
+use Rattle.std.proofs.lemmas.Bool.Decides.{nat_tests}
+use Rattle.std.specs.declared.cmp.Ordering.TheVariants.{Less}
+use Rattle.sym_model.specs.Sum.{Among}
+use Rattle.sym_model.specs.Partition.{Falls, IsPartition, after, part, rows, size}
+use Rattle.sym_model.specs.PartitionList.{FallsLexicographically}
+use Rattle.sym_model.specs.PrintedOrder.{falling_lexicographic}
+use Rattle.sym_model.specs.Strip.{IsRimHook, height}
+use Rattle.sym_model.proofs.AfterLists.{after_among, among_after, once_after}
+use Rattle.sym_model.proofs.SortedParts.{IsPartition-without_last_zeros}
+use Rattle.sym_model.proofs.Sums.{Among-append_left, Among-append_right, Among_from_append}
+use Rattle.strip_laws.specs.HookRows.{IsHookRows}
+use Rattle.strip_laws.proofs.HookSizes.{hook_size}
+use Rattle.strip_laws.proofs.RimHooks.{hook_from_rows, hook_rows, height_of_rows, past_end}
+use Rattle.strip_laws.proofs.Strips.{falls_part, falls_far}
+use Rattle.skew_shapes.proofs.StripLists.{fall-append}
+use Rattle.skew_shapes.specs.HookLists.{AreHooksRemoved}
+use Rattle.skew_shapes.specs.RemovedHooks.{can_remove, left_row, without_hook, hooks_beginning, hooks_beginning_within, EndsUpTo}
+use Rattle.skew_shapes.proofs.LoneShapes.{none_fits, one_fits, among_fitting, from_fitting, fall_fitting, before_by_row, same_rows, rows_at, rows_fall}
+
+-- ---- the test
+
+pub record CanRemove (k : ℕ) (outer : List ℕ) (first last : ℕ) : Type 0 where
+  pub below : part outer (last + 1) + k ≤ part outer first + (last - first)
+  pub shorter : part outer first + (last - first) < part outer last + k
+
+pub can_remove-tells : (k : ℕ) (outer : List ℕ) (first last : ℕ) → can_remove k outer first last ≡ true → CanRemove k outer first last
+can_remove-tells k outer first last e =
+    let p = and_parts (nat_le (part outer (last + 1) + k) (part outer first + (last - first))) (nat_lt (part outer first + (last - first)) (part outer last + k)) e in
+    record { below = at_most (part outer (last + 1) + k) (part outer first + (last - first)) p.0; shorter = less (part outer first + (last - first)) (part outer last + k) p.1 }
+  where
+    less : (a b : ℕ) → nat_lt a b ≡ true → a < b
+    less a b h = grind (arith, nat_tests)
+
+    at_most : (a b : ℕ) → nat_le a b ≡ true → a ≤ b
+    at_most a b h = grind (arith, nat_tests)
+
+pub can_remove-from : (k : ℕ) (outer : List ℕ) (first last : ℕ) → CanRemove k outer first last → can_remove k outer first last ≡ true
+can_remove-from k outer first last c =
+    and_from (nat_le (part outer (last + 1) + k) (part outer first + (last - first))) (nat_lt (part outer first + (last - first)) (part outer last + k))
+    (at_most (part outer (last + 1) + k) (part outer first + (last - first)) c.below) (less (part outer first + (last - first)) (part outer last + k) c.shorter)
+  where
+    less : (a b : ℕ) → a < b → nat_lt a b ≡ true
+    less a b h = grind (arith, nat_tests)
+
+    at_most : (a b : ℕ) → a ≤ b → nat_le a b ≡ true
+    at_most a b h = grind (arith, nat_tests)
+
+-- the last row of the rim hook is a row of the partition
+pub last_within : (k : ℕ) (outer : List ℕ) (first last : ℕ) → CanRemove k outer first last → (0 < part outer last) × (last ≤ rows outer)
+last_within k outer first last c = (positive, elim (cases_lt (rows outer) last) [ inl l ↦ absurd (let e = past_end outer (last - 1) (omega arith) in let p = positive in omega arith) | inr l ↦ l ])
+  where
+    positive : 0 < part outer last
+    positive = let a = c.below in let b = c.shorter in omega arith
+
+-- one last row at most goes with a first row
+no_two : (k : ℕ) (outer : List ℕ) (first last end : ℕ) → Falls outer → first ≤ last → last < end → CanRemove k outer first last → CanRemove k outer first end → ⊥
+no_two k outer first last end f o l c d =
+    let a = c.below in
+    let b = d.shorter in
+    let x = falls_far outer f (last + 1) end (omega arith) (omega arith) in
+    absurd (omega arith)
+
+-- ---- the rim hooks with one first row
+
+pub beginning_none : (k : ℕ) (outer : List ℕ) (first last : ℕ) → Falls outer → EndsUpTo k outer first last → first ≤ last
+    → (first < last → part outer first + last < part outer last + first + k) → can_remove k outer first last ≡ false → hooks_beginning k outer first ≡ []
+beginning_none k outer first last f b o h n =
+    none_fits (λ i. can_remove k outer first i) (λ i. without_hook k outer first i) (after (first - 1) (rows outer + 1 - first)) (λ i m.
+    let r = after_among (first - 1) (rows outer + 1 - first) i m in
+    let r0 = r.0 in
+    let r1 = r.1 in
+    let w = b.within in
+    let s = b.counts in
+    by i (omega arith) (omega arith) (can_remove k outer first i) refl)
+  where
+    fails : (i : ℕ) → first ≤ i → i ≤ rows outer → CanRemove k outer first i → (last < i) ⊎ (i ≤ last) → (i ≡ last) ⊎ (i ≡ last → ⊥) → i ≡ last
+    fails i l m c (inl s) e = let x = b.passed i s m in let y = c.shorter in absurd (omega arith)
+    fails i l m c (inr s) (inl e) = e
+    fails i l m c (inr s) (inr d) =
+        let x = c.below in
+        let y = falls_far outer f (i + 1) last (omega arith) (omega arith) in
+        let z = h (omega arith) in
+        absurd (omega arith)
+
+    by : (i : ℕ) → first ≤ i → i ≤ rows outer → (t : Bool) → can_remove k outer first i ≡ t → t ≡ false
+    by i l m false e = refl
+    by i l m true e =
+        let d = fails i l m (can_remove-tells k outer first i e) (cases_lt last i) (cases_eq i last) in
+        sym e ∙ ap (λ j. can_remove k outer first j) d ∙ n
+
+pub beginning_one : (k : ℕ) (outer : List ℕ) (first last : ℕ) → Falls outer → 1 ≤ first → first ≤ last → can_remove k outer first last ≡ true
+    → hooks_beginning k outer first ≡ without_hook k outer first last ∷ []
+beginning_one k outer first last f h o t =
+    let w = (last_within k outer first last (can_remove-tells k outer first last t)).1 in
+    one_fits (λ i. can_remove k outer first i) (λ i. without_hook k outer first i) last (after (first - 1) (rows outer + 1 - first)) (once_after (first - 1) (rows outer + 1 - first))
+    (among_after (first - 1) (rows outer + 1 - first) last (omega arith) (omega arith)) t
+    (λ j m e.
+    let r = after_among (first - 1) (rows outer + 1 - first) j m in
+    let r0 = r.0 in
+    only j (omega arith) (can_remove-tells k outer first last t) (can_remove-tells k outer first j e) (cases_lt j last) (cases_lt last j))
+  where
+    only : (j : ℕ) → first ≤ j → CanRemove k outer first last → CanRemove k outer first j → (j < last) ⊎ (last ≤ j) → (last < j) ⊎ (j ≤ last) → j ≡ last
+    only j l c d (inl a) b = absurd (no_two k outer first j last f l a d c)
+    only j l c d (inr a) (inl b) = absurd (no_two k outer first last j f o b c d)
+    only j l c d (inr a) (inr b) = omega arith
+
+pub beginning_next : (k : ℕ) (outer : List ℕ) (first : ℕ) → 1 < first
+    → hooks_beginning_within k outer (first - 1) ≡ hooks_beginning k outer (first - 1) ++ hooks_beginning_within k outer (first - 1 - 1)
+beginning_next k outer first h = by (first - 1) (omega arith)
+  where
+    by : (n : ℕ) → 0 < n → hooks_beginning_within k outer n ≡ hooks_beginning k outer n ++ hooks_beginning_within k outer (n - 1)
+    by zero l = absurd (omega arith)
+    by (suc n) l = ap (λ m. hooks_beginning k outer (suc n) ++ hooks_beginning_within k outer m) (let e : n ≡ suc n - 1 = omega arith in e)
+
+pub ends_next : (k : ℕ) (outer : List ℕ) (first last : ℕ) → Falls outer → 1 < first → EndsUpTo k outer first last → EndsUpTo k outer (first - 1) last
+ends_next k outer first last f h b = record {
+  counts = omega arith;
+  ordered = (let o = b.ordered in omega arith);
+  within = b.within;
+  passed = λ i l m. (let p = falls_far outer f (first - 1) first (omega arith) (omega arith) in let q = b.passed i l m in omega arith);
+}
+
+-- ---- its rows
+
+outside_row : (k : ℕ) (outer : List ℕ) (first last i : ℕ) → (i < first) ⊎ (last < i) → left_row k outer first last i ≡ part outer i
+outside_row k outer first last i h = ap (λ (b : Bool). cond b (part outer i) (cond (i == last) (part outer first + (last - first) - k) (part outer (i + 1) - 1))) (by h)
+  where
+    by : (i < first) ⊎ (last < i) → (nat_lt i first || nat_lt last i) ≡ true
+    by (inl l) = grind (arith, nat_tests)
+    by (inr l) = grind (arith, nat_tests)
+
+within_row : (k : ℕ) (outer : List ℕ) (first last i : ℕ) → first ≤ i → i ≤ last → left_row k outer first last i ≡ cond (i == last) (part outer first + (last - first) - k) (part outer (i + 1) - 1)
+within_row k outer first last i h l =
+    ap (λ (b : Bool). cond b (part outer i) (cond (i == last) (part outer first + (last - first) - k) (part outer (i + 1) - 1)))
+    (let e : (nat_lt i first || nat_lt last i) ≡ false = grind (arith, nat_tests) in e)
+
+last_row : (k : ℕ) (outer : List ℕ) (first last : ℕ) → first ≤ last → left_row k outer first last last ≡ part outer first + (last - first) - k
+last_row k outer first last o =
+    within_row k outer first last last o (omega arith)
+    ∙ ap (λ (b : Bool). cond b (part outer first + (last - first) - k) (part outer (last + 1) - 1)) (let e : (last == last) ≡ true = grind (arith, nat_tests) in e)
+
+earlier_row : (k : ℕ) (outer : List ℕ) (first last i : ℕ) → first ≤ i → i < last → left_row k outer first last i ≡ part outer (i + 1) - 1
+earlier_row k outer first last i h l =
+    within_row k outer first last i h (omega arith)
+    ∙ ap (λ (b : Bool). cond b (part outer first + (last - first) - k) (part outer (i + 1) - 1)) (let e : (i == last) ≡ false = grind (arith, nat_tests) in e)
+
+-- each row of the rim hook has cells
+row_shorter : (k : ℕ) (outer : List ℕ) (first last i : ℕ) → Falls outer → 1 ≤ first → first ≤ i → i ≤ last → CanRemove k outer first last → left_row k outer first last i < part outer i
+row_shorter k outer first last i f h l m c = by (cases_eq i last)
+  where
+    by : (i ≡ last) ⊎ (i ≡ last → ⊥) → left_row k outer first last i < part outer i
+    by (inl e) =
+        let x = ap (left_row k outer first last) e ∙ last_row k outer first last (omega arith) in
+        let y = ap (part outer) e in
+        let a = c.below in
+        let b = c.shorter in
+        omega arith
+    by (inr n) =
+        let x = earlier_row k outer first last i l (omega arith) in
+        let p = (last_within k outer first last c).0 in
+        let y = falls_far outer f (i + 1) last (omega arith) (omega arith) in
+        let z = falls_part outer f i (omega arith) in
+        omega arith
+
+rows_falling : (k : ℕ) (outer : List ℕ) (first last : ℕ) → Falls outer → 1 ≤ first → first ≤ last → CanRemove k outer first last
+    → (i : ℕ) → 0 < i → left_row k outer first last (i + 1) ≤ left_row k outer first last i
+rows_falling k outer first last f h o c i l = by (cases_lt i first) (cases_lt (i + 1) first) (cases_lt i last) (cases_eq i last) (cases_eq (i + 1) last)
+  where
+    by : (i < first) ⊎ (first ≤ i) → (i + 1 < first) ⊎ (first ≤ i + 1) → (i < last) ⊎ (last ≤ i) → (i ≡ last) ⊎ (i ≡ last → ⊥) → (i + 1 ≡ last) ⊎ (i + 1 ≡ last → ⊥)
+        → left_row k outer first last (i + 1) ≤ left_row k outer first last i
+    by (inl a) (inl b) d e g =
+        let x = outside_row k outer first last (i + 1) (inl b) in
+        let y = outside_row k outer first last i (inl a) in
+        let z = falls_part outer f i l in
+        omega arith
+    by (inl a) (inr b) d e g =
+        let x = row_shorter k outer first last (i + 1) f h b (omega arith) c in
+        let y = outside_row k outer first last i (inl a) in
+        let z = falls_part outer f i l in
+        omega arith
+    by (inr a) b (inl d) e (inl g) =
+        let x = row_shorter k outer first last (i + 1) f h (omega arith) (omega arith) c in
+        let y = earlier_row k outer first last i a d in
+        omega arith
+    by (inr a) b (inl d) e (inr g) =
+        let x = row_shorter k outer first last (i + 1) f h (omega arith) (omega arith) c in
+        let y = earlier_row k outer first last i a d in
+        omega arith
+    by (inr a) b (inr d) (inl e) g =
+        let x = outside_row k outer first last (i + 1) (inr (omega arith)) in
+        let y = ap (left_row k outer first last) e ∙ last_row k outer first last o in
+        let z = c.below in
+        let p = ap (λ j. part outer (j + 1)) e in
+        omega arith
+    by (inr a) b (inr d) (inr e) g =
+        let x = outside_row k outer first last (i + 1) (inr (omega arith)) in
+        let y = outside_row k outer first last i (inr (omega arith)) in
+        let z = falls_part outer f i l in
+        omega arith
+
+-- the rows of the partition without the rim hook
+pub left_part : (k : ℕ) (outer : List ℕ) (first last i : ℕ) → CanRemove k outer first last → 1 ≤ i → part (without_hook k outer first last) i ≡ left_row k outer first last i
+left_part k outer first last i c h =
+    let w = (last_within k outer first last c).1 in
+    rows_at (left_row k outer first last) (rows outer) i h
+    (λ l. outside_row k outer first last i (inr (omega arith)) ∙ past_end outer (i - 1) (omega arith))
+
+pub hook_is : (k : ℕ) (outer : List ℕ) (first last : ℕ) → Falls outer → 1 ≤ first → first ≤ last → CanRemove k outer first last
+    → IsHookRows outer (without_hook k outer first last) first last
+hook_is k outer first last f h o c = record {
+  counts = h;
+  ordered = o;
+  above = λ i l m. sym (left_part k outer first last i c l ∙ outside_row k outer first last i (inl m));
+  below = λ i m. sym (left_part k outer first last i c (omega arith) ∙ outside_row k outer first last i (inr m));
+  chained = λ i l m. (
+      let x = left_part k outer first last i c (omega arith) ∙ earlier_row k outer first last i l m in
+      let p = (last_within k outer first last c).0 in
+      let y = falls_far outer f (i + 1) last (omega arith) (omega arith) in
+      omega arith);
+  end = (let e = left_part k outer first last last c (omega arith) in let x = row_shorter k outer first last last f h o (omega arith) c in omega arith);
+}
+
+pub left_partition : (k : ℕ) (outer : List ℕ) (first last : ℕ) → Falls outer → 1 ≤ first → first ≤ last → CanRemove k outer first last → IsPartition (without_hook k outer first last)
+left_partition k outer first last f h o c =
+    IsPartition-without_last_zeros (map (left_row k outer first last) (after 0 (rows outer)))
+    (rows_fall (left_row k outer first last) 0 (rows outer) (λ i l. rows_falling k outer first last f h o c i l))
+
+pub left_cells : (k : ℕ) (outer : List ℕ) (first last : ℕ) → Falls outer → 1 ≤ first → first ≤ last → CanRemove k outer first last
+    → size outer ≡ size (without_hook k outer first last) + k
+left_cells k outer first last f h o c =
+    let e = hook_size outer (without_hook k outer first last) first last (hook_is k outer first last f h o c) in
+    let a = left_part k outer first last last c (omega arith) in
+    let b = last_row k outer first last o in
+    let x = c.below in
+    omega arith
+
+pub left_height : (k : ℕ) (outer : List ℕ) (first last : ℕ) → Falls outer → 1 ≤ first → first ≤ last → can_remove k outer first last ≡ true
+    → last + 1 - first ≡ height outer (without_hook k outer first last)
+left_height k outer first last f h o t =
+    sym (height_of_rows outer (without_hook k outer first last) first last f (hook_is k outer first last f h o (can_remove-tells k outer first last t)))
+
+-- ---- each rim hook is listed
+
+record IsFound (k : ℕ) (outer ν : List ℕ) (first last : ℕ) : Type 0 where
+  pub counts : 1 ≤ first
+  pub ordered : first ≤ last
+  pub fits : CanRemove k outer first last
+  pub is : ν ≡ without_hook k outer first last
+
+found : (k : ℕ) (outer ν : List ℕ) (first last : ℕ) → Falls outer → IsPartition ν → size outer ≡ size ν + k → IsHookRows outer ν first last → IsFound k outer ν first last
+found k outer ν first last f p s h = record { counts = h.counts; ordered = h.ordered; fits = fits; is = is }
+  where
+    start : part ν last + k ≡ part outer first + (last - first)
+    start = let e = hook_size outer ν first last h in omega arith
+
+    fits : CanRemove k outer first last
+    fits = record {
+      below = (let a = h.below (last + 1) (omega arith) in let c = h.counts in let o = h.ordered in let b = falls_part ν p.falls last (omega arith) in let d = start in omega arith);
+      shorter = (let a = h.end in let d = start in omega arith);
+    }
+
+    row : (i : ℕ) → 1 ≤ i → (i < first) ⊎ (first ≤ i) → (last < i) ⊎ (i ≤ last) → (i ≡ last) ⊎ (i ≡ last → ⊥) → part ν i ≡ left_row k outer first last i
+    row i l (inl a) b c = sym (h.above i l a) ∙ sym (outside_row k outer first last i (inl a))
+    row i l (inr a) (inl b) c = sym (h.below i b) ∙ sym (outside_row k outer first last i (inr b))
+    row i l (inr a) (inr b) (inl c) =
+        let e = ap (left_row k outer first last) c ∙ last_row k outer first last h.ordered in
+        let d = ap (part ν) c in
+        let q = start in
+        omega arith
+    row i l (inr a) (inr b) (inr c) =
+        let e = earlier_row k outer first last i a (omega arith) in
+        let d = h.chained i a (omega arith) in
+        omega arith
+
+    is : ν ≡ without_hook k outer first last
+    is = same_rows ν (without_hook k outer first last) p.positive (left_partition k outer first last f h.counts h.ordered fits).positive
+        (λ i l. row i l (cases_lt i first) (cases_lt last i) (cases_eq i last) ∙ sym (left_part k outer first last i fits l))
+
+-- ---- the list
+
+lower_before : (k : ℕ) (outer : List ℕ) (first last next end : ℕ) → Falls outer → 1 ≤ next → next < first → first ≤ last → next ≤ end
+    → CanRemove k outer first last → CanRemove k outer next end
+    → falling_lexicographic (without_hook k outer first last) (without_hook k outer next end) ≡ Less
+lower_before k outer first last next end f g l o p c d =
+    before_by_row next (without_hook k outer first last) (without_hook k outer next end) g
+    (λ i q r. left_part k outer first last i c q ∙ outside_row k outer first last i (inl (omega arith)) ∙ sym (left_part k outer next end i d q ∙ outside_row k outer next end i (inl r)))
+    (let x = left_part k outer first last next c g ∙ outside_row k outer first last next (inl l) in
+    let y = left_part k outer next end next d g in
+    let z = row_shorter k outer next end next f g (omega arith) p d in
+    omega arith)
+
+listed_row : (k : ℕ) (outer : List ℕ) (first : ℕ) (ν : List ℕ) → 1 ≤ first → Among ν (hooks_beginning k outer first)
+    → (last : ℕ) × (first ≤ last) × CanRemove k outer first last × (ν ≡ without_hook k outer first last)
+listed_row k outer first ν h m =
+    let r = from_fitting (λ i. can_remove k outer first i) (λ i. without_hook k outer first i) ν (after (first - 1) (rows outer + 1 - first)) m in
+    let s = after_among (first - 1) (rows outer + 1 - first) r.0 r.1 in
+    (r.0, (let a = s.0 in omega arith), can_remove-tells k outer first r.0 r.2, r.3)
+
+from_within : (k : ℕ) (outer : List ℕ) (n : ℕ) (ν : List ℕ) → Among ν (hooks_beginning_within k outer n) → (first : ℕ) × (1 ≤ first) × (first ≤ n) × Among ν (hooks_beginning k outer first)
+from_within k outer zero ν m = absurd m
+from_within k outer (suc n) ν m =
+    by (Among_from_append ν (hooks_beginning k outer (suc n)) (hooks_beginning_within k outer n) m) (λ o. from_within k outer n ν o)
+  where
+    by : Among ν (hooks_beginning k outer (suc n)) ⊎ Among ν (hooks_beginning_within k outer n)
+        → (Among ν (hooks_beginning_within k outer n) → (first : ℕ) × (1 ≤ first) × (first ≤ n) × Among ν (hooks_beginning k outer first))
+        → (first : ℕ) × (1 ≤ first) × (first ≤ suc n) × Among ν (hooks_beginning k outer first)
+    by (inl o) later = (suc n, omega arith, omega arith, o)
+    by (inr o) later = let r = later o in (r.0, r.1, (let l = r.2 in omega arith), r.3)
+
+among_within : (k : ℕ) (outer : List ℕ) (n first : ℕ) (ν : List ℕ) → 1 ≤ first → first ≤ n → Among ν (hooks_beginning k outer first) → Among ν (hooks_beginning_within k outer n)
+among_within k outer zero first ν h l m = absurd (omega arith)
+among_within k outer (suc n) first ν h l m = by (cases_eq first (suc n)) (λ o. among_within k outer n first ν h o m)
+  where
+    by : (first ≡ suc n) ⊎ (first ≡ suc n → ⊥) → (first ≤ n → Among ν (hooks_beginning_within k outer n)) → Among ν (hooks_beginning k outer (suc n) ++ hooks_beginning_within k outer n)
+    by (inl e) later = Among-append_left ν (hooks_beginning k outer (suc n)) (hooks_beginning_within k outer n) (subst (λ j. Among ν (hooks_beginning k outer j)) e m)
+    by (inr e) later = Among-append_right ν (hooks_beginning k outer (suc n)) (hooks_beginning_within k outer n) (later (omega arith))
+
+beginning_fall : (k : ℕ) (outer : List ℕ) (first : ℕ) → Falls outer → 1 ≤ first → FallsLexicographically (hooks_beginning k outer first)
+beginning_fall k outer first f h =
+    fall_fitting (λ i. can_remove k outer first i) (λ i. without_hook k outer first i) (first - 1) (rows outer + 1 - first)
+    (λ i j a b c s t. no_two k outer first i j f (omega arith) b (can_remove-tells k outer first i s) (can_remove-tells k outer first j t))
+
+removed_fall : (k : ℕ) (outer : List ℕ) (n : ℕ) → Falls outer → FallsLexicographically (hooks_beginning_within k outer n)
+removed_fall k outer zero f = tt
+removed_fall k outer (suc n) f =
+    fall-append (hooks_beginning k outer (suc n)) (hooks_beginning_within k outer n) (beginning_fall k outer (suc n) f (omega arith)) (removed_fall k outer n f)
+    (λ x y m o.
+    let u = from_within k outer n y o in
+    let r = listed_row k outer (suc n) x (omega arith) m in
+    let s = listed_row k outer u.0 y u.1 u.3 in
+    subst (λ z. falling_lexicographic z y ≡ Less) (sym r.3)
+    (subst (λ z. falling_lexicographic (without_hook k outer (suc n) r.0) z ≡ Less) (sym s.3)
+    (lower_before k outer (suc n) r.0 u.0 s.0 f u.1 (let l = u.2 in omega arith) r.1 s.1 r.2 s.2)))
+
+pub hooks_removed : (k : ℕ) (outer : List ℕ) → IsPartition outer → AreHooksRemoved outer k (hooks_beginning_within k outer (rows outer))
+hooks_removed k outer p = record {
+  falls = removed_fall k outer (rows outer) p.falls;
+  members = λ ν. (
+    λ m.
+        let u = from_within k outer (rows outer) ν m in
+        let s = listed_row k outer u.0 ν u.1 u.3 in
+        subst (λ z. IsPartition z × (size outer ≡ size z + k) × IsRimHook outer z) (sym s.3) (
+          left_partition k outer u.0 s.0 p.falls u.1 s.1 s.2,
+          left_cells k outer u.0 s.0 p.falls u.1 s.1 s.2,
+          hook_from_rows outer (without_hook k outer u.0 s.0) u.0 s.0 p.falls (hook_is k outer u.0 s.0 p.falls u.1 s.1 s.2),
+        ),
+    λ is.
+        let r = hook_rows outer ν p.falls is.0.falls is.2 in
+        let g = found k outer ν r.0 r.1 p.falls is.0 is.1 r.2 in
+        let w = (last_within k outer r.0 r.1 g.fits).1 in
+        let a = g.counts in
+        let b = g.ordered in
+        among_within k outer (rows outer) r.0 ν g.counts (omega arith)
+        (subst (λ z. Among z (hooks_beginning k outer r.0)) (sym g.is)
+        (among_fitting (λ i. can_remove k outer r.0 i) (λ i. without_hook k outer r.0 i) r.1 (after (r.0 - 1) (rows outer + 1 - r.0)) (among_after (r.0 - 1) (rows outer + 1 - r.0) r.1 (omega arith) (omega arith)) (can_remove-from k outer r.0 r.1 g.fits))),
+  );
+}

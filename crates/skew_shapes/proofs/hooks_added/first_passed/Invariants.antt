@@ -1,0 +1,10 @@
+use Rattle.std.proofs.Common.{◌-◌, ◌≤◌}
+use Rattle.skew_shapes.specs.AddedHooks.{BeginsFrom}
+use Rattle.skew_shapes.proofs.hooks_added.first_passed.Given as goal
+
+-- the rows before this one are too long
+abbrev pub invariant-loop-first : goal.invariant-loop-first
+invariant-loop-first l = BeginsFrom l.k l.inner l.first l.hook.last × (l.first ≤ l.hook.last)
+
+abbrev pub decreases-loop-first : goal.decreases-loop-first
+decreases-loop-first l = l.hook.last - l.first

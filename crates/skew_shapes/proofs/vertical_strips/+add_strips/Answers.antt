@@ -1,0 +1,56 @@
+use Rattle.std.proofs.Common.{◌≡◌, ◌+◌, ◌-◌, ◌≤◌, ◌++◌, [], ◌∷◌, List, ℕ, get_or, take, drop, length, map, subst, sym, ap, ◌∙◌, arith, append_assoc}
+use Rattle.sym_model.specs.Partition.{Falls}
+use Rattle.sym_model.specs.Sum.{Among, each}
+use Rattle.partitions.specs.Limits.{IsWithinLimits}
+use Rattle.skew_shapes.specs.HorizontalStrips.{counting_down}
+use Rattle.skew_shapes.proofs.StripLists.{split_rows, each-next}
+use Rattle.skew_shapes.specs.VerticalStrips.{vertical_on}
+use Rattle.skew_shapes.proofs.ShapeLists.{widened_all, listed_further}
+use Rattle.skew_shapes.proofs.vertical_strips.+add_strips.Goals as goal
+
+falls_rows : (a b c : ℕ) (below inner : List ℕ) → b ∷ below ≡ inner → Falls (a ∷ inner) → b ≤ c → (b ≤ a) × Falls (c ∷ below)
+falls_rows a b c below inner e f l = let g : Falls (a ∷ b ∷ below) = subst (λ l. Falls (a ∷ l)) (sym e) f in (g.0, more b c below l g.1)
+  where
+    more : (b c : ℕ) (below : List ℕ) → b ≤ c → Falls (b ∷ below) → Falls (c ∷ below)
+    more b c [] l f = tt
+    more b c (d ∷ below) l f = (let x = f.0 in omega arith, f.1)
+
+pub add_strips-requires : goal.add_strips-requires
+add_strips-requires t c =
+    let a = get_or c.args.inner.now 0 0 in
+    let split = split_rows c.args.inner.now c.in-len1-up.len_at_least in
+    let shorter = ap length split in
+    let first = (falls_rows c.args.most (get_or c.args.inner.now 0 0) (get_or c.args.inner.now 0 0) (take (length c.args.inner.now - 1) (drop 1 c.args.inner.now)) c.args.inner.now split c.requires.falls (omega arith)).0 in
+    let falls = falls_rows c.args.most (get_or c.args.inner.now 0 0) (c.min-longest.result - c.loop-shorter.shorter) (take (length c.args.inner.now - 1) (drop 1 c.args.inner.now)) c.args.inner.now split c.requires.falls (omega arith) in
+    let longer : c.deref.result.now ≡ c.args.rows.now ++ ((c.min-longest.result - c.loop-shorter.shorter) ∷ []) =
+    c.deref.ensures.value ∙ c.in_ok-push.ensures.items ∙ ap (λ l. l ++ ((c.min-longest.result - c.loop-shorter.shorter) ∷ [])) c.in_ok-longer.ensures.items in (
+      omega arith,
+      (
+        falls.1,
+        (
+          omega arith,
+          λ rest m.
+              subst IsWithinLimits (sym (append_assoc c.args.rows.now ((c.min-longest.result - c.loop-shorter.shorter) ∷ []) rest) ∙ ap (λ l. l ++ rest) (sym longer))
+              (c.requires.limits ((c.min-longest.result - c.loop-shorter.shorter) ∷ rest)
+              (subst (λ l. Among ((c.min-longest.result - c.loop-shorter.shorter) ∷ rest) (vertical_on c.args.most c.args.left l)) split
+              (listed_further c.args.most c.args.left (get_or c.args.inner.now 0 0) (c.min-longest.result - c.loop-shorter.shorter) c.loop-shorter.shorter
+              (take (length c.args.inner.now - 1) (drop 1 c.args.inner.now)) rest (omega arith) (omega arith) m))),
+        ),
+      ),
+    )
+
+pub loop-shorter-preserved : goal.loop-shorter-preserved
+loop-shorter-preserved t c =
+    each-next (λ row. vertical_on row (c.args.left + get_or c.args.inner.now 0 0 - row) (take (length c.args.inner.now - 1) (drop 1 c.args.inner.now))) c.min-longest.result c.loop-shorter.shorter
+    c.args.rows.now c.deref.result.now c.args.shapes.now.items c.loop-shorter.shapes.items c.add_strips.new.shapes.items c.loop-shorter.invariant
+    (c.deref.ensures.value ∙ c.in_ok-push.ensures.items ∙ ap (λ l. l ++ ((c.min-longest.result - c.loop-shorter.shorter) ∷ [])) c.in_ok-longer.ensures.items)
+    c.in_ok-add_strips.ensures
+
+pub returns : goal.returns
+returns t c =
+    let split = split_rows c.args.inner.now c.in-len1-up.len_at_least in
+    widened_all c.args.most c.args.left (get_or c.args.inner.now 0 0) c.loop-shorter.shorter (take (length c.args.inner.now - 1) (drop 1 c.args.inner.now)) c.args.rows.now c.args.inner.now
+    c.args.shapes.now.items c.loop-shorter.shapes.items split (let m = c.min.ensures in omega arith)
+    (c.loop-shorter.invariant
+    ∙ ap (λ n. c.args.shapes.now.items ++ map (λ rest. c.args.rows.now ++ rest)
+    (each (λ row. map (λ rest. row ∷ rest) (vertical_on row (c.args.left + get_or c.args.inner.now 0 0 - row) (take (length c.args.inner.now - 1) (drop 1 c.args.inner.now)))) (counting_down n c.loop-shorter.shorter))) (let m = c.min.ensures in omega arith))

@@ -1,0 +1,14 @@
+use Rattle.std.proofs.Common.{◌≡◌, ◌+◌, ◌-◌, ◌++◌, ◌∷◌, map, length}
+use Rattle.sym_model.specs.Sum.{each}
+use Rattle.skew_shapes.specs.HorizontalStrips.{counting_down}
+use Rattle.skew_shapes.specs.VerticalStrips.{vertical_on}
+use Rattle.skew_shapes.proofs.vertical_strips.+add_strips.Given as goal
+
+abbrev pub decreases-add_strips : goal.decreases-add_strips
+decreases-add_strips l = length l.inner.now
+
+-- the shapes with the first rows so far are added
+abbrev pub invariant-loop-shorter : goal.invariant-loop-shorter
+invariant-loop-shorter l =
+    l.shapes.items
+    ≡ l.initial.shapes.items ++ map (λ rest. l.rows ++ rest) (each (λ row. map (λ rest. row ∷ rest) (vertical_on row (l.left + l.first - row) l.below)) (counting_down l.longest l.shorter))

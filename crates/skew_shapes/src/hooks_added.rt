@@ -1,0 +1,188 @@
+//! The partitions that a rim hook put on a partition makes.
+ghost use Rattle.std.specs.Prelude.{◌≡◌, ◌+◌, ◌-◌, ◌<◌, ◌≤◌, ◌↔◌, ◌∷◌, ◌++◌, [], true, max, map, take, length, None, IfOk, IfSome, IsSome, IsTrue};
+ghost use Rattle.std.specs.Bool.{OnTrue, OnFalse};
+ghost use Rattle.std.specs.Option.{option_to_list};
+ghost use Rattle.sym_model.specs.Partition.{Falls, after, part, rows, size};
+ghost use Rattle.sym_model.specs.Strip.{height};
+ghost use Rattle.skew_shapes.specs.AddedHooks.{added_row, can_add, hooks_ending_after, with_hook, BeginsFrom};
+ghost use Rattle.skew_shapes.specs.HookLists.{AreHooksAdded};
+
+use crate::lengths::{HookRows, before_zeros, length_of};
+use calc_base::{Lister, NoMemory};
+use partitions::Partition;
+use std::alloc::Global;
+use std::marker::Model;
+
+/// The partitions ν for which ν/inner is a rim hook of k cells, in falling lexicographic order, each once: a `Lister` that
+/// works in one buffer.
+#[derive(Drop)]
+pub struct HooksAdded {
+    base: Partition,
+    /// How many cells a rim hook has.
+    k: u16,
+    /// A place for each row that a partition can have; the lengths of the rows of the current one.
+    buffer: Vec<u16>,
+    /// The rows of the current rim hook. The next ones end after its last row.
+    hook: HookRows,
+    /// Whether a partition is current.
+    listed: bool,
+}
+
+impl Model for HooksAdded {
+    ghost use Rattle.skew_shapes.specs.HookLists.{HooksListed};
+    ghost use Rattle.skew_shapes.specs.AddedHooks.{IsAdding, adding_at};
+
+    ghost Value = { HooksListed };
+
+    ghost view = { λ l. adding_at l.base l.k l.hook.first l.hook.last l.listed };
+
+    ghost invariant = { λ l. IsAdding l.base l.k l.buffer.items l.hook.first l.hook.last l.listed };
+}
+
+impl HooksAdded {
+    /// The partitions that a rim hook of `k` cells put on `inner` makes, none of them current. The cells and k together are
+    /// at most 4,096, and the rows and k at most 512. For k = 0 there is none.
+    pub fn new(alloc: Global, inner: &Partition, k: u16) -> Result<HooksAdded, NoMemory>
+        requires cells { size inner.now + k ≤ 4096 }
+        requires rows { rows inner.now + k ≤ 512 }
+        ensures hooks { IfOk result (λ l. AreHooksAdded inner.now k (⟦<HooksAdded as Lister>⟧.rest l)) }
+        ensures item { IfOk result (λ l. ⟦<HooksAdded as Lister>⟧.item l ≡ None) }
+        ensures base { IfOk result (λ l. l.base ≡ inner.now) }
+    {
+        Ok(HooksAdded {
+            base: inner.copy()?,
+            k,
+            buffer: vec![in alloc; 0u16; usize::from(inner.rows() + k)]?,
+            hook: HookRows { first: 1, last: 0 },
+            listed: false,
+        })
+    }
+
+    /// The height of the rim hook that makes the current partition: the number of its rows.
+    pub fn height(&self) -> u16
+        requires { IsSome self.now.item }
+        ensures { IfSome self.now.item (λ ν. result ≡ height ν self.now.base) }
+    {
+        self.hook.last + 1 - self.hook.first
+    }
+}
+
+impl Lister for HooksAdded {
+    ghost rest = { λ l. l.rest };
+
+    ghost item = { λ l. l.item };
+
+    // The clauses of the trait, and that the inner partition stays.
+    fn advance(&mut self) -> bool
+        ensures next { self.old.rest ≡ option_to_list self.new.item ++ self.new.rest }
+        ensures found { IsTrue result ↔ IsSome self.new.item }
+        ensures ended { OnFalse result (self.old.rest ≡ []) }
+        ensures base { self.new.base ≡ self.old.base }
+    {
+        let most = self.base.rows() + self.k;
+        if !find_next(self.base.parts(), self.k, most, &mut self.hook) {
+            self.listed = false;
+            return false;
+        }
+        write_rows(self.base.parts(), self.k, self.hook, &mut self.buffer);
+        self.listed = true;
+        true
+    }
+
+    fn current(&self) -> &[u16] {
+        let rows = self.base.rows().max(self.hook.last);
+        before_zeros(&self.buffer[..usize::from(rows)])
+    }
+}
+
+/// Moves on to the rows of the next rim hook that can be put on; false where none is left.
+fn find_next(inner: &[u16], k: u16, most: u16, hook: &mut HookRows) -> bool
+    requires falls { Falls inner.now }
+    requires few { most ≤ 512 }
+    requires most { most ≡ rows inner.now + k }
+    requires begins { BeginsFrom k inner.now hook.old.first hook.old.last }
+    requires within { hook.old.last ≤ most }
+    ensures begins { BeginsFrom k inner.now hook.new.first hook.new.last }
+    ensures within { hook.new.last ≤ most }
+    ensures found { OnTrue result (hooks_ending_after k inner.now hook.old.last
+        ≡ with_hook k inner.now hook.new.first hook.new.last ∷ hooks_ending_after k inner.now hook.new.last) }
+    ensures fits { OnTrue result (can_add k inner.now hook.new.first hook.new.last ≡ true) }
+    ensures ordered { OnTrue result (hook.new.first ≤ hook.new.last) }
+    ensures none { OnFalse result (hooks_ending_after k inner.now hook.old.last ≡ []) }
+    ensures ended { OnFalse result (hook.new.last ≡ most) }
+{
+    while hook.last < most {
+        hook.last += 1;
+        hook.first = first_passed(inner, k, *hook);
+        if can_be_added(inner, k, *hook) {
+            return true;
+        }
+    }
+    false
+}
+
+/// The first row that is not too long for a rim hook with this last row.
+fn first_passed(inner: &[u16], k: u16, hook: HookRows) -> u16
+    requires ordered { hook.first ≤ hook.last }
+    requires begins { BeginsFrom k inner.now hook.first hook.last }
+    ensures begins { BeginsFrom k inner.now result hook.last }
+    ensures within { result ≤ hook.last }
+    ensures longer { result < hook.last → part inner.now result + hook.last < part inner.now hook.last + k + result }
+{
+    let raised = u32::from(length_of(inner, hook.last)) + u32::from(k);
+    let mut first = hook.first;
+    while first < hook.last
+        && raised + u32::from(first) <= u32::from(length_of(inner, first)) + u32::from(hook.last)
+    {
+        first += 1;
+    }
+    first
+}
+
+/// Whether a rim hook of `k` cells can be put on in these rows.
+fn can_be_added(inner: &[u16], k: u16, hook: HookRows) -> bool
+    requires counts { 1 ≤ hook.first }
+    requires ordered { hook.first ≤ hook.last }
+    ensures { result ≡ can_add k inner.now hook.first hook.last }
+{
+    let below = u32::from(hook.last - hook.first);
+    let raised = u32::from(length_of(inner, hook.last)) + u32::from(k);
+    u32::from(length_of(inner, hook.first)) + below < raised
+        && (hook.first == 1 || raised <= u32::from(length_of(inner, hook.first - 1)) + below)
+}
+
+/// Writes the lengths of the rows of the partition with this rim hook.
+fn write_rows(inner: &[u16], k: u16, hook: HookRows, buffer: &mut [u16])
+    requires counts { 1 ≤ hook.first }
+    requires ordered { hook.first ≤ hook.last }
+    requires cells { size inner.now + k ≤ 4096 }
+    requires fits { can_add k inner.now hook.first hook.last ≡ true }
+    requires room { max (rows inner.now) hook.last ≤ length buffer.old }
+    requires few { length buffer.old ≤ 512 }
+    ensures rows { let rows = max (rows inner.now) hook.last
+        in take rows buffer.new ≡ map (added_row k inner.now hook.first hook.last) (after 0 rows) }
+    ensures room { length buffer.new ≡ length buffer.old }
+{
+    let rows = inner.len().max(usize::from(hook.last)) as u16;
+    for above in 0..rows {
+        buffer[usize::from(above)] = row_with_hook(inner, k, hook, above + 1);
+    }
+}
+
+/// The length of a row of the partition with this rim hook.
+fn row_with_hook(inner: &[u16], k: u16, hook: HookRows, row: u16) -> u16
+    requires counts { 1 ≤ hook.first }
+    requires ordered { hook.first ≤ hook.last }
+    requires row { 1 ≤ row }
+    requires cells { size inner.now + k ≤ 4096 }
+    requires fits { can_add k inner.now hook.first hook.last ≡ true }
+    ensures { result ≡ added_row k inner.now hook.first hook.last row }
+{
+    if row < hook.first || hook.last < row {
+        return length_of(inner, row);
+    }
+    if row == hook.first {
+        return length_of(inner, hook.last) + k - (hook.last - hook.first);
+    }
+    length_of(inner, row - 1) + 1
+}

@@ -1,0 +1,111 @@
+//! The shapes that a vertical strip makes of a partition.
+ghost use Rattle.std.specs.Prelude.{◌≡◌, ◌+◌, ◌^◌, ◌<◌, ◌≤◌, ◌∷◌, ◌++◌, [], None, ℕ, List, map, replicate, IfOk, OnOk};
+ghost use Rattle.sym_model.specs.Partition.{Falls, rows, size};
+ghost use Rattle.sym_model.specs.Sum.{Among};
+ghost use Rattle.partitions.specs.Limits.{IsWithinLimits};
+ghost use Rattle.skew_shapes.specs.VerticalStrips.{vertical_on, AreVerticalStrips};
+
+use calc_base::{Lister, NoMemory};
+use partitions::Partition;
+use std::alloc::Global;
+use std::marker::Model;
+
+/// The partitions ν for which ν/inner is a vertical strip of k cells, in falling lexicographic order, each once: a `Lister`
+/// of shapes that are made at once.
+#[derive(Drop)]
+pub struct VerticalStrips {
+    shapes: Vec<Partition>,
+    // How many shapes have come; one more than there are after the last.
+    listed: usize,
+}
+
+impl Model for VerticalStrips {
+    ghost use Rattle.std.specs.Prelude.{ℕ, List, Option, drop};
+
+    ghost Value = { List (List ℕ) × Option (List ℕ) };
+
+    ghost use Rattle.skew_shapes.specs.HorizontalStrips.{last_of};
+
+    ghost view = { λ l. (drop l.listed l.shapes.items, last_of l.listed l.shapes.items) };
+}
+
+impl VerticalStrips {
+    /// The shapes that a strip of `k` cells makes of `inner`, none of them current. The cells and k together are at most
+    /// 4,096, and the rows and k at most 512. For k = 0 there is `inner` alone.
+    pub fn new(alloc: Global, inner: &Partition, k: u16) -> Result<VerticalStrips, NoMemory>
+        requires cells { size inner.now + k ≤ 4096 }
+        requires rows { rows inner.now + k ≤ 512 }
+        ensures strips { IfOk result (λ l. AreVerticalStrips inner.now k (⟦<VerticalStrips as Lister>⟧.rest l)) }
+        ensures item { IfOk result (λ l. ⟦<VerticalStrips as Lister>⟧.item l ≡ None) }
+    {
+        let mut shapes = Vec::new(alloc);
+        add_strips(alloc, inner.part(1) + 1, k, inner.parts(), &[], &mut shapes)?;
+        Ok(VerticalStrips { shapes, listed: 0 })
+    }
+}
+
+impl Lister for VerticalStrips {
+    ghost rest = { λ l. l.0 };
+
+    ghost item = { λ l. l.1 };
+
+    fn advance(&mut self) -> bool {
+        if self.listed < self.shapes.len() {
+            self.listed += 1;
+            return true;
+        }
+        self.listed = self.shapes.len() + 1;
+        false
+    }
+
+    fn current(&self) -> &[u16] {
+        self.shapes[self.listed - 1].parts()
+    }
+}
+
+/// Adds the shapes that begin with the rows, and go on with what a strip of `left` cells makes of the rows of a partition,
+/// where no first row is longer than `most`.
+fn add_strips(
+    alloc: Global,
+    most: u16,
+    left: u16,
+    inner: &[u16],
+    rows: &[u16],
+    shapes: &mut Vec<Partition>,
+) -> Result<(), NoMemory>
+    requires falls { Falls (most ∷ inner.now) }
+    requires small { most + left < 2 ^ 14 }
+    requires limits { (rest : List ℕ) → Among rest (vertical_on most left inner.now) → IsWithinLimits (rows.now ++ rest) }
+    ensures { OnOk result (shapes.new.items
+        ≡ shapes.old.items ++ map (λ rest. rows.now ++ rest) (vertical_on most left inner.now)) }
+{
+    let [first, below @ ..] = inner else {
+        return add_ones(alloc, left, rows, shapes);
+    };
+    let longest = most.min(*first + left.min(1));
+    for shorter in 0..longest + 1 - *first {
+        let row = longest - shorter;
+        let mut longer = Vec::from_slice(alloc, rows)?;
+        longer.push(row)?;
+        add_strips(alloc, row, left + *first - row, below, &longer, shapes)?;
+    }
+    Ok(())
+}
+
+/// Adds the shape of the rows and of `left` rows of one cell behind them.
+fn add_ones(
+    alloc: Global,
+    left: u16,
+    rows: &[u16],
+    shapes: &mut Vec<Partition>,
+) -> Result<(), NoMemory>
+    requires limits { IsWithinLimits (rows.now ++ replicate left 1) }
+    ensures { OnOk result (shapes.new.items ≡ shapes.old.items ++ ((rows.now ++ replicate left 1) ∷ [])) }
+{
+    let mut shape = Vec::from_slice(alloc, rows)?;
+    for _ in 0..left {
+        shape.push(1)?;
+    }
+    shapes.push(Partition::from_valid_parts(alloc, &shape)?)?;
+    Ok(())
+}

@@ -1,0 +1,38 @@
+-- The exponents of a product of monomials.
+use Rattle.std.proofs.Common.{◌≡◌, ℕ, zero, suc, ◌+◌, ◌<◌, ◌≤◌, max, List, [], ◌∷◌, ◌++◌, length, get_or, take, refl, sym, ap, ◌∙◌, arith, add-zero}
+use Rattle.std.proofs.lemmas.List.{take_more}
+use Rattle.sym_model.specs.Polynomial.{join}
+use Rattle.sym_model.specs.Partition.{size}
+use Rattle.sym_model.proofs.Exponents.{size-join, length-join}
+use Rattle.sparse_polys.specs.Limits.{HasDegree, IsWithinLimits}
+
+get_or-join : (a b : List ℕ) (i : ℕ) → get_or (join a b) i 0 ≡ get_or a i 0 + get_or b i 0
+get_or-join [] b i = omega arith
+get_or-join (x ∷ a) [] i = sym (add-zero (get_or (x ∷ a) i 0))
+get_or-join (x ∷ a) (y ∷ b) zero = refl
+get_or-join (x ∷ a) (y ∷ b) (suc i) = get_or-join a b i
+
+-- one place more of the sums
+pub take-join : (a b : List ℕ) (i : ℕ) → i < max (length a) (length b) → take (i + 1) (join a b) ≡ take i (join a b) ++ (get_or a i 0 + get_or b i 0) ∷ []
+take-join a b i h =
+    let l = length-join a b in
+    take_more (join a b) i 0 (omega arith) ∙ ap (λ n. take i (join a b) ++ n ∷ []) (get_or-join a b i)
+
+-- a sum at a place is at most the sum of all
+pub entry-join : (a b : List ℕ) (i : ℕ) → get_or a i 0 + get_or b i 0 ≤ size (join a b)
+entry-join a b i =
+    let s = size-join a b in
+    let p = entry a i in
+    let q = entry b i in
+    omega arith
+  where
+    entry : (e : List ℕ) (i : ℕ) → get_or e i 0 ≤ size e
+    entry [] i = omega arith
+    entry (x ∷ e) zero = omega arith
+    entry (x ∷ e) (suc i) = let h = entry e i in omega arith
+
+pub HasDegree-join : (a b : List ℕ) (d e : ℕ) → HasDegree a d → HasDegree b e → IsWithinLimits (join a b) → HasDegree (join a b) (d + e)
+HasDegree-join a b d e h k l = record {
+  limits = l;
+  degree_is = let s = size-join a b in let p = h.degree_is in let q = k.degree_is in omega arith;
+}

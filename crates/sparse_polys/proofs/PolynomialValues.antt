@@ -1,0 +1,224 @@
+-- The polynomial that a list of monomials stands for, through sums over its terms with the fractions cleared.
+--     represents       a list with the sums of a polynomial stands for it
+--     product_value    the sums of a product of two polynomials
+--     variable_value   the sums of a product with a variable
+use Rattle.std.proofs.Common.{◌≡◌, ℕ, ◌-◌, ◌*◌, ◌/◌, ◌^◌, ◌<◌, ◌≤◌, max, Bool, true, false, cond, ◌&&◌, List, [], ◌∷◌, ◌++◌, refl, sym, ap, ap₂, ◌∙◌, subst, inl, inr, arith, ℤ, pos, ◌+ℤ◌, ◌*ℤ◌}
+use Rattle.std.specs.Prelude.{nat_eq, Option, Some, replicate}
+use Rattle.std.specs.Int.{◌∣◌}
+use Rattle.std.specs.List.{IsDistinct}
+use Rattle.std.specs.Map.{lookup, keys_of}
+use Rattle.std.specs.Option.{unwrap_or}
+use Rattle.std.specs.Cmp.Lexicographic.{pointwise, nat_list_eq_equiv}
+use Rattle.std.proofs.lemmas.Bool.{and_parts, cases_lt}
+use Rattle.std.proofs.lemmas.Map.{lookup-none}
+use Rattle.std.proofs.lemmas.Map.Keys.{IsDistinct-tail}
+use Rattle.std.proofs.lemmas.Map.Entries.{none_past_head}
+use Rattle.std.proofs.lemmas.Nat.Gcd.{dvd_trans}
+use Rattle.std.proofs.lemmas.Slice.Eq.{bytes_eq-Decides}
+use Rattle.std.proofs.Math.Nat.{div-mul_cancel}
+use Rattle.sym_model.specs.Sum.{Among}
+use Rattle.sym_model.specs.Polynomial.{Poly, join, pair, times, scale, resize, fits_in}
+use Rattle.sym_model.specs.DividedDifference.{x_to, x_to_in, variable_in}
+use Rattle.sym_model.specs.Expansion.{Fraction, Terms, Represents, denominators, cleared}
+use Rattle.sym_model.specs.Expression.{lcm}
+use Rattle.sym_model.specs.ListWeight.{common_denominator, absolute_sum, list_weight}
+use Rattle.sym_model.proofs.CanonicalLists.{each_term-among}
+use Rattle.sym_model.proofs.Exponents.{join_comm, resize-join, fits_in-join}
+use Rattle.sym_model.proofs.Orders.{is_reduced-tells}
+use Rattle.sym_model.proofs.Polynomials.{pair_plus, pair_scale, pair_times, pair_restrict, same_from_pair}
+use Rattle.sym_model.proofs.Ring.{one-product, product_assoc}
+use Rattle.sym_model.proofs.Sums.{total_ext, total_among, total_scale, total_zero}
+use Rattle.monomial_laws.proofs.WeightBounds.{lcm-left, lcm-right, lcm-positive}
+use Rattle.coeff_rings.specs.Fractions.{scaled}
+use Rattle.sparse_polys.specs.Products.{value_in, coefficient_at, cleared_sum, AreCleared, IsCommonDenominator}
+use Rattle.sparse_polys.specs.Raised.{raised}
+use Rattle.sparse_polys.proofs.ClearedSums.{IsTable}
+use native.Mathlib.Nat.{mul-pos, mul-le-mul_left, dvd-mul_left, dvd-mul_right}
+use lib.IntN.{+ℤ_idr, *ℤ-zero, *ℤ_comm}
+
+-- the value of a test function at a monomial in n variables; 0 where a later variable is in it
+abbrev pub shown : ℕ → (List ℕ → ℤ) → List ℕ → ℤ
+shown n φ e = cond (fits_in n e) (φ (resize n e)) (pos 0)
+
+pair_x_to_in : (n : ℕ) (e : List ℕ) (φ : List ℕ → ℤ) → pair (x_to_in e n) φ ≡ shown n φ e
+pair_x_to_in n e φ = pair_restrict n (x_to e) φ ∙ +ℤ_idr (pos 1 *ℤ shown n φ e) ∙ one-product (shown n φ e)
+
+pair_cleared : (n q : ℕ) (terms : Terms (List ℕ)) (φ : List ℕ → ℤ) → pair (cleared (λ e. x_to_in e n) q terms) φ ≡ cleared_sum q (shown n φ) terms
+pair_cleared n q [] φ = refl
+pair_cleared n q (t ∷ terms) φ =
+    pair_plus (scale (scaled q t.1) (x_to_in t.0 n)) (cleared (λ e. x_to_in e n) q terms) φ
+    ∙ ap₂ ◌+ℤ◌ (pair_scale (scaled q t.1) (x_to_in t.0 n) φ ∙ ap (λ z. scaled q t.1 *ℤ z) (pair_x_to_in n t.0 φ)) (pair_cleared n q terms φ)
+
+-- ---- the terms of a list
+
+found_at : (terms : Terms (List ℕ)) → IsTable terms → (t : List ℕ × Fraction) → Among t terms → coefficient_at terms t.0 ≡ t.1
+found_at terms is t m = ap (λ (o : Option Fraction). unwrap_or o (pos 0, 1)) (by terms is.distinct m)
+  where
+    by : (terms : Terms (List ℕ)) → IsDistinct (pointwise nat_eq) (keys_of terms) → Among t terms → lookup (pointwise nat_eq t.0) terms ≡ Some t.1
+    by [] d m = absurd m
+    by (u ∷ terms) d (inl e) =
+        ap (λ b. cond b (Some u.1) (lookup (pointwise nat_eq t.0) terms)) ((bytes_eq-Decides t.0 u.0).1 (ap (λ (v : List ℕ × Fraction). v.0) e))
+        ∙ ap (λ (v : List ℕ × Fraction). Some v.1) (sym e)
+    by (u ∷ terms) d (inr m) =
+        elim (pointwise nat_eq t.0 u.0) as (λ (b : Bool). pointwise nat_eq t.0 u.0 ≡ b → cond b (Some u.1) (lookup (pointwise nat_eq t.0) terms) ≡ Some t.1) [
+          | true ↦ λ p. (let none = lookup-none (pointwise nat_eq t.0) terms (none_past_head nat_list_eq_equiv t.0 u terms d p) in
+              let some = by terms (IsDistinct-tail (pointwise nat_eq) u.0 (keys_of terms) d) m in cc)
+          | false ↦ λ p. by terms (IsDistinct-tail (pointwise nat_eq) u.0 (keys_of terms) d) m
+        ] refl
+
+positive_at : (terms : Terms (List ℕ)) → IsTable terms → (t : List ℕ × Fraction) → Among t terms → 0 < t.1.1
+positive_at terms is t m = (is_reduced-tells t.1 (and_parts _ _ (each_term-among _ terms is.proper t m)).0).denominator
+
+denominators-positive : (terms : Terms (List ℕ)) → ((t : List ℕ × Fraction) → Among t terms → 0 < t.1.1) → 0 < denominators terms
+denominators-positive [] h = omega arith
+denominators-positive (t ∷ terms) h = mul-pos (h t (inl refl)) (denominators-positive terms (λ u m. h u (inr m)))
+
+denominators-multiple : (terms : Terms (List ℕ)) (t : List ℕ × Fraction) → Among t terms → t.1.1 ∣ denominators terms
+denominators-multiple [] t m = absurd m
+denominators-multiple (u ∷ terms) t (inl e) = subst (λ (v : List ℕ × Fraction). v.1.1 ∣ u.1.1 * denominators terms) (sym e) (dvd-mul_right u.1.1 (denominators terms))
+denominators-multiple (u ∷ terms) t (inr m) = dvd_trans t.1.1 (denominators-multiple terms t m) (dvd-mul_left (denominators terms) u.1.1)
+
+pub common-denominators : (terms : Terms (List ℕ)) → IsTable terms → IsCommonDenominator (denominators terms) terms
+common-denominators terms is = record {
+  positive = denominators-positive terms (positive_at terms is);
+  multiple = denominators-multiple terms;
+}
+
+-- ---- least common denominators
+
+least-positive : (terms : Terms (List ℕ)) → ((t : List ℕ × Fraction) → Among t terms → 0 < t.1.1) → 0 < common_denominator terms
+least-positive [] h = omega arith
+least-positive (t ∷ terms) h = lcm-positive t.1.1 (common_denominator terms) (h t (inl refl)) (least-positive terms (λ u m. h u (inr m)))
+
+least-multiple : (terms : Terms (List ℕ)) → ((t : List ℕ × Fraction) → Among t terms → 0 < t.1.1) → (t : List ℕ × Fraction) → Among t terms → t.1.1 ∣ common_denominator terms
+least-multiple [] h t m = absurd m
+least-multiple (u ∷ terms) h t (inl e) =
+    let l = lcm u.1.1 (common_denominator terms) in
+    subst (λ (v : List ℕ × Fraction). v.1.1 ∣ l) (sym e) (subst (λ n. u.1.1 ∣ n) (lcm-left u.1.1 (common_denominator terms) (h u (inl refl))) (dvd-mul_left u.1.1 (l / u.1.1)))
+least-multiple (u ∷ terms) h t (inr m) =
+    let l = lcm u.1.1 (common_denominator terms) in
+    dvd_trans t.1.1 (least-multiple terms (λ v n. h v (inr n)) t m)
+    (subst (λ n. common_denominator terms ∣ n) (lcm-right u.1.1 (common_denominator terms)) (dvd-mul_left (common_denominator terms) (l / common_denominator terms)))
+
+pub least-denominators : (terms : Terms (List ℕ)) → IsTable terms → IsCommonDenominator (common_denominator terms) terms
+least-denominators terms is = record {
+  positive = least-positive terms (positive_at terms is);
+  multiple = least-multiple terms (positive_at terms is);
+}
+
+-- where the product of two sums of absolute values is large, the product of the weights is
+pub weights-large : (left right : Terms (List ℕ)) → IsTable left → IsTable right
+    → (common_denominator left * common_denominator right < 2 ^ 127 → 2 ^ 127 ≤ absolute_sum (common_denominator left) left * absolute_sum (common_denominator right) right)
+    → 2 ^ 127 ≤ list_weight left * list_weight right
+weights-large left right is also h =
+    by (absolute_sum (common_denominator left) left) (absolute_sum (common_denominator right) right) (common_denominator left) (common_denominator right)
+    (least-denominators left is).positive (least-denominators right also).positive h
+  where
+    both : (m n a b : ℕ) → 1 ≤ m → 1 ≤ n → a ≤ m → b ≤ n → (1 ≤ m * n) × (a * b ≤ m * n)
+    both m n a b h k p q =
+        let x = mul-le-mul_left m k in
+        let y = mul-le-mul_left m q in
+        let z = mul-le-mul_left b p in
+        (omega arith, omega arith)
+
+    by : (a b d e : ℕ) → 0 < d → 0 < e → (d * e < 2 ^ 127 → 2 ^ 127 ≤ a * b) → 2 ^ 127 ≤ (max 1 a * d) * (max 1 b * e)
+    by a b d e p q h =
+        let m = both (max 1 a) (max 1 b) a b (omega arith) (omega arith) (omega arith) (omega arith) in
+        let one : 1 ≤ d * e = mul-pos p q in
+        let all : (max 1 a * d) * (max 1 b * e) ≡ (max 1 a * max 1 b) * (d * e) = omega arith in
+        let n = both (max 1 a * max 1 b) (d * e) (a * b) 1 m.0 one m.1 one in
+        let o = both (max 1 a * max 1 b) (d * e) 1 (d * e) m.0 one m.0 (omega arith) in
+        let x = n.1 in
+        let y = o.1 in
+        elim (cases_lt (d * e) (2 ^ 127)) [ inl l ↦ (let g = h l in omega arith) | inr l ↦ omega arith ]
+
+-- ---- what a list stands for
+
+cross : (d q r : ℕ) → r ∣ d → r ∣ q → d * (q / r) ≡ q * (d / r)
+cross d q r h k =
+    let a = div-mul_cancel r h in
+    let b = div-mul_cancel r k in
+    by (d / r) (q / r) a b
+  where
+    by : (a b : ℕ) → a * r ≡ d → b * r ≡ q → d * b ≡ q * a
+    by a b e f = ap (λ n. n * b) (sym e) ∙ (let s : (a * r) * b ≡ (b * r) * a = omega arith in s) ∙ ap (λ n. n * a) f
+
+exchanged : (x : ℤ) (d a q b : ℕ) → d * a ≡ q * b → pos d *ℤ (x *ℤ pos a) ≡ pos q *ℤ (x *ℤ pos b)
+exchanged x d a q b e = swap (pos d) x (pos a) ∙ ap (λ n. x *ℤ pos n) e ∙ sym (swap (pos q) x (pos b))
+  where
+    swap : (y x z : ℤ) → y *ℤ (x *ℤ z) ≡ x *ℤ (y *ℤ z)
+    swap y x z = sym (product_assoc y x z) ∙ ap (λ w. w *ℤ z) (*ℤ_comm y x) ∙ product_assoc x y z
+
+two_denominators : (d q : ℕ) (ψ : List ℕ → ℤ) (terms : Terms (List ℕ)) → ((t : List ℕ × Fraction) → Among t terms → t.1.1 ∣ d) → ((t : List ℕ × Fraction) → Among t terms → t.1.1 ∣ q)
+    → pos d *ℤ cleared_sum q ψ terms ≡ pos q *ℤ cleared_sum d ψ terms
+two_denominators d q ψ terms h k =
+    sym (total_scale (pos d) (λ (t : List ℕ × Fraction). scaled q t.1 *ℤ ψ t.0) terms)
+    ∙ total_among (λ (t : List ℕ × Fraction). pos d *ℤ (scaled q t.1 *ℤ ψ t.0)) (λ (t : List ℕ × Fraction). pos q *ℤ (scaled d t.1 *ℤ ψ t.0)) terms
+    (λ t m.
+    sym (product_assoc (pos d) (scaled q t.1) (ψ t.0))
+    ∙ ap (λ z. z *ℤ ψ t.0) (exchanged t.1.0 d (q / t.1.1) q (d / t.1.1) (cross d q t.1.1 (h t m) (k t m)))
+    ∙ product_assoc (pos q) (scaled d t.1) (ψ t.0))
+    ∙ total_scale (pos q) (λ (t : List ℕ × Fraction). scaled d t.1 *ℤ ψ t.0) terms
+
+pub represents : (terms : Terms (List ℕ)) (d n : ℕ) (f : Poly) → IsTable terms → AreCleared d terms → ((φ : List ℕ → ℤ) → cleared_sum d (shown n φ) terms ≡ pair f φ)
+    → Represents (λ e. x_to_in e n) terms f d
+represents terms d n f is clear sums =
+    let q = denominators terms in
+    let common = common-denominators terms is in
+    record {
+      positive = common.positive;
+      equal =
+          same_from_pair (scale (pos d) (value_in terms n)) (scale (pos q) f) (λ φ.
+          pair_scale (pos d) (value_in terms n) φ
+          ∙ ap (λ z. pos d *ℤ z) (pair_cleared n q terms φ)
+          ∙ two_denominators d q (shown n φ) terms (λ t m. subst (λ (c : Fraction). c.1 ∣ d) (found_at terms is t m) (clear t.0)) common.multiple
+          ∙ ap (λ z. pos q *ℤ z) (sums φ)
+          ∙ sym (pair_scale (pos q) f φ));
+    }
+
+-- ---- products
+
+-- one monomial times a polynomial
+row_value : (n : ℕ) (terms : Terms (List ℕ)) (φ : List ℕ → ℤ) (e : List ℕ)
+    → shown n (λ α. pair (value_in terms n) (λ β. φ (join α β))) e ≡ cleared_sum (denominators terms) (λ β. shown n φ (join e β)) terms
+row_value n terms φ e = by (fits_in n e) refl
+  where
+    q : ℕ
+    q = denominators terms
+
+    at : (b c : Bool) (u : List ℕ) → (b && c) ≡ c → cond c (φ (join (resize n e) (resize n u))) (pos 0) ≡ cond (b && c) (φ (resize n (join e u))) (pos 0)
+    at b c u h = ap (λ x. cond c (φ x) (pos 0)) (sym (resize-join n e u)) ∙ ap (λ x. cond x (φ (resize n (join e u))) (pos 0)) (sym h)
+
+    by : (b : Bool) → fits_in n e ≡ b → cond b (pair (value_in terms n) (λ β. φ (join (resize n e) β))) (pos 0) ≡ cleared_sum (denominators terms) (λ β. shown n φ (join e β)) terms
+    by true f =
+        pair_cleared n (denominators terms) terms (λ β. φ (join (resize n e) β))
+        ∙ total_ext (λ (t : List ℕ × Fraction). scaled (denominators terms) t.1 *ℤ shown n (λ β. φ (join (resize n e) β)) t.0) (λ (t : List ℕ × Fraction). scaled (denominators terms) t.1 *ℤ shown n φ (join e t.0))
+        (λ t. ap (λ z. scaled (denominators terms) t.1 *ℤ z)
+        (at (fits_in n e) (fits_in n t.0) t.0 (ap (λ b. b && fits_in n t.0) f) ∙ ap (λ b. cond b (φ (resize n (join e t.0))) (pos 0)) (sym (fits_in-join n e t.0))))
+        terms
+    by false f =
+        sym (total_zero terms)
+        ∙ total_ext (λ (t : List ℕ × Fraction). pos 0) (λ (t : List ℕ × Fraction). scaled (denominators terms) t.1 *ℤ shown n φ (join e t.0))
+        (λ t. sym (*ℤ-zero (scaled (denominators terms) t.1))
+        ∙ ap (λ b. scaled (denominators terms) t.1 *ℤ cond b (φ (resize n (join e t.0))) (pos 0)) (sym (fits_in-join n e t.0 ∙ ap (λ b. b && fits_in n t.0) f)))
+        terms
+
+pub product_value : (n : ℕ) (left right : Terms (List ℕ)) (φ : List ℕ → ℤ)
+    → cleared_sum (denominators left) (λ α. cleared_sum (denominators right) (λ β. shown n φ (join α β)) right) left ≡ pair (times (value_in left n) (value_in right n)) φ
+product_value n left right φ =
+    sym
+    (pair_times (value_in left n) (value_in right n) φ
+    ∙ pair_cleared n (denominators left) left (λ α. pair (value_in right n) (λ β. φ (join α β)))
+    ∙ total_ext (λ (t : List ℕ × Fraction). scaled (denominators left) t.1 *ℤ shown n (λ α. pair (value_in right n) (λ β. φ (join α β))) t.0)
+    (λ (t : List ℕ × Fraction). scaled (denominators left) t.1 *ℤ cleared_sum (denominators right) (λ β. shown n φ (join t.0 β)) right)
+    (λ t. ap (λ z. scaled (denominators left) t.1 *ℤ z) (row_value n right φ t.0)) left)
+
+pub variable_value : (n r : ℕ) (terms : Terms (List ℕ)) (φ : List ℕ → ℤ)
+    → cleared_sum (denominators terms) (λ e. shown n φ (raised r e)) terms ≡ pair (times (variable_in r n) (value_in terms n)) φ
+variable_value n r terms φ =
+    sym
+    (pair_times (variable_in r n) (value_in terms n) φ
+    ∙ pair_x_to_in n (replicate (r - 1) 0 ++ (1 ∷ [])) (λ α. pair (value_in terms n) (λ β. φ (join α β)))
+    ∙ row_value n terms φ (replicate (r - 1) 0 ++ (1 ∷ []))
+    ∙ total_ext (λ (t : List ℕ × Fraction). scaled (denominators terms) t.1 *ℤ shown n φ (join (replicate (r - 1) 0 ++ (1 ∷ [])) t.0)) (λ (t : List ℕ × Fraction). scaled (denominators terms) t.1 *ℤ shown n φ (raised r t.0))
+    (λ t. ap (λ e. scaled (denominators terms) t.1 *ℤ shown n φ e) (join_comm (replicate (r - 1) 0 ++ (1 ∷ [])) t.0)) terms)

@@ -1,0 +1,137 @@
+-- A monomial times a variable: its exponents with one of them raised by 1.
+--     set-raised          the exponents with zeros behind them and 1 more at a place
+--     HasDegree-raised    they lie within the limits
+use Rattle.std.proofs.Common.{◌≡◌, ◌⊎◌, ℕ, zero, suc, ◌+◌, ◌-◌, ◌<◌, ◌≤◌, max, List, [], ◌∷◌, ◌++◌, length, get_or, set, take, drop, refl, sym, ap, ap₂, ◌∙◌, subst, inl, inr, arith, add-one, add-zero, append-nil, length-append, take_all}
+use Rattle.std.specs.Prelude.{replicate}
+use Rattle.std.specs.List.{refill}
+use Rattle.std.proofs.lemmas.List.{length-replicate, take-append-le}
+use Rattle.sym_model.specs.Polynomial.{join}
+use Rattle.sym_model.specs.Partition.{size, in_front, without_last_zeros}
+use Rattle.sym_model.proofs.Exponents.{join-nil, join_zeros, length-join, size-join}
+use Rattle.sparse_polys.specs.Limits.{HasDegree}
+use Rattle.sparse_polys.specs.Raised.{raised}
+use Rattle.sparse_polys.proofs.ExponentOrder.{front_tail}
+
+-- k zeros
+abbrev pub zeros : ℕ → List ℕ
+zeros k = replicate k 0
+
+-- the exponents of the variable after the first k
+abbrev unit : ℕ → List ℕ
+unit k = zeros k ++ (1 ∷ [])
+
+length-zeros : (k : ℕ) → length (zeros k) ≡ k
+length-zeros k = length-replicate k (let z : ℕ = 0 in z)
+
+pub length-then : (x y : List ℕ) → length (x ++ y) ≡ length x + length y
+length-then x y = length-append x y
+
+set-unit : (at : ℕ) (x : List ℕ) → at < length x → set x at (get_or x at 0 + 1) ≡ join x (unit at)
+set-unit at [] h = absurd (omega arith)
+set-unit zero (a ∷ x) h = ap (λ y. (a + 1) ∷ y) (sym (join-nil x))
+set-unit (suc at) (a ∷ x) h = ap₂ ◌∷◌ (sym (add-zero a)) (set-unit at x (omega arith))
+
+length-unit : (k : ℕ) → length (unit k) ≡ k + 1
+length-unit k = omega (arith, length-then (zeros k) (1 ∷ []), length-zeros k)
+
+join-padded : (k at : ℕ) (e : List ℕ) → length (e ++ zeros k) ≤ at + 1 → join (e ++ zeros k) (unit at) ≡ join e (unit at)
+join-padded k at [] h = join_zeros k (unit at) (omega (arith, length-unit at, length-zeros k))
+join-padded zero zero (a ∷ e) h = ap (λ y. join (a ∷ y) (unit 0)) (append-nil e)
+join-padded (suc k) zero (a ∷ e) h = absurd (omega (arith, length-then e (zeros (suc k)), length-zeros (suc k)))
+join-padded k (suc at) (a ∷ e) h = ap (λ y. (a + 0) ∷ y) (join-padded k at e (omega arith))
+
+pub set-raised : (k at : ℕ) (old x : List ℕ) → x ≡ old ++ zeros k → (k ≡ 0) ⊎ (length x ≤ at + 1) → at < length x
+    → set x at (get_or x at 0 + 1) ≡ raised (at + 1) old
+set-raised k at old x e p h =
+    set-unit at x h ∙ ap (λ y. join y (unit at)) e ∙ padded p
+    ∙ ap (λ j. join old (unit j)) (let s : at ≡ (at + 1) - 1 = omega arith in s)
+  where
+    padded : (k ≡ 0) ⊎ (length x ≤ at + 1) → join (old ++ zeros k) (unit at) ≡ join old (unit at)
+    padded (inl z) = ap (λ j. join (old ++ zeros j) (unit at)) z ∙ ap (λ y. join y (unit at)) (append-nil old)
+    padded (inr l) = join-padded k at old (subst (λ y. length y ≤ at + 1) e l)
+
+in_front-some : (a b : ℕ) (x : List ℕ) → in_front a (b ∷ x) ≡ a ∷ b ∷ x
+in_front-some zero b x = refl
+in_front-some (suc a) b x = refl
+
+-- a list that is not empty
+abbrev IsSome : List ℕ → Type 0
+IsSome x = (b : ℕ) × (y : List ℕ) × (x ≡ b ∷ y)
+
+in_front-is : (a : ℕ) (x : List ℕ) → IsSome x → in_front a x ≡ a ∷ x
+in_front-is a x s = ap (in_front a) s.2 ∙ in_front-some a s.0 s.1 ∙ ap (λ z. a ∷ z) (sym s.2)
+
+some-unit : (k : ℕ) → IsSome (unit k)
+some-unit zero = (1, [], refl)
+some-unit (suc k) = (0, unit k, refl)
+
+some-join : (k : ℕ) (e : List ℕ) → IsSome (join e (unit k))
+some-join k [] = some-unit k
+some-join zero (a ∷ e) = (a + 1, join e [], refl)
+some-join (suc k) (a ∷ e) = (a + 0, join e (unit k), refl)
+
+trimmed-unit : (k : ℕ) → without_last_zeros (unit k) ≡ unit k
+trimmed-unit zero = refl
+trimmed-unit (suc k) = ap (in_front 0) (trimmed-unit k) ∙ in_front-is 0 (unit k) (some-unit k)
+
+trimmed-join : (k : ℕ) (e : List ℕ) → without_last_zeros e ≡ e → without_last_zeros (join e (unit k)) ≡ join e (unit k)
+trimmed-join k [] t = trimmed-unit k
+trimmed-join zero (a ∷ e) t =
+    ap (λ y. without_last_zeros ((a + 1) ∷ y)) (join-nil e)
+    ∙ ap (λ b. in_front b (without_last_zeros e)) (add-one a)
+    ∙ ap (λ y. suc a ∷ y) (front_tail a (without_last_zeros e) e t)
+    ∙ ap₂ ◌∷◌ (sym (add-one a)) (sym (join-nil e))
+trimmed-join (suc k) (a ∷ e) t =
+    ap (in_front (a + 0)) (trimmed-join k e (front_tail a (without_last_zeros e) e t))
+    ∙ in_front-is (a + 0) (join e (unit k)) (some-join k e)
+
+size-unit : (k : ℕ) → size (unit k) ≡ 1
+size-unit zero = refl
+size-unit (suc k) = let h = size-unit k in omega arith
+
+pub size-raised : (r : ℕ) (e : List ℕ) → size (raised r e) ≡ size e + 1
+size-raised r e = omega (arith, size-join e (unit (r - 1)), size-unit (r - 1))
+
+pub length-raised : (r : ℕ) (e : List ℕ) → 1 ≤ r → length (raised r e) ≡ max (length e) r
+length-raised r e h = let m = length-join e (unit (r - 1)) in let u = length-unit (r - 1) in omega arith
+
+pub HasDegree-raised : (r : ℕ) (e : List ℕ) (d : ℕ) → HasDegree e d → 1 ≤ r → r ≤ 255 → size e < 32385 → HasDegree (raised r e) (d + 1)
+HasDegree-raised r e d h a b c = record {
+  limits = record {
+    trimmed = trimmed-join (r - 1) e h.limits.trimmed;
+    few = let l = length-raised r e a in let f = h.limits.few in omega arith;
+    small = let s = size-raised r e in omega arith;
+  };
+  degree_is = let s = size-raised r e in let g = h.degree_is in omega arith;
+}
+
+pub entry-small : (e : List ℕ) (at : ℕ) → get_or e at 0 ≤ size e
+entry-small [] at = omega arith
+entry-small (a ∷ e) zero = omega arith
+entry-small (a ∷ e) (suc at) = let h = entry-small e at in omega arith
+
+pub size-padded : (e : List ℕ) (k : ℕ) → size (e ++ zeros k) ≡ size e
+size-padded [] zero = refl
+size-padded [] (suc k) = let h = size-padded [] k in omega arith
+size-padded (a ∷ e) k = ap (λ n. a + n) (size-padded e k)
+
+-- the same number of elements put in the place of a list's
+pub refilled : (xs ws : List ℕ) → length ws ≡ length xs → refill (length xs) xs ws ≡ ws
+refilled xs ws h = take-append-le (length xs) ws (drop (length ws) xs) (omega arith) ∙ ap (λ n. take n ws) (sym h) ∙ take_all (length ws) ws (omega arith)
+
+-- ---- a monomial is known by its product with a variable
+
+-- the number at a place lowered by 1
+abbrev lowered : ℕ → List ℕ → List ℕ
+lowered k [] = []
+lowered zero (a ∷ x) = (a - 1) ∷ x
+lowered (suc k) (a ∷ x) = a ∷ lowered k x
+
+back : (k : ℕ) (e : List ℕ) → without_last_zeros (lowered k (join e (unit k))) ≡ without_last_zeros e
+back zero [] = refl
+back zero (a ∷ e) = ap₂ (λ (n : ℕ) (x : List ℕ). in_front n (without_last_zeros x)) (let s : a + 1 - 1 ≡ a = omega arith in s) (join-nil e)
+back (suc k) [] = ap (in_front 0) (back k [])
+back (suc k) (a ∷ e) = ap₂ in_front (add-zero a) (back k e)
+
+pub raised-same : (r : ℕ) (e f : List ℕ) → without_last_zeros e ≡ e → without_last_zeros f ≡ f → raised r e ≡ raised r f → e ≡ f
+raised-same r e f t u h = sym t ∙ sym (back (r - 1) e) ∙ ap (λ x. without_last_zeros (lowered (r - 1) x)) h ∙ back (r - 1) f ∙ u

@@ -1,0 +1,166 @@
+-- What is left when one part of the partition is taken from both labels (specs/Ways).
+use Rattle.std.proofs.Common.{◌≡◌, ◌⊎◌, ℕ, zero, suc, ◌+◌, ◌-◌, ◌*◌, ◌<◌, ◌≤◌, Bool, true, false, ◌&&◌, ◌||◌, cond, eqb, leb, List, [], ◌∷◌, length, get_or, drop, drop-cons, add-one, not, sym, ◌∙◌, ap, ap₂, subst, refl, inl, inr, arith, ℤ, pos, ◌+ℤ◌}
+use Rattle.std.specs.Prelude.{Result, Ok, Err, OnOk}
+use Rattle.std.proofs.lemmas.Int.{ints}
+use Rattle.std.proofs.lemmas.Bool.{eq-eqb, le-leb, cases_lt, both_ways, and_parts, leb-true, or_right}
+use Rattle.sym_model.specs.Sum.{total}
+use Rattle.sym_model.specs.Partition.{IsPartition, size}
+use Rattle.sym_model.specs.Bases.{has}
+use Rattle.sym_model.specs.RaisedPart.{without_one, distinct}
+use Rattle.monomial_laws.specs.MonomialProduct.{arrangements, AreBelow}
+use Rattle.sparse_polys.specs.Ways.{capped, taken, is_choice_at, IsRest, HasPartAbove}
+use Rattle.sym_model.proofs.SortedParts.{IsPartition-without_one, size-without_one, without_one-zero, has_past, has-zero}
+use Rattle.monomial_laws.proofs.Arrangements.{arrangements-cons, arrangements-lacking, arrangements-comm}
+
+-- what is left of a partition when a part, or nothing, is taken out
+size-taken : (a : ℕ) (l : List ℕ) → IsPartition l → has a (0 ∷ l) ≡ true → a + size (without_one a l) ≡ size l
+size-taken zero l p h = omega (arith, ap size (without_one-zero l p.positive))
+size-taken (suc a) l p h = size-without_one (suc a) l (sym (has_past (suc a) 0 l (λ e. omega arith)) ∙ h)
+
+pub IsRest-taken : (a b left : ℕ) (l r : List ℕ) → IsRest (a + b + left) l r → has a (0 ∷ l) ≡ true → has b (0 ∷ r) ≡ true → IsRest left (without_one a l) (without_one b r)
+IsRest-taken a b left l r s h k = record {
+  first = IsPartition-without_one a l s.first;
+  second = IsPartition-without_one b r s.second;
+  sizes = omega (arith, s.sizes, size-taken a l s.first h, size-taken b r s.second k);
+}
+
+AreBelow-more : (k m : ℕ) (ν : List ℕ) → k ≤ m → AreBelow k ν → AreBelow m ν
+AreBelow-more k m [] h b = tt
+AreBelow-more k m (x ∷ ν) h b = (omega (arith, b.0), AreBelow-more k m ν h b.1)
+
+-- with a part left that no part to come reaches there is no way
+pub taken-above_left : (a b left : ℕ) (l r ν : List ℕ) → IsRest left l r → AreBelow (a + b + 1) ν → HasPartAbove (a + b) (without_one a l) → taken l r a b ν ≡ 0
+taken-above_left a b left l r ν s below (k, m, h) = by (has b (0 ∷ r))
+  where
+    by : (t : Bool) → cond t (arrangements (without_one a l) (without_one b r) ν) 0 ≡ 0
+    by true = arrangements-lacking k ν (without_one a l) (without_one b r) (IsPartition-without_one a l s.first) (IsPartition-without_one b r s.second) m (AreBelow-more (a + b + 1) k ν (omega arith) below)
+    by false = refl
+
+pub taken-above_right : (a b left : ℕ) (l r ν : List ℕ) → IsRest left l r → AreBelow (a + b + 1) ν → HasPartAbove (a + b) (without_one b r) → taken l r a b ν ≡ 0
+taken-above_right a b left l r ν s below (k, m, h) = by (has b (0 ∷ r))
+  where
+    by : (t : Bool) → cond t (arrangements (without_one a l) (without_one b r) ν) 0 ≡ 0
+    by true =
+        arrangements-comm (without_one a l) (without_one b r) ν
+        ∙ arrangements-lacking k ν (without_one b r) (without_one a l) (IsPartition-without_one b r s.second) (IsPartition-without_one a l s.first) m (AreBelow-more (a + b + 1) k ν (omega arith) below)
+    by false = refl
+
+drop_here : (xs : List ℕ) (i : ℕ) → i < length xs → drop i xs ≡ get_or xs i 0 ∷ drop (i + 1) xs
+drop_here xs i h = drop-cons xs i 0 h ∙ ap (λ j. get_or xs i 0 ∷ drop j xs) (sym (add-one i))
+
+-- ---- the sum over the parts of the left label
+
+-- the ways that the parts of a list give, each of them taken from the left label
+abbrev pub taken_over : ℕ → List ℕ → List ℕ → List ℕ → List ℕ → ℕ
+taken_over x l r ν [] = 0
+taken_over x l r ν (b ∷ bs) = cond (leb b x) (taken l r b (x - b) ν) 0 + taken_over x l r ν bs
+
+taken_over-total : (x : ℕ) (l r ν bs : List ℕ)
+    → total (λ (b : ℕ). cond (leb b x) (cond (has (x - b) (0 ∷ r)) (pos (arrangements (without_one b l) (without_one (x - b) r) ν)) (pos 0)) (pos 0)) bs ≡ pos (taken_over x l r ν bs)
+taken_over-total x l r ν [] = refl
+taken_over-total x l r ν (b ∷ bs) = by (leb b x) (has (x - b) (0 ∷ r)) (arrangements (without_one b l) (without_one (x - b) r) ν) (taken_over-total x l r ν bs)
+  where
+    by : (s t : Bool) (n : ℕ) {z : ℤ} → z ≡ pos (taken_over x l r ν bs) → cond s (cond t (pos n) (pos 0)) (pos 0) +ℤ z ≡ pos (cond s (cond t n 0) 0 + taken_over x l r ν bs)
+    by true true n {z} e = omega (arith, ints)
+    by true false n {z} e = omega (arith, ints)
+    by false t n {z} e = omega (arith, ints)
+
+-- nothing from the left label, or one of its different parts
+pub arrangements-first : (x : ℕ) (ν l r : List ℕ) → IsPartition l → IsPartition r → arrangements l r (x ∷ ν) ≡ taken l r 0 x ν + taken_over x l r ν (distinct l)
+arrangements-first x ν l r p q = as_number (arrangements-cons x ν l r p q ∙ taken_over-total x l r ν (distinct (0 ∷ l))) ∙ ap (taken_over x l r ν) zero_first ∙ first
+  where
+    as_number : {a b : ℕ} → pos a ≡ pos b → a ≡ b
+    as_number {a} {b} e = omega (arith, ints)
+
+    zero_first : distinct (0 ∷ l) ≡ 0 ∷ distinct l
+    zero_first = ap (λ b. cond b (distinct l) (0 ∷ distinct l)) (has-zero l p.positive)
+
+    first : taken_over x l r ν (0 ∷ distinct l) ≡ taken l r 0 x ν + taken_over x l r ν (distinct l)
+    first = ap₂ (λ (b : Bool) (n : ℕ). cond b (taken l r 0 n ν) 0 + taken_over x l r ν (distinct l)) (le-leb 0 x (omega arith)) (let e : x - 0 ≡ x = omega arith in e)
+
+-- ---- capped sums
+
+pub capped-add : (a b z : ℕ) → capped a ≡ capped b → capped (a + z) ≡ capped (b + z)
+capped-add a b z e = omega arith
+
+-- ---- the first part
+
+pub first-above : (part : ℕ) (parts : List ℕ) (first : ℕ) → 0 < length parts → first ≡ get_or parts 0 first → leb first part ≡ false → HasPartAbove part parts
+first-above part [] first h e t = absurd (omega arith)
+first-above part (c ∷ parts) first h e t = (first, ap (λ b. b || has first parts) (eq-eqb c first (sym e)), by (cases_lt part first))
+  where
+    by : (part < first) ⊎ (first ≤ part) → part < first
+    by (inl l) = l
+    by (inr l) = absurd (both_ways (leb first part) t (le-leb first part l))
+
+-- nothing more of what is 0
+pub nothing_more : (n k t : ℕ) → t ≡ 0 → capped n ≡ capped (n + k * t)
+nothing_more n k t e = ap (λ m. capped m) (let p = ap (λ j. k * j) e in omega arith)
+
+-- a fact that follows where a result is `Ok`
+pub on_ok : {A B : Type 0} {P Q : Type 0} (r : Result A B) → (P → Q) → OnOk r P → OnOk r Q
+on_ok (Ok a) f h = f h
+on_ok (Err e) f h = tt
+
+-- ---- the loop over the parts of the left label
+
+pub first_way : (w1 w0 k t o a : ℕ) → capped w1 ≡ capped (w0 + k * t) → a ≡ t + o → capped (w1 + k * o) ≡ capped (w0 + k * a)
+first_way w1 w0 k t o a h e = capped-add w1 (w0 + k * t) (k * o) h ∙ ap (λ n. capped n) (let p = ap (λ n. k * n) e in let q : w0 + k * t + k * o ≡ w0 + k * a = omega arith in q)
+
+pub next_way : (w2 w1 k t o rest goal : ℕ) → capped w2 ≡ capped (w1 + k * t) → o ≡ t + rest → capped (w1 + k * o) ≡ goal → capped (w2 + k * rest) ≡ goal
+next_way w2 w1 k t o rest goal h e g =
+    capped-add w2 (w1 + k * t) (k * rest) h
+    ∙ ap (λ n. capped n) (let p = ap (λ n. k * n) e in let q : w1 + k * t + k * rest ≡ w1 + k * o = omega arith in q)
+    ∙ g
+
+-- a part that is chosen, and one that is passed over
+pub taken_over-choice : (x : ℕ) (l r ν parts : List ℕ) (i : ℕ) → i < length parts → is_choice_at parts i x ≡ true
+    → taken_over x l r ν (distinct (drop i parts)) ≡ taken l r (get_or parts i 0) (x - get_or parts i 0) ν + taken_over x l r ν (distinct (drop (i + 1) parts))
+taken_over-choice x l r ν parts i h e =
+    let a = get_or parts i 0 in
+    let p = and_parts (leb a x) (not (has a (drop (i + 1) parts))) e in
+    ap (λ ps. taken_over x l r ν (distinct ps)) (drop_here parts i h)
+    ∙ ap (λ b. taken_over x l r ν (cond b (distinct (drop (i + 1) parts)) (a ∷ distinct (drop (i + 1) parts)))) (not_true (has a (drop (i + 1) parts)) p.1)
+    ∙ ap (λ b. cond b (taken l r a (x - a) ν) 0 + taken_over x l r ν (distinct (drop (i + 1) parts))) p.0
+  where
+    not_true : (b : Bool) → not b ≡ true → b ≡ false
+    not_true true u = sym u
+    not_true false u = refl
+
+pub taken_over-passed : (x : ℕ) (l r ν parts : List ℕ) (i : ℕ) → i < length parts → is_choice_at parts i x ≡ false
+    → taken_over x l r ν (distinct (drop i parts)) ≡ taken_over x l r ν (distinct (drop (i + 1) parts))
+taken_over-passed x l r ν parts i h e =
+    let a = get_or parts i 0 in
+    ap (λ ps. taken_over x l r ν (distinct ps)) (drop_here parts i h) ∙ by (leb a x) refl (has a (drop (i + 1) parts)) e
+  where
+    by : (s : Bool) → leb (get_or parts i 0) x ≡ s → (t : Bool) → (s && not t) ≡ false
+        → taken_over x l r ν (cond t (distinct (drop (i + 1) parts)) (get_or parts i 0 ∷ distinct (drop (i + 1) parts))) ≡ taken_over x l r ν (distinct (drop (i + 1) parts))
+    by s k true u = refl
+    by true k false u = absurd (cc)
+    by false k false u =
+        ap (λ b. cond b (taken l r (get_or parts i 0) (x - get_or parts i 0) ν) 0 + taken_over x l r ν (distinct (drop (i + 1) parts))) k
+        ∙ (let e : 0 + taken_over x l r ν (distinct (drop (i + 1) parts)) ≡ taken_over x l r ν (distinct (drop (i + 1) parts)) = omega arith in e)
+
+-- ---- the loop over the states
+
+pub next_state : (w2 w1 t o rest goal : ℕ) → capped w2 ≡ capped (w1 + t) → o ≡ t + rest → capped (w1 + o) ≡ goal → capped (w2 + rest) ≡ goal
+next_state w2 w1 t o rest goal h e g =
+    capped-add w2 (w1 + t) rest h ∙ ap (λ n. capped n) (let q : w1 + t + rest ≡ w1 + o = omega arith in q) ∙ g
+
+pub rest_at : (a b : ℕ) (l r : List ℕ) → a ≡ b → IsRest a l r → IsRest b l r
+rest_at a b l r e s = subst (λ k. IsRest k l r) e s
+
+pub below_at : (a b : ℕ) (ν : List ℕ) → a ≡ b → AreBelow a ν → AreBelow b ν
+below_at a b ν e s = subst (λ k. AreBelow k ν) e s
+
+-- a part that is chosen is one of the label, and at most the part that is taken
+pub choice-within : (x : ℕ) (parts : List ℕ) (i : ℕ) → is_choice_at parts i x ≡ true → get_or parts i 0 ≤ x
+choice-within x parts i e = leb-true (get_or parts i 0) x (and_parts (leb (get_or parts i 0) x) (not (has (get_or parts i 0) (drop (i + 1) parts))) e).0
+
+pub has_at : (parts : List ℕ) (i : ℕ) → i < length parts → has (get_or parts i 0) (0 ∷ parts) ≡ true
+has_at parts i h = or_right (eqb 0 (get_or parts i 0)) (has (get_or parts i 0) parts) (there parts i h)
+  where
+    there : (parts : List ℕ) (i : ℕ) → i < length parts → has (get_or parts i 0) parts ≡ true
+    there [] i h = absurd (omega arith)
+    there (c ∷ parts) zero h = ap (λ b. b || has c parts) (eq-eqb c c refl)
+    there (c ∷ parts) (suc i) h = or_right (eqb c (get_or parts i 0)) (has (get_or parts i 0) parts) (there parts i (omega arith))

@@ -1,0 +1,62 @@
+-- Products of polynomials that are given as lists of terms, with their fractions cleared (this project's own).
+use Rattle.std.specs.Prelude.{◌≡◌, ℕ, ◌+◌, ◌<◌, ◌≤◌, nat_eq, ℤ, ◌+ℤ◌, ◌*ℤ◌, List}
+use Rattle.std.specs.Int.{◌∣◌}
+use Rattle.std.specs.Cmp.Lexicographic.{pointwise}
+use Rattle.sym_model.specs.Sum.{total, Among}
+use Rattle.sym_model.specs.Polynomial.{Poly, join}
+use Rattle.sym_model.specs.DividedDifference.{x_to_in}
+use Rattle.sym_model.specs.Expansion.{Fraction, Terms, value_by}
+use Rattle.sym_model.specs.ListWeight.{absolute_sum}
+use Rattle.coeff_rings.specs.Fractions.{scaled}
+use Rattle.sparse_polys.specs.Combination.{coefficient}
+use Rattle.sparse_polys.specs.Limits.{IsWithinLimits}
+use Rattle.sparse_polys.specs.Raised.{raised}
+
+-- the polynomial of a list in n variables, times the product of its denominators
+abbrev pub value_in : Terms (List ℕ) → ℕ → Poly
+value_in terms n = value_by (λ e. x_to_in e n) terms
+
+-- each product of a monomial of the first list and one of the second stays within the limits of a monomial
+abbrev pub FitTogether : Terms (List ℕ) → Terms (List ℕ) → Type 0
+FitTogether first second =
+    (s t : List ℕ × Fraction) → Among s first → Among t second → IsWithinLimits (join s.0 t.0)
+
+-- each product with x_r stays within the limits of a monomial
+abbrev pub HasRoom : ℕ → Terms (List ℕ) → Type 0
+HasRoom r terms = (t : List ℕ × Fraction) → Among t terms → IsWithinLimits (raised r t.0)
+
+-- the coefficient of a monomial
+abbrev pub coefficient_at : Terms (List ℕ) → List ℕ → Fraction
+coefficient_at terms e = coefficient (pointwise nat_eq) terms e
+
+-- q is a multiple of the denominator of each coefficient
+abbrev pub AreCleared : ℕ → Terms (List ℕ) → Type 0
+AreCleared q terms = (e : List ℕ) → (coefficient_at terms e).1 ∣ q
+
+-- q is a common denominator of the terms
+pub record IsCommonDenominator (q : ℕ) (terms : Terms (List ℕ)) : Type 0 where
+  pub positive : 0 < q
+  pub multiple : (t : List ℕ × Fraction) → Among t terms → t.1.1 ∣ q
+
+-- d and e are denominators of a and of b
+pub record AreDenominators (d e : ℕ) (a b : Fraction) : Type 0 where
+  pub left_positive : 0 < d
+  pub right_positive : 0 < e
+  pub left : a.1 ∣ d
+  pub right : b.1 ∣ e
+
+-- the sum over the terms of the coefficient times q times the value of a test function at the monomial
+abbrev pub cleared_sum : ℕ → (List ℕ → ℤ) → Terms (List ℕ) → ℤ
+cleared_sum q φ terms = total (λ (t : List ℕ × Fraction). scaled q t.1 *ℤ φ t.0) terms
+
+-- the new list has, times q, the sums of the old one and those that are added, and absolute values of at most so much more
+pub record Adds (q : ℕ) (old : Terms (List ℕ)) (added : (List ℕ → ℤ) → ℤ) (most : ℕ) (new : Terms (List ℕ)) : Type 0 where
+  pub cleared : AreCleared q new
+  pub sums : (φ : List ℕ → ℤ) → cleared_sum q φ new ≡ cleared_sum q φ old +ℤ added φ
+  pub grows : absolute_sum q new ≤ absolute_sum q old + most
+
+-- each monomial of the list is x_r times one of the other list
+abbrev pub AreRaised : ℕ → Terms (List ℕ) → Terms (List ℕ) → Type 0
+AreRaised r before after =
+    (t : List ℕ × Fraction) → Among t after
+    → (u : List ℕ × Fraction) × Among u before × (t.0 ≡ raised r u.0)

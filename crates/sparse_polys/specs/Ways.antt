@@ -1,0 +1,40 @@
+-- What is left of two labels while a partition is put together part by part, with the number of ways that led there
+-- (this project's own).
+use Rattle.std.specs.Prelude.{◌≡◌, ℕ, Bool, ◌&&◌, not, nat_le, slice_index, drop, ◌+◌, ◌-◌, ◌*◌, ◌^◌, ◌<◌, true, cond, min, List, [], ◌∷◌, All}
+use Rattle.sym_model.specs.Partition.{IsPartition, size}
+use Rattle.sym_model.specs.Bases.{has}
+use Rattle.sym_model.specs.RaisedPart.{without_one}
+use Rattle.monomial_laws.specs.MonomialProduct.{arrangements}
+use Rattle.sparse_polys.specs.declared.states.State.{State}
+
+-- a number that is counted up to 2^128 - 1
+abbrev pub capped : ℕ → ℕ
+capped n = min n (2 ^ 128 - 1)
+
+-- in how many ways the states go on to the parts ν
+abbrev pub ways : List State → List ℕ → ℕ
+ways [] ν = 0
+ways (s ∷ states) ν = s.count * arrangements s.left.items s.right.items ν + ways states ν
+
+-- both lists are partitions, together of the size `left`
+pub record IsRest (left : ℕ) (one other : List ℕ) : Type 0 where
+  pub first : IsPartition one
+  pub second : IsPartition other
+  pub sizes : size one + size other ≡ left
+
+-- each state is left of the same size
+abbrev pub AreStates : ℕ → List State → Type 0
+AreStates left states = All (λ (s : State). IsRest left s.left.items s.right.items) states
+
+-- in how many ways ν is made of what is left when a is taken from one label and b from the other, b being one of its
+-- parts or 0
+abbrev pub taken : List ℕ → List ℕ → ℕ → ℕ → List ℕ → ℕ
+taken one other a b ν = cond (has b (0 ∷ other)) (arrangements (without_one a one) (without_one b other) ν) 0
+
+-- some part is greater than the number
+abbrev pub HasPartAbove : ℕ → List ℕ → Type 0
+HasPartAbove part parts = (k : ℕ) × (has k parts ≡ true) × (part < k)
+
+-- whether the part at place i is at most the given one and does not stand behind it again
+abbrev pub is_choice_at : List ℕ → ℕ → ℕ → Bool
+is_choice_at parts i part = nat_le (slice_index parts i) part && not (has (slice_index parts i) (drop (i + 1) parts))

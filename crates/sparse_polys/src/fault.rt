@@ -1,0 +1,34 @@
+//! Why a list of numbers is not taken as the exponents of a monomial.
+ghost use Rattle.std.specs.Prelude.{◌≡◌};
+ghost use Rattle.sparse_polys.specs.declared.fault.MonoFault.TheVariants.{NoMemory as no_memory};
+
+use calc_base::NoMemory;
+use std::alloc::AllocError;
+use thiserror::Error;
+
+/// Why a list of numbers is not taken as the exponents of a monomial.
+#[derive(Clone, Copy, Debug, PartialEq, Eq, Hash, Error)]
+pub enum MonoFault {
+    #[error("more than 255 exponents")]
+    TooMany,
+    #[error("a degree of more than 32385")]
+    TooBig,
+    #[error("out of memory")]
+    NoMemory,
+}
+
+impl From<AllocError> for MonoFault {
+    ghost from_gives = { λ _ e. e ≡ no_memory };
+
+    fn from(_: AllocError) -> Self {
+        MonoFault::NoMemory
+    }
+}
+
+impl From<NoMemory> for MonoFault {
+    ghost from_gives = { λ _ e. e ≡ no_memory };
+
+    fn from(_: NoMemory) -> Self {
+        MonoFault::NoMemory
+    }
+}

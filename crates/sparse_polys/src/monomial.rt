@@ -1,0 +1,261 @@
+//! The type of a monomial.
+ghost use Rattle.std.specs.Prelude.{◌≡◌, ℕ, ◌+◌, ◌^◌, ◌<◌, ◌≤◌, ◌↔◌, [], length, slice_index, slice_index_or, slice_set, nat_eq, IsOk, IfOk, OnOk, IsErrOf};
+ghost use Rattle.std.specs.Cmp.{partial_equiv_from_equiv};
+ghost use Rattle.std.specs.Cmp.Lexicographic.{pointwise, nat_list_eq_equiv};
+ghost use Rattle.std.specs.Cmp.Rules.{hashing};
+ghost use Rattle.std.specs.Hash as fed;
+ghost use Rattle.std.proofs.Common.{rules};
+ghost use Rattle.sym_model.specs.Partition.{size, without_last_zeros};
+ghost use Rattle.sym_model.specs.Polynomial.{join};
+ghost use Rattle.sym_model.specs.PrintedOrder.{printed_order};
+ghost use Rattle.sparse_polys.specs.Limits.{HasDegree, IsWithinLimits};
+ghost use Rattle.sparse_polys.specs.Raised.{raised};
+
+use crate::MonoFault;
+use calc_base::NoMemory;
+use smallvec::SmallVec;
+use std::alloc::{AllocError, Global};
+use std::cmp::Ordering;
+use std::hash::{Hash, Hasher};
+use std::marker::Model;
+
+/// The most exponents, and the greatest degree, of a monomial.
+const MAX_EXPONENTS: usize = 255;
+
+const MAX_DEGREE: u32 = 32385;
+
+/// The exponents of a monomial. Up to 16 are kept with no memory taken.
+type Exponents = SmallVec<u16, 16>;
+
+/// A monomial: its exponents without the zeros at their end. It has at most 255 exponents and a degree of at most
+/// 32,385. Up to 16 exponents are kept with no memory taken.
+#[derive(Debug, Drop)]
+pub struct Monomial {
+    exponents: Exponents,
+    // The sum of the exponents.
+    degree: u16,
+}
+
+impl Model for Monomial {
+    ghost use Rattle.std.specs.Prelude.{ℕ, List};
+    ghost use Rattle.sparse_polys.specs.Limits.{HasDegree};
+
+    ghost Value = { List ℕ };
+
+    ghost view = { λ m. m.exponents.items };
+
+    ghost invariant = { λ m. HasDegree m.exponents.items m.degree };
+}
+
+impl Monomial {
+    /// The monomial with these exponents, where zeros at the end are dropped.
+    ///
+    /// It is refused as `TooMany` where more than 255 exponents are left, else as `TooBig` where their sum is past
+    /// 32,385. At most 16 exponents take no memory.
+    pub fn from_exponents(alloc: Global, exponents: &[u16]) -> Result<Monomial, MonoFault>
+        ensures ok { IfOk result (λ m. m ≡ without_last_zeros exponents.now) }
+        ensures limits { OnOk result (IsWithinLimits (without_last_zeros exponents.now)) }
+        ensures too_many { IsErrOf result MonoFault.TooMany
+            ↔ (255 < length (without_last_zeros exponents.now)) }
+        ensures too_big { IsErrOf result MonoFault.TooBig
+            ↔ ((length (without_last_zeros exponents.now) ≤ 255)
+            × (32385 < size (without_last_zeros exponents.now))) }
+        ensures inline { length (without_last_zeros exponents.now) ≤ 16 → ¬ IsErrOf result MonoFault.NoMemory }
+    {
+        let exponents = numbers_before_zeros(exponents);
+        if exponents.len() > MAX_EXPONENTS {
+            return Err(MonoFault::TooMany);
+        }
+        let degree = sum_of(exponents);
+        if degree > MAX_DEGREE {
+            return Err(MonoFault::TooBig);
+        }
+        Ok(with_degree(alloc, exponents, degree as u16)?)
+    }
+
+    /// The monomial with these exponents, of which the caller knows that they lie within the limits but for zeros at
+    /// their end, which are dropped. At most 16 exponents take no memory.
+    pub fn from_valid_exponents(alloc: Global, exponents: &[u16]) -> Result<Monomial, NoMemory>
+        requires { IsWithinLimits (without_last_zeros exponents.now) }
+        ensures ok { IfOk result (λ m. m ≡ without_last_zeros exponents.now) }
+        ensures inline { length (without_last_zeros exponents.now) ≤ 16 → IsOk result }
+    {
+        let exponents = numbers_before_zeros(exponents);
+        with_degree(alloc, exponents, sum_of(exponents) as u16)
+    }
+
+    /// The monomial 1. It takes no memory.
+    pub fn one(alloc: Global) -> Monomial
+        ensures { result ≡ [] }
+    {
+        Monomial {
+            exponents: SmallVec::new(alloc),
+            degree: 0,
+        }
+    }
+
+    /// The product with the variable x_r, for r from 1 to 255 and a degree below 32,385. At most 16 exponents take no
+    /// memory.
+    pub fn times_var(&self, r: u16) -> Result<Monomial, NoMemory>
+        requires first { 1 ≤ r }
+        requires last { r ≤ 255 }
+        requires room { size self.now < 32385 }
+        ensures { IfOk result (λ m. m ≡ raised r self.now) }
+    {
+        let mut exponents = SmallVec::from_slice(*self.exponents.allocator(), self.exponents())?;
+        raise(&mut exponents, usize::from(r) - 1)?;
+        Ok(Monomial {
+            exponents,
+            degree: self.degree + 1,
+        })
+    }
+
+    /// The product with another monomial, where it stays within the limits. At most 16 exponents take no memory.
+    pub fn times(&self, other: &Monomial) -> Result<Monomial, NoMemory>
+        requires { IsWithinLimits (join self.now other.now) }
+        ensures { IfOk result (λ m. m ≡ join self.now other.now) }
+    {
+        let alloc = *self.exponents.allocator();
+        Ok(Monomial {
+            exponents: joined(alloc, self.exponents(), other.exponents())?,
+            degree: self.degree + other.degree,
+        })
+    }
+
+    /// The exponents.
+    pub fn exponents(&self) -> &[u16]
+        ensures value { result.now ≡ self.now }
+        ensures limits { IsWithinLimits self.now }
+    {
+        self.exponents.as_slice()
+    }
+
+    /// The degree: the sum of the exponents.
+    pub fn degree(&self) -> u16
+        ensures value { result ≡ size self.now }
+        ensures limits { IsWithinLimits self.now }
+    {
+        self.degree
+    }
+
+    /// How this monomial and `other` stand in print: the greater degree first, then falling lexicographic order of the
+    /// exponents. `Equal` only for equal monomials.
+    pub fn cmp_printed(&self, other: &Monomial) -> Ordering
+        ensures value { result ≡ printed_order self.now other.now }
+        ensures equal { result ≡ Ordering.Equal → self.now ≡ other.now }
+        ensures limits { IsWithinLimits self.now }
+    {
+        other
+            .degree()
+            .cmp(&self.degree())
+            .then(other.exponents().cmp(&self.exponents()))
+    }
+
+    /// An equal monomial. At most 16 exponents take no memory.
+    pub fn copy(&self) -> Result<Monomial, NoMemory>
+        ensures ok { IfOk result (λ copy. copy ≡ self.now) }
+        ensures inline { length self.now ≤ 16 → IsOk result }
+    {
+        with_degree(*self.exponents.allocator(), self.exponents(), self.degree)
+    }
+}
+
+impl PartialEq for Monomial {
+    ghost eq = { pointwise nat_eq };
+
+    ghost laws = { partial_equiv_from_equiv nat_list_eq_equiv };
+
+    fn eq(&self, other: &Monomial) -> bool {
+        self.exponents() == other.exponents()
+    }
+}
+
+impl Eq for Monomial {
+    ghost laws = { nat_list_eq_equiv };
+}
+
+impl Hash for Monomial {
+    ghost hash_input = { fed.slice fed.u16 };
+
+    ghost respects_eq = { Prim.search (hashing, rules) };
+
+    fn hash<H: Hasher>(&self, state: &mut H) {
+        self.exponents().hash(state);
+    }
+}
+
+/// The monomial with these exponents, whose sum is known.
+fn with_degree(alloc: Global, exponents: &[u16], degree: u16) -> Result<Monomial, NoMemory>
+    requires { HasDegree exponents.now degree }
+    ensures ok { IfOk result (λ m. m ≡ exponents.now) }
+    ensures inline { length exponents.now ≤ 16 → IsOk result }
+{
+    Ok(Monomial {
+        exponents: SmallVec::from_slice(alloc, exponents)?,
+        degree,
+    })
+}
+
+/// The sums of the numbers at each place, where a missing number is 0.
+fn joined(alloc: Global, first: &[u16], second: &[u16]) -> Result<Exponents, AllocError>
+    requires { size (join first.now second.now) < 2 ^ 16 }
+    ensures { IfOk result (λ sums. sums.items ≡ join first.now second.now) }
+{
+    let mut sums = SmallVec::new(alloc);
+    for at in 0..first.len().max(second.len()) {
+        sums.push(number_at(first, at) + number_at(second, at))?;
+    }
+    Ok(sums)
+}
+
+/// The number at an index, or 0 past the end.
+fn number_at(numbers: &[u16], at: usize) -> u16
+    ensures { result ≡ slice_index_or numbers.now at 0 }
+{
+    numbers.get(at).copied().unwrap_or(0)
+}
+
+/// Adds 1 to the exponent at a place, counted from 0.
+fn raise(exponents: &mut Exponents, at: usize) -> Result<(), AllocError>
+    requires place { at < 255 }
+    requires small { size exponents.old.items < 32385 }
+    ensures { OnOk result (exponents.new.items ≡ raised (at + 1) exponents.old.items) }
+{
+    while exponents.len() <= at {
+        exponents.push(0)?;
+    }
+    add_one(exponents.as_mut_slice(), at);
+    Ok(())
+}
+
+/// Adds 1 to the number at an index.
+fn add_one(numbers: &mut [u16], at: usize)
+    requires inside { at < length numbers.old }
+    requires small { slice_index numbers.old at < 65535 }
+    ensures { numbers.new ≡ slice_set numbers.old at (slice_index numbers.old at + 1) }
+{
+    numbers[at] += 1;
+}
+
+/// The numbers without the zeros at their end.
+fn numbers_before_zeros(numbers: &[u16]) -> &[u16]
+    ensures { result.now ≡ without_last_zeros numbers.now }
+{
+    let mut len = numbers.len();
+    while len > 0 && numbers[len - 1] == 0 {
+        len -= 1;
+    }
+    &numbers[..len]
+}
+
+/// The sum of the numbers.
+fn sum_of(numbers: &[u16]) -> u32
+    requires { length numbers.now ≤ 255 }
+    ensures { result ≡ size numbers.now }
+{
+    let mut sum: u32 = 0;
+    for number in numbers {
+        sum += u32::from(*number);
+    }
+    sum
+}

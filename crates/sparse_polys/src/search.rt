@@ -1,0 +1,117 @@
+//! The partitions of the product of two labels, by their parts from the greatest down.
+ghost use Rattle.std.specs.Prelude.{◌≡◌, ℕ, ◌+◌, ◌^◌, ◌<◌, [], List, All, IfOk, OnOk, vec_len};
+ghost use Rattle.sym_model.specs.Partition.{IsPartition, size};
+ghost use Rattle.monomial_laws.specs.MonomialProduct.{arrangements};
+ghost use Rattle.sparse_polys.specs.Ways.{capped, ways, AreStates};
+ghost use Rattle.sparse_polys.specs.Search.{count_at, found, AreCounted, IsChosen, Counts, HaveCounts};
+
+use crate::parts::size_of;
+use crate::states::State;
+use crate::steps::step;
+use std::alloc::{AllocError, Global};
+
+/// A partition with a number of ways, which stands at 2^128 - 1 where there are more.
+#[derive(Drop)]
+pub struct Counted {
+    /// The parts of the partition, falling.
+    pub parts: Vec<u16>,
+    /// The number of ways.
+    pub count: u128,
+}
+
+/// A copy of the parts.
+fn copy_of(alloc: Global, parts: &[u16]) -> Result<Vec<u16>, AllocError>
+    ensures { IfOk result (λ copy. copy.items ≡ parts.now) }
+{
+    let mut copy = Vec::new(alloc);
+    copy.extend_from_slice(parts)?;
+    Ok(copy)
+}
+
+/// The number of ways in which nothing is left.
+fn ways_to_end(states: &[State]) -> u128
+    requires { AreStates 0 states.now }
+    ensures { result ≡ capped (ways states.now []) }
+{
+    let mut total: u128 = 0;
+    for state in states {
+        total = total.saturating_add(state.count);
+    }
+    total
+}
+
+/// Puts behind `out` each partition that has the chosen parts first and goes on from the states with parts up to
+/// `largest`, `left` being the size that is still to come.
+fn extend(
+    alloc: Global,
+    states: &[State],
+    chosen: &[u16],
+    largest: u16,
+    left: u16,
+    out: &mut Vec<Counted>,
+) -> Result<(), AllocError>
+    requires states { AreStates left states.now }
+    ensures found { OnOk result ((ν : List ℕ) → count_at out.new.items ν
+        ≡ count_at out.old.items ν + found chosen.now largest states.now ν) }
+    ensures counted { OnOk result ((total : ℕ) → size chosen.now + left ≡ total → IsChosen largest chosen.now
+        → AreCounted total out.old.items → AreCounted total out.new.items) }
+    ensures counts { OnOk result ((f : List ℕ → ℕ) → Counts f chosen.now largest states.now
+        → HaveCounts f out.old.items → HaveCounts f out.new.items) }
+{
+    if states.is_empty() {
+        return Ok(());
+    }
+    if left == 0 {
+        let parts = copy_of(alloc, chosen)?;
+        let count = ways_to_end(states);
+        out.push(Counted { parts, count })?;
+        return Ok(());
+    }
+    for i in 0..largest.min(left) {
+        let next = step(alloc, states, i + 1)?;
+        let mut more = copy_of(alloc, chosen)?;
+        more.push(i + 1)?;
+        extend(
+            alloc,
+            next.as_slice(),
+            more.as_slice(),
+            i + 1,
+            left - (i + 1),
+            out,
+        )?;
+    }
+    Ok(())
+}
+
+/// The partitions in the product of two monomial symmetric polynomials, each with the number of ways
+/// in which it is an arrangement of the one label plus an arrangement of the other. A partition that
+/// is not there has no way.
+pub fn label_product(alloc: Global, left: &[u16], right: &[u16]) -> Result<Vec<Counted>, AllocError>
+    requires left { IsPartition left.now }
+    requires right { IsPartition right.now }
+    requires sizes { size left.now + size right.now < 2 ^ 16 }
+    ensures counts { IfOk result (λ terms. (ν : List ℕ) → IsPartition ν
+        → count_at terms.items ν ≡ capped (arrangements left.now right.now ν)) }
+    ensures labels { IfOk result (λ terms. AreCounted (size left.now + size right.now) terms.items) }
+    ensures each { IfOk result (λ terms. HaveCounts (λ ν. capped (arrangements left.now right.now ν)) terms.items) }
+{
+    let total = size_of(left) + size_of(right);
+    let start = State {
+        left: copy_of(alloc, left)?,
+        right: copy_of(alloc, right)?,
+        count: 1,
+    };
+    let mut states = Vec::new(alloc);
+    states.push(start)?;
+    let chosen = Vec::new(alloc);
+    let mut out = Vec::new(alloc);
+    extend(
+        alloc,
+        states.as_slice(),
+        chosen.as_slice(),
+        total,
+        total,
+        &mut out,
+    )?;
+    Ok(out)
+}

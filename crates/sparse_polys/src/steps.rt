@@ -1,0 +1,104 @@
+//! One part of the partition taken from the labels in all ways.
+ghost use Rattle.std.specs.Prelude.{◌≡◌, ℕ, ◌+◌, ◌*◌, ◌^◌, ◌<◌, ◌≤◌, ◌∷◌, [], true, false, List, length, IfOk, OnOk};
+ghost use Rattle.sym_model.specs.Bases.{has};
+ghost use Rattle.monomial_laws.specs.MonomialProduct.{arrangements, AreBelow};
+ghost use Rattle.sparse_polys.specs.Ways.{capped, ways, taken, is_choice_at, IsRest, AreStates, HasPartAbove};
+
+use crate::parts::{has_part, without_part};
+use crate::states::{State, add_state};
+use std::alloc::{AllocError, Global};
+
+/// Whether no part is greater than `part`.
+fn is_within(parts: &[u16], part: u16) -> bool
+    ensures { result ≡ false → HasPartAbove part parts.now }
+{
+    match parts.first() {
+        Some(first) => *first <= part,
+        None => true,
+    }
+}
+
+/// Whether the number is a part, or 0.
+fn can_give(parts: &[u16], part: u16) -> bool
+    ensures { result ≡ has part (0 ∷ parts.now) }
+{
+    part == 0 || has_part(parts, part)
+}
+
+/// Takes a from the left label and b from the right one, where b is one of its parts or 0, and leaves out what no parts up
+/// to a + b can use up.
+fn take_both(
+    alloc: Global,
+    state: &State,
+    a: u16,
+    b: u16,
+    next: &mut Vec<State>,
+) -> Result<(), AllocError>
+    requires sum { a + b < 2 ^ 16 }
+    ensures ways { OnOk result ((ν : List ℕ) (size : ℕ) → AreBelow (a + b + 1) ν
+        → IsRest size state.now.left.items state.now.right.items
+        → capped (ways next.new.items ν)
+        ≡ capped (ways next.old.items ν + state.now.count * taken state.now.left.items state.now.right.items a b ν)) }
+    ensures states { OnOk result ((size : ℕ) → IsRest (a + b + size) state.now.left.items state.now.right.items
+        → has a (0 ∷ state.now.left.items) ≡ true
+        → AreStates size next.old.items → AreStates size next.new.items) }
+{
+    if !can_give(state.right.as_slice(), b) {
+        return Ok(());
+    }
+    let left = without_part(alloc, state.left.as_slice(), a)?;
+    if !is_within(left.as_slice(), a + b) {
+        return Ok(());
+    }
+    let right = without_part(alloc, state.right.as_slice(), b)?;
+    if !is_within(right.as_slice(), a + b) {
+        return Ok(());
+    }
+    add_state(next, left, right, state.count)
+}
+
+/// Whether the part at a place can be taken from the left label, and does not stand behind it again.
+fn is_choice(parts: &[u16], i: usize, part: u16) -> bool
+    requires { i < length parts.now }
+    ensures { result ≡ is_choice_at parts.now i part }
+{
+    let a = parts[i];
+    a <= part && !has_part(&parts[i + 1..], a)
+}
+
+/// Takes the part from one state in all ways.
+fn take_part(
+    alloc: Global,
+    state: &State,
+    part: u16,
+    next: &mut Vec<State>,
+) -> Result<(), AllocError>
+    ensures ways { OnOk result ((ν : List ℕ) (size : ℕ) → AreBelow (part + 1) ν
+        → IsRest size state.now.left.items state.now.right.items
+        → capped (ways next.new.items ν) ≡ capped (ways next.old.items ν
+        + state.now.count * arrangements state.now.left.items state.now.right.items (part ∷ ν))) }
+    ensures states { OnOk result ((size : ℕ) → IsRest (part + size) state.now.left.items state.now.right.items
+        → AreStates size next.old.items → AreStates size next.new.items) }
+{
+    take_both(alloc, state, 0, part, next)?;
+    let parts = state.left.as_slice();
+    for i in 0..parts.len() {
+        if is_choice(parts, i, part) {
+            take_both(alloc, state, parts[i], part - parts[i], next)?;
+        }
+    }
+    Ok(())
+}
+
+/// Takes the part from all states in all ways.
+pub(crate) fn step(alloc: Global, states: &[State], part: u16) -> Result<Vec<State>, AllocError>
+    ensures ways { IfOk result (λ next. (ν : List ℕ) (size : ℕ) → AreBelow (part + 1) ν → AreStates size states.now
+        → capped (ways next.items ν) ≡ capped (ways states.now (part ∷ ν))) }
+    ensures states { IfOk result (λ next. (size : ℕ) → AreStates (part + size) states.now → AreStates size next.items) }
+{
+    let mut next = Vec::new(alloc);
+    for state in states {
+        take_part(alloc, state, part, &mut next)?;
+    }
+    Ok(next)
+}

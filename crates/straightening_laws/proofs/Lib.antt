@@ -1,3 +1,0 @@
-pub mod SortedAlternants
-pub mod StraightenedMonomials
-pub mod EnoughPlaces

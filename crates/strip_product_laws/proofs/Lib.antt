@@ -1,9 +1,0 @@
-pub mod ExponentLists
-pub mod StripShapes
-pub mod StaircaseProducts
-pub mod Overlaps
-pub mod Pieri
-pub mod RaisedEntries
-pub mod RimHookSums
-pub mod StripCounts
-pub mod ListProducts

@@ -1,5 +1,0 @@
-use Rattle.strip_product_laws.proofs.RimHookSums.{rim_hooks}
-use Rattle.strip_product_laws.proofs.murnaghan_nakayama_law.Goals as goal
-
-pub returns : goal.returns
-returns c = record { rim_hooks = rim_hooks }

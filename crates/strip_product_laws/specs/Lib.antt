@@ -1,2 +1,0 @@
-pub mod StripLists
-pub mod StripTerms

@@ -1,2 +1,0 @@
-pub mod TabStanding
-pub mod TabJudging

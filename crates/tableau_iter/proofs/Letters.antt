@@ -1,0 +1,83 @@
+-- The letters of a word, counted one after another.
+use Rattle.std.proofs.Common.{◌≡◌, ℕ, zero, suc, ◌+◌, ◌-◌, ◌<◌, ◌≤◌, ◌==◌, nat_le, nat_lt, Bool, true, false, ◌&&◌, ◌||◌, cond, List, [], ◌∷◌, map, length, take, set, get_or, replicate, refl, sym, ap, ◌∙◌, arith}
+use Rattle.std.proofs.lemmas.Bool.{and_parts, leb-true, true≢false}
+use Rattle.std.proofs.lemmas.List.{length-take, take_more}
+use Rattle.sym_model.specs.Partition.{after}
+use Rattle.sym_model.specs.Schur.{content, times_in}
+use Rattle.tableau_iter.specs.Fits.{all_fit}
+use Rattle.tableau_iter.proofs.Boards.{sums-put}
+use Rattle.tableau_iter.proofs.FittingWords.{all_fit-at}
+use Rattle.tableau_iter.proofs.FrontContents.{length-sums, sum-at}
+use Rattle.tableau_iter.proofs.Walking.{all_fit-one}
+use Rattle.tableau_iter.specs.LatticeWords.{is_allowed, may_follow, is_lattice_word}
+
+-- no letter yet
+zeros : (a k : ℕ) → map (λ j. times_in j []) (after a k) ≡ replicate k 0
+zeros a zero = refl
+zeros a (suc k) = ap (λ xs. 0 ∷ xs) (zeros (a + 1) k)
+
+pub content_nothing : (k : ℕ) → replicate k 0 ≡ content k []
+content_nothing k = sym (zeros 0 k)
+
+-- the counts say whether a letter may follow
+counts_say : (k : ℕ) (counts now v : List ℕ) (a : ℕ) → now ≡ counts → counts ≡ content k v → is_allowed (length now) now a ≡ may_follow k v a
+counts_say k counts now v a n e =
+    ap (λ xs. is_allowed (length xs) xs a) (n ∙ e) ∙ ap (λ m. is_allowed m (content k v) a) (length-sums [] v k (omega arith))
+
+never : (b : Bool) → (b ≡ true → ⊥) → false ≡ b
+never true f = absurd (f refl)
+never false f = refl
+
+pub refused : (k : ℕ) (w counts now : List ℕ) (p : ℕ) → p < length w → now ≡ counts → counts ≡ content k (take p w)
+    → is_allowed (length now) now (get_or w p 0) ≡ false → false ≡ is_lattice_word k w
+refused k w counts now p h n e f =
+    never (is_lattice_word k w)
+    (λ t. true≢false (sym (all_fit-at (may_follow k) [] w p t h) ∙ sym (counts_say k counts now (take p w) (get_or w p 0) n e) ∙ f))
+
+-- how often a letter stands in a word
+times_in-most : (j : ℕ) (v : List ℕ) → times_in j v ≤ length v
+times_in-most j [] = omega arith
+times_in-most j (a ∷ v) = by (a == j) (times_in-most j v)
+  where
+    by : (b : Bool) → times_in j v ≤ length v → cond {A = ℕ} b 1 0 + times_in j v ≤ suc (length v)
+    by true h = omega (arith, h)
+    by false h = omega (arith, h)
+
+-- a letter that may follow
+pub record IsNext (k : ℕ) (w counts : List ℕ) (p : ℕ) : Type 0 where
+  pub low : 1 ≤ get_or w p 0
+  pub high : get_or w p 0 ≤ k
+  pub place : get_or w p 0 - 1 < length counts
+  pub few : get_or counts (get_or w p 0 - 1) 0 ≤ length w
+  pub counted : set counts (get_or w p 0 - 1) (get_or counts (get_or w p 0 - 1) 0 + 1) ≡ content k (take (p + 1) w)
+  pub allowed : all_fit (may_follow k) [] (take (p + 1) w) ≡ true
+
+pub next_letter : (k : ℕ) (w counts now : List ℕ) (p : ℕ) → p < length w → now ≡ counts → counts ≡ content k (take p w)
+    → all_fit (may_follow k) [] (take p w) ≡ true → is_allowed (length now) now (get_or w p 0) ≡ true → IsNext k w counts p
+next_letter k w counts now p h n e t f =
+    let a = get_or w p 0 in
+    let v = take p w in
+    let follows : may_follow k (take p w) (get_or w p 0) ≡ true = sym (counts_say k counts now (take p w) (get_or w p 0) n e) ∙ f in
+    let both =
+    and_parts (nat_le 1 (get_or w p 0) && nat_le (get_or w p 0) k)
+    ((get_or w p 0 == 1) || nat_lt (get_or (content k (take p w)) (get_or w p 0 - 1) 0) (get_or (content k (take p w)) (get_or w p 0 - 2) 0)) follows in
+    let within = and_parts (nat_le 1 (get_or w p 0)) (nat_le (get_or w p 0) k) both.0 in
+    let low = leb-true 1 (get_or w p 0) within.0 in
+    let high = leb-true (get_or w p 0) k within.1 in
+    let more = take_more w p 0 h in
+    let long = length-take p w in
+    record {
+      low = low;
+      high = high;
+      place = omega (arith, ap length e, length-sums [] (take p w) k (omega arith), low, high);
+      few =
+          omega (
+            arith,
+            ap (λ xs. get_or xs (get_or w p 0 - 1) 0) e,
+            sum-at [] (take p w) k (get_or w p 0 - 1) (omega arith) (omega (arith, low, high)),
+            times_in-most (get_or w p 0 - 1 + 1) (take p w),
+            long,
+          );
+      counted = sums-put [] counts (take p w) k (get_or w p 0) (omega arith) low high e ∙ ap (content k) (sym more);
+      allowed = ap (all_fit (may_follow k) []) more ∙ all_fit-one (may_follow k) (take p w) (get_or w p 0) t follows;
+    }

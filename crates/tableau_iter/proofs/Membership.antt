@@ -1,0 +1,129 @@
+-- Which fillings are in the list of the lattice tableaux.
+use Rattle.std.proofs.Common.{◌≡◌, ℕ, suc, ◌<◌, ◌≤◌, Bool, true, false, ◌&&◌, cond, nat_le, List, [], ◌∷◌, map, length, take, get_or, ◌∙◌, ap, ap₂, sym, refl, arith}
+use Rattle.std.proofs.lemmas.Bool.{and_parts, le-leb, leb-true, true≢false}
+use Rattle.sym_model.specs.Sum.{Among, select}
+use Rattle.sym_model.specs.Partition.{Falls, after, cells, columns}
+use Rattle.sym_model.specs.Polynomial.{join}
+use Rattle.sym_model.specs.Schur.{content, contains, fillings_of, row_lengths, semistandard, words}
+use Rattle.sym_model.specs.GoodTableau.{column_reading, every, good_tableaux, is_among, is_good, lattice_readings}
+use Rattle.sym_model.specs.TableauList.{filling_of, reading_cells}
+use Rattle.sym_model.proofs.Exponents.{tests_agree}
+use Rattle.sym_model.proofs.Sums.{Among-select, Among_from_select}
+use Rattle.skew_shapes.specs.CellFillings.{filled_with, is_tableau}
+use Rattle.skew_shapes.specs.Rows.{cells_right_of}
+use Rattle.tableau_iter.specs.Fits.{allows}
+use Rattle.tableau_iter.specs.declared.rule.Rule.TheVariants.{Falling}
+use Rattle.tableau_iter.proofs.FittingWords.{all_fit-at, all_fit-from}
+use Rattle.tableau_iter.proofs.FrontContents.{falls_at-from, good-allows}
+use Rattle.tableau_iter.proofs.GoodWords.{AreWithin, good-listed, is_among-from, is_among-tells, word_from, word_tells}
+use Rattle.tableau_iter.proofs.Orders.{length-reading}
+use Rattle.tableau_iter.proofs.Sums.{AreWithinLength, ends-within, falls_at, is_good-ends}
+use Rattle.tableau_iter.proofs.Tableaux.{within-at}
+use Rattle.tableau_iter.specs.LatticeWords.{is_lattice_word, may_follow}
+
+-- a word is in the list where it is a word over the letters and the reading of a good tableau
+pub listed_tells : (outer inner w : List ℕ) → is_among w (lattice_readings outer inner) ≡ true
+    → Among w (words (length outer) (length (cells outer inner))) × (is_among w (map (column_reading outer inner) (good_tableaux (length outer) [] outer inner)) ≡ true)
+listed_tells outer inner w h =
+    Among_from_select (λ v. is_among v (map (column_reading outer inner) (good_tableaux (length outer) [] outer inner))) w
+    (words (length outer) (length (cells outer inner))) (is_among-tells w (lattice_readings outer inner) h)
+
+listed_from : (outer inner w : List ℕ) → Among w (words (length outer) (length (cells outer inner)))
+    → is_among w (map (column_reading outer inner) (good_tableaux (length outer) [] outer inner)) ≡ true → is_among w (lattice_readings outer inner) ≡ true
+listed_from outer inner w m h =
+    is_among-from w (lattice_readings outer inner)
+    (Among-select (λ v. is_among v (map (column_reading outer inner) (good_tableaux (length outer) [] outer inner))) w
+    (words (length outer) (length (cells outer inner))) m h)
+
+never : (b : Bool) → (b ≡ true → ⊥) → b ≡ false
+never true f = absurd (f refl)
+never false f = refl
+
+-- where the inner shape is not contained in the outer one there is none
+pub none_outside : (outer inner w : List ℕ) → contains outer inner ≡ false → is_among w (lattice_readings outer inner) ≡ false
+none_outside outer inner w n =
+    never (is_among w (lattice_readings outer inner))
+    (λ h.
+    let e : is_among w (map (column_reading outer inner) (good_tableaux (length outer) [] outer inner)) ≡ true = (listed_tells outer inner w h).1 in
+    true≢false (sym e ∙ none))
+  where
+    empty : (b : Bool) → is_among w (map (column_reading outer inner) (cond b [] [])) ≡ false
+    empty true = refl
+    empty false = refl
+
+    none : is_among w (map (column_reading outer inner) (good_tableaux (length outer) [] outer inner)) ≡ false
+    none =
+        ap
+        (λ b.
+        is_among w
+        (map (column_reading outer inner)
+        (cond (nat_le 0 (length outer))
+        (select (is_good (length outer) [] outer inner) (cond b (select (semistandard inner) (fillings_of (length outer) (row_lengths outer inner))) [])) [])))
+        n
+        ∙ empty (nat_le 0 (length outer))
+
+-- what is told of the list by the filling
+listed_is : (outer inner w : List ℕ) → Falls outer → contains outer inner ≡ true → Among w (words (length outer) (length (cells outer inner)))
+    → is_among w (map (column_reading outer inner) (good_tableaux (length outer) [] outer inner))
+    ≡ (is_tableau (filled_with outer inner w) && is_good (length outer) [] outer inner (filling_of outer inner w))
+listed_is outer inner w f c m = good-listed (length outer) [] outer inner w f c (omega arith) m
+
+-- no filling that is no tableau
+pub none_disordered : (outer inner w : List ℕ) → Falls outer → contains outer inner ≡ true → is_tableau (filled_with outer inner w) ≡ false
+    → is_among w (lattice_readings outer inner) ≡ false
+none_disordered outer inner w f c n =
+    never (is_among w (lattice_readings outer inner))
+    (λ h.
+    let told = listed_tells outer inner w h in
+    let both = and_parts (is_tableau (filled_with outer inner w)) (is_good (length outer) [] outer inner (filling_of outer inner w))
+    (sym (listed_is outer inner w f c told.0) ∙ told.1) in
+    true≢false (sym both.0 ∙ n))
+
+-- the fronts of a lattice word have contents that fall
+every-within : (test : ℕ → Bool) (ends : List ℕ) (n : ℕ) → AreWithinLength ends n → ((e : ℕ) → e ≤ n → test e ≡ true) → every test ends ≡ true
+every-within test [] n h t = refl
+every-within test (e ∷ ends) n h t = ap₂ (λ x y. x && y) (t e h.0) (every-within test ends n h.1 t)
+
+letter_at : (k : ℕ) (w : List ℕ) (p : ℕ) → is_lattice_word k w ≡ true → p < length w
+    → (1 ≤ get_or w p 0) × (get_or w p 0 ≤ k) × (allows Falling [] (join [] (content k (take p w))) (get_or w p 0) ≡ true)
+letter_at k w p e h =
+    let a = get_or w p 0 in
+    let all = all_fit-at (may_follow k) [] w p e h in
+    let counts = content k (take p w) in
+    let both = and_parts (nat_le 1 (get_or w p 0) && nat_le (get_or w p 0) k) (allows Falling [] (join [] (content k (take p w))) (get_or w p 0)) all in
+    let within = and_parts (nat_le 1 (get_or w p 0)) (nat_le (get_or w p 0) k) both.0 in
+    (leb-true 1 (get_or w p 0) within.0, leb-true (get_or w p 0) k within.1, both.1)
+
+all_within : (k : ℕ) (w : List ℕ) → ((p : ℕ) → p < length w → (1 ≤ get_or w p 0) × (get_or w p 0 ≤ k)) → AreWithin k w
+all_within k [] h = tt
+all_within k (a ∷ w) h = (h 0 (omega arith), all_within k w (λ p l. h (suc p) (omega arith)))
+
+lattice_good : (outer inner w : List ℕ) → length w ≡ length (reading_cells outer inner) → is_lattice_word (length outer) w ≡ true
+    → is_good (length outer) [] outer inner (filling_of outer inner w) ≡ true
+lattice_good outer inner w l e =
+    let k = length outer in
+    sym (is_good-ends (length outer) [] outer inner w l)
+    ∙ every-within (falls_at (length outer) [] w) (map (λ j. length (cells_right_of outer inner j)) (0 ∷ after 0 (columns outer))) (length w) (ends-within outer inner w l)
+    (λ n h. falls_at-from (length outer) [] w n (omega arith) (λ i. omega arith)
+    (λ p q. let t = letter_at (length outer) w p e q in (t.1, t.2)) h)
+
+-- a tableau is in the list exactly where its reading is a lattice word
+pub lattice_listed : (outer inner w : List ℕ) → Falls outer → Falls inner → contains outer inner ≡ true → length w ≡ length (cells outer inner)
+    → is_tableau (filled_with outer inner w) ≡ true → is_lattice_word (length outer) w ≡ is_among w (lattice_readings outer inner)
+lattice_listed outer inner w f g c l t =
+    let long : length w ≡ length (reading_cells outer inner) = l ∙ sym (length-reading outer inner f) in
+    tests_agree (is_lattice_word (length outer) w) (is_among w (lattice_readings outer inner))
+    (λ e.
+    let m = word_from (length outer) (length (cells outer inner)) w l (all_within (length outer) w (λ p h. let t = letter_at (length outer) w p e h in (t.0, t.1))) in
+    listed_from outer inner w m (listed_is outer inner w f c m ∙ ap₂ (λ x y. x && y) t (lattice_good outer inner w long e)))
+    (λ e.
+    let told = listed_tells outer inner w e in
+    let both = and_parts (is_tableau (filled_with outer inner w)) (is_good (length outer) [] outer inner (filling_of outer inner w))
+    (sym (listed_is outer inner w f c told.0) ∙ told.1) in
+    let word = word_tells (length outer) (length (cells outer inner)) w told.0 in
+    all_fit-from (may_follow (length outer)) [] w
+    (λ p h.
+    let letter = within-at (length outer) w p word.1 h in
+    ap₂ (λ x y. x && y)
+    (ap₂ (λ x y. x && y) (le-leb 1 (get_or w p 0) letter.0) (le-leb (get_or w p 0) (length outer) letter.1))
+    (good-allows (length outer) [] outer inner w p (omega arith) f g long t both.1 h letter.1 letter.0)))

@@ -1,0 +1,65 @@
+-- Two shapes and a tableau behind `-from` among the words of a command (this project's own).
+use Rattle.std.specs.Prelude.{◌≡◌, ℕ, ◌+◌, cond, List, [], ◌∷◌, ◌++◌, map, length, codes, Option, Some, None}
+use Rattle.sym_model.specs.Command.{Command, tab}
+use Rattle.sym_model.specs.CommandOffence.{Offence, judged_against, row_offences, entry_rule, rows_in, is_lattice_tableau}
+use Rattle.sym_model.specs.ExpressionOffence.{shape}
+use Rattle.sym_model.specs.Form.{EachOf}
+use Rattle.sym_model.specs.GoodTableau.{column_reading}
+use Rattle.sym_model.specs.Grammar.{two_partitions}
+use Rattle.sym_model.specs.WordForms.{numbers, partition}
+use Rattle.word_laws.specs.WrittenRows.{rows_text, rows_at}
+use Rattle.calc_words.specs.NumberRuns.{IsNumber}
+use Rattle.tableau_words.specs.declared.tab.ShapesAndLast.{ShapesAndLast}
+
+-- the words of a tableau behind `-from`; no word where there is no row
+abbrev pub from_text : List (List (List ℕ)) → List (List ℕ)
+from_text [] = []
+from_text (row ∷ rows) = codes "-from" ∷ rows_text (row ∷ rows)
+
+-- the words are a tableau of these rows behind `-from`, or none where there is no row
+pub record AreFrom (rows : List (List (List ℕ))) (words : List (List ℕ)) : Type 0 where
+  pub words_are : words ≡ from_text rows
+  pub rows_numbers : EachOf (EachOf IsNumber) rows
+
+-- the words are a list of numbers, and what may stand behind it
+pub record IsListAndFrom (list : List (List ℕ)) (rows : List (List (List ℕ))) (words : List (List ℕ)) : Type 0 where
+  pub words_are : words ≡ list ++ from_text rows
+  pub list_numbers : EachOf IsNumber list
+  pub rows_numbers : EachOf (EachOf IsNumber) rows
+
+-- the words are two lists of numbers with `/` between them, and what may stand behind them
+pub record AreTabWords (outer inner : List (List ℕ)) (rows : List (List (List ℕ))) (words : List (List ℕ)) : Type 0 where
+  pub words_are : words ≡ outer ++ codes "/" ∷ (inner ++ from_text rows)
+  pub outer_numbers : EachOf IsNumber outer
+  pub inner_numbers : EachOf IsNumber inner
+  pub rows_numbers : EachOf (EachOf IsNumber) rows
+
+-- the tableaux of the shape that are asked for
+abbrev pub tableaux_of : ShapesAndLast → Command
+tableaux_of s = tab s.outer s.inner s.after
+
+-- the column reading of the tableau with rows of these numbers, where there is one
+abbrev pub last_of : List ℕ → List ℕ → List (List ℕ) → Option (List ℕ)
+last_of outer inner [] = None
+last_of outer inner (row ∷ rows) = Some (column_reading outer inner (rows_in outer (row ∷ rows)))
+
+-- the shapes and the last tableau are these
+abbrev pub AreShapesAndLast : List ℕ → List ℕ → Option (List ℕ) → ShapesAndLast → Type 0
+AreShapesAndLast outer inner after s = (s.outer ≡ outer) × (s.inner ≡ inner) × (s.after ≡ after)
+
+-- the word `-from`, where the tableau with rows of these numbers is not in the list
+abbrev pub unlisted : ℕ → List ℕ → List ℕ → List (List ℕ) → List Offence
+unlisted k outer inner [] = []
+unlisted k outer inner (row ∷ rows) = cond (is_lattice_tableau outer inner (rows_in outer (row ∷ rows))) [] ((k, 0, shape) ∷ [])
+
+-- the offences of a tableau behind `-from`, which is the word
+abbrev pub from_offences : ℕ → List ℕ → List ℕ → List (List (List ℕ)) → List Offence
+from_offences k outer inner rows = unlisted k outer inner (map numbers rows) ++ row_offences entry_rule (rows_at (k + 1) rows)
+
+-- all of them, where the first shape begins at the second word
+abbrev pub all_tab_offences : List (List ℕ) → List (List ℕ) → List (List (List ℕ)) → List Offence
+all_tab_offences outer inner rows =
+    let lists = two_partitions 1 outer inner in
+    let k = 2 + length outer + length inner in
+    lists ++ judged_against lists (unlisted k (partition outer) (partition inner) (map numbers rows))
+    ++ row_offences entry_rule (rows_at (k + 1) rows)

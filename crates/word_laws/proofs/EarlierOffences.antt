@@ -1,0 +1,226 @@
+-- The first offence of two lists, and of lists that have the same offences as often.
+use Rattle.std.proofs.Common.{◌≡◌, ℕ, ◌+◌, ◌<◌, ◌==◌, nat_le, nat_lt, Bool, true, false, not, ◌&&◌, ◌||◌, cond, List, [], ◌∷◌, ◌++◌, refl, sym, ap, ◌∙◌, subst, arith, Option, Some, None, inl, inr}
+use Rattle.std.proofs.lemmas.Bool.Decides.{nat_tests}
+use Rattle.sym_model.specs.Sum.{Among}
+use Rattle.sym_model.specs.ExpressionOffence.{OffenceKind, literal, range, shape, rank}
+use Rattle.sym_model.specs.CommandOffence.{Offence, is_no_later, earlier_of, first_offence}
+use Rattle.word_laws.proofs.FirstOffences.{first-among, empty-none}
+use Rattle.word_laws.specs.JudgedRows.{earlier}
+
+-- ---- places are in one order
+
+abbrev goes : ℕ → ℕ → Bool → Bool
+goes a c test = nat_lt a c || ((a == c) && test)
+
+goes_on : (a b c : ℕ) (s t u : Bool) → (s ≡ true → t ≡ true → u ≡ true) → goes a b s ≡ true → goes b c t ≡ true → goes a c u ≡ true
+goes_on a b c true true true f h k = grind (arith, nat_tests)
+goes_on a b c true true false f h k = absurd (let e = f refl refl in cc)
+goes_on a b c true false true f h k = grind (arith, nat_tests)
+goes_on a b c true false false f h k = grind (arith, nat_tests)
+goes_on a b c false true true f h k = grind (arith, nat_tests)
+goes_on a b c false true false f h k = grind (arith, nat_tests)
+goes_on a b c false false true f h k = grind (arith, nat_tests)
+goes_on a b c false false false f h k = grind (arith, nat_tests)
+
+goes_not : (a b c : ℕ) (s t u : Bool) → (s ≡ false → t ≡ false → u ≡ false) → goes a b s ≡ false → goes b c t ≡ false → goes a c u ≡ false
+goes_not a b c false false false f h k = grind (arith, nat_tests)
+goes_not a b c false false true f h k = absurd (let e = f refl refl in cc)
+goes_not a b c true true true f h k = grind (arith, nat_tests)
+goes_not a b c true true false f h k = grind (arith, nat_tests)
+goes_not a b c true false true f h k = grind (arith, nat_tests)
+goes_not a b c true false false f h k = grind (arith, nat_tests)
+goes_not a b c false true true f h k = grind (arith, nat_tests)
+goes_not a b c false true false f h k = grind (arith, nat_tests)
+
+both_ways : (a b : ℕ) (s t : Bool) → goes a b s ≡ true → goes b a t ≡ true → (a ≡ b) × (s ≡ true) × (t ≡ true)
+both_ways a b true true h k = (grind (arith, nat_tests), refl, refl)
+both_ways a b true false h k = absurd (grind (arith, nat_tests))
+both_ways a b false true h k = absurd (grind (arith, nat_tests))
+both_ways a b false false h k = absurd (grind (arith, nat_tests))
+
+ranks_on : (a b c : ℕ) → nat_le a b ≡ true → nat_le b c ≡ true → nat_le a c ≡ true
+ranks_on a b c h k = grind (arith, nat_tests)
+
+ranks_not : (a b c : ℕ) → nat_le a b ≡ false → nat_le b c ≡ false → nat_le a c ≡ false
+ranks_not a b c h k = grind (arith, nat_tests)
+
+ranks_both : (a b : ℕ) → nat_le a b ≡ true → nat_le b a ≡ true → a ≡ b
+ranks_both a b h k = grind (arith, nat_tests)
+
+abbrev inner : Offence → Offence → Bool
+inner o p = goes o.1 p.1 (nat_le (rank o.2) (rank p.2))
+
+pub later_on : (o p q : Offence) → is_no_later o p ≡ true → is_no_later p q ≡ true → is_no_later o q ≡ true
+later_on o p q =
+    goes_on o.0 p.0 q.0 (inner o p) (inner p q) (inner o q)
+    (goes_on o.1 p.1 q.1 (nat_le (rank o.2) (rank p.2)) (nat_le (rank p.2) (rank q.2)) (nat_le (rank o.2) (rank q.2)) (ranks_on (rank o.2) (rank p.2) (rank q.2)))
+
+pub later_not : (o p q : Offence) → is_no_later o p ≡ false → is_no_later p q ≡ false → is_no_later o q ≡ false
+later_not o p q =
+    goes_not o.0 p.0 q.0 (inner o p) (inner p q) (inner o q)
+    (goes_not o.1 p.1 q.1 (nat_le (rank o.2) (rank p.2)) (nat_le (rank p.2) (rank q.2)) (nat_le (rank o.2) (rank q.2)) (ranks_not (rank o.2) (rank p.2) (rank q.2)))
+
+same_kind : (a b : OffenceKind) → rank a ≡ rank b → a ≡ b
+same_kind literal literal h = refl
+same_kind literal range h = absurd (omega (arith, h))
+same_kind literal shape h = absurd (omega (arith, h))
+same_kind range literal h = absurd (omega (arith, h))
+same_kind range range h = refl
+same_kind range shape h = absurd (omega (arith, h))
+same_kind shape literal h = absurd (omega (arith, h))
+same_kind shape range h = absurd (omega (arith, h))
+same_kind shape shape h = refl
+
+at_one_place : (a b c d : ℕ) (k l : OffenceKind) → a ≡ c → b ≡ d → k ≡ l → ◌≡◌ {A = Offence} (a, b, k) (c, d, l)
+at_one_place a b c d k l e f g =
+    ap (λ x. (x, b, k)) e ∙ ap (λ x. (c, x, k)) f ∙ ap (λ x. (c, d, x)) g
+
+pub one_place : (o p : Offence) → is_no_later o p ≡ true → is_no_later p o ≡ true → o ≡ p
+one_place o p h k =
+    let x = both_ways o.0 p.0 (inner o p) (inner p o) h k in
+    let y = both_ways o.1 p.1 (nat_le (rank o.2) (rank p.2)) (nat_le (rank p.2) (rank o.2)) x.1 x.2 in
+    at_one_place o.0 o.1 p.0 p.1 o.2 p.2 x.0 y.0 (same_kind o.2 p.2 (ranks_both (rank o.2) (rank p.2) y.1 y.2))
+
+itself : (q : Offence) → is_no_later q q ≡ true
+itself q = grind (arith, nat_tests)
+
+pub or_later : (o p : Offence) → is_no_later o p ≡ false → is_no_later p o ≡ true
+or_later o p h = by (is_no_later p o) refl
+  where
+    by : (b : Bool) → is_no_later p o ≡ b → b ≡ true
+    by true e = refl
+    by false e = let l = later_not o p o h e in let m = itself o in cc
+
+-- ---- the first of two lists
+
+regrouped : (x a b : Offence) (xa ab xb : Bool) → is_no_later x a ≡ xa → is_no_later a b ≡ ab → is_no_later x b ≡ xb
+    → (xa ≡ true → ab ≡ true → xb ≡ true) → (xa ≡ false → ab ≡ false → xb ≡ false)
+    → earlier_of x (cond ab (Some a) (Some b)) ≡ earlier (cond xa (Some x) (Some a)) (Some b)
+regrouped x a b true true true e f g t n = ap (λ c. cond c (Some x) (Some a)) e ∙ sym (ap (λ c. cond c (Some x) (Some b)) g)
+regrouped x a b true true false e f g t n = absurd (let z = t refl refl in cc)
+regrouped x a b true false xb e f g t n = refl
+regrouped x a b false true xb e f g t n = ap (λ c. cond c (Some x) (Some a)) e ∙ sym (ap (λ c. cond c (Some a) (Some b)) f)
+regrouped x a b false false true e f g t n = absurd (let z = n refl refl in cc)
+regrouped x a b false false false e f g t n = ap (λ c. cond c (Some x) (Some b)) g ∙ sym (ap (λ c. cond c (Some a) (Some b)) f)
+
+earlier_both : (x : Offence) (p q : Option Offence) → earlier_of x (earlier p q) ≡ earlier (earlier_of x p) q
+earlier_both x None q = refl
+earlier_both x (Some a) None = by (is_no_later x a)
+  where
+    by : (c : Bool) → cond c (Some x) (Some a) ≡ earlier (cond c (Some x) (Some a)) None
+    by true = refl
+    by false = refl
+earlier_both x (Some a) (Some b) =
+    regrouped x a b (is_no_later x a) (is_no_later a b) (is_no_later x b) refl refl refl (later_on x a b) (later_not x a b)
+
+pub first_of_both : (xs ys : List Offence) → first_offence (xs ++ ys) ≡ earlier (first_offence xs) (first_offence ys)
+first_of_both [] ys = refl
+first_of_both (x ∷ xs) ys = ap (earlier_of x) (first_of_both xs ys) ∙ earlier_both x (first_offence xs) (first_offence ys)
+
+-- ---- lists that have the same offences as often
+
+abbrev pub tally : (Offence → ℕ) → List Offence → ℕ
+tally f [] = 0
+tally f (o ∷ os) = f o + tally f os
+
+abbrev pub Alike : List Offence → List Offence → Type 0
+Alike xs ys = (f : Offence → ℕ) → tally f xs ≡ tally f ys
+
+pub tally_append : (f : Offence → ℕ) (xs ys : List Offence) → tally f (xs ++ ys) ≡ tally f xs + tally f ys
+tally_append f [] ys = omega arith
+tally_append f (x ∷ xs) ys = let e = tally_append f xs ys in omega (arith, e)
+
+-- the first is no later than each of them
+first_least : (os : List Offence) (o p : Offence) → first_offence os ≡ Some o → Among p os → is_no_later o p ≡ true
+first_least [] o p h m = absurd m
+first_least (x ∷ os) o p h m = by (first_offence os) refl h m (first_least os)
+  where
+    first_is : (c : Bool) (y : Offence) → is_no_later x y ≡ c → cond c (Some x) (Some y) ≡ Some o → Among p (x ∷ os)
+        → (Among p os → is_no_later y p ≡ true) → is_no_later o p ≡ true
+    first_is true y e h (inl s) ih = let xo : x ≡ o = cc in subst (λ q. is_no_later o q ≡ true) (sym xo ∙ sym s) (itself o)
+    first_is true y e h (inr s) ih = let xo : x ≡ o = cc in subst (λ q. is_no_later q p ≡ true) xo (later_on x y p e (ih s))
+    first_is false y e h (inl s) ih =
+        let yo : y ≡ o = cc in subst (λ q. is_no_later o q ≡ true) (sym s) (subst (λ q. is_no_later q x ≡ true) yo (or_later x y e))
+    first_is false y e h (inr s) ih = let yo : y ≡ o = cc in subst (λ q. is_no_later q p ≡ true) yo (ih s)
+
+    by : (rest : Option Offence) → first_offence os ≡ rest → earlier_of x rest ≡ Some o → Among p (x ∷ os)
+        → ((q r : Offence) → first_offence os ≡ Some q → Among r os → is_no_later q r ≡ true) → is_no_later o p ≡ true
+    by None e h (inl s) ih = let xo : x ≡ o = cc in subst (λ q. is_no_later o q ≡ true) (sym xo ∙ sym s) (itself o)
+    by None e h (inr s) ih = absurd (subst (Among p) (empty-none os e) s)
+    by (Some y) e h m ih = first_is (is_no_later x y) y refl h m (ih y p e)
+
+-- one of them that is no later than any is the first
+pub first_is_least : (os : List Offence) (o : Offence) → Among o os → ((p : Offence) → Among p os → is_no_later o p ≡ true)
+    → first_offence os ≡ Some o
+first_is_least os o m h = by (first_offence os) refl
+  where
+    by : (rest : Option Offence) → first_offence os ≡ rest → rest ≡ Some o
+    by None e = absurd (subst (Among o) (empty-none os e) m)
+    by (Some q) e = ap Some (one_place q o (first_least os q o e m) (h q (first-among os q e)))
+
+-- how often an offence stands among others, and how many of them come before it
+abbrev one_if : Bool → ℕ
+one_if b = cond b 1 0
+
+abbrev is_at : Offence → Offence → Bool
+is_at o p = is_no_later o p && is_no_later p o
+
+some_at : (o : Offence) (os : List Offence) → Among o os → 0 < tally (λ p. one_if (is_at o p)) os
+some_at o [] m = absurd m
+some_at o (x ∷ os) (inl e) =
+    let t : is_at o x ≡ true = subst (λ q. is_at o q ≡ true) e (ap (λ b. b && b) (itself o)) in
+    let k : one_if (is_at o x) ≡ 1 = ap one_if t in
+    omega (arith, k)
+some_at o (x ∷ os) (inr m) = let r = some_at o os m in omega (arith, r)
+
+and_both : (b c : Bool) → (b && c) ≡ true → (b ≡ true) × (c ≡ true)
+and_both true c h = (refl, h)
+and_both false c h = cc
+
+at_some : (o : Offence) (os : List Offence) → 0 < tally (λ p. one_if (is_at o p)) os → Among o os
+at_some o [] h = absurd (omega (arith, h))
+at_some o (x ∷ os) h = by (is_at o x) refl (λ l. at_some o os l)
+  where
+    by : (b : Bool) → is_at o x ≡ b → (0 < tally (λ p. one_if (is_at o p)) os → Among o os) → Among o (x ∷ os)
+    by true e again = let p = and_both (is_no_later o x) (is_no_later x o) e in inl (one_place o x p.0 p.1)
+    by false e again =
+        let k : one_if (is_at o x) ≡ 0 = ap one_if e in
+        inr (again (omega (arith, h, k)))
+
+none_before : (o : Offence) (os : List Offence) → ((p : Offence) → Among p os → is_no_later o p ≡ true)
+    → tally (λ p. one_if (not (is_no_later o p))) os ≡ 0
+none_before o [] h = refl
+none_before o (x ∷ os) h =
+    let k : one_if (not (is_no_later o x)) ≡ 0 = ap (λ b. one_if (not b)) (h x (inl refl)) in
+    let r = none_before o os (λ p m. h p (inr m)) in
+    omega (arith, k, r)
+
+before_none : (o : Offence) (os : List Offence) → tally (λ p. one_if (not (is_no_later o p))) os ≡ 0
+    → (p : Offence) → Among p os → is_no_later o p ≡ true
+before_none o [] h p m = absurd m
+before_none o (x ∷ os) h p m = by (is_no_later o x) refl m (λ l s. before_none o os l p s)
+  where
+    by : (b : Bool) → is_no_later o x ≡ b → Among p (x ∷ os)
+        → (tally (λ p. one_if (not (is_no_later o p))) os ≡ 0 → Among p os → is_no_later o p ≡ true) → is_no_later o p ≡ true
+    by true e (inl s) again = subst (λ q. is_no_later o q ≡ true) (sym s) e
+    by true e (inr s) again = again (let k : one_if (not (is_no_later o x)) ≡ 0 = ap (λ b. one_if (not b)) e in omega (arith, h, k)) s
+    by false e s again = absurd (let k : one_if (not (is_no_later o x)) ≡ 1 = ap (λ b. one_if (not b)) e in omega (arith, h, k))
+
+pub first_alike : (xs ys : List Offence) → Alike xs ys → first_offence xs ≡ first_offence ys
+first_alike xs ys h = by (first_offence xs) refl
+  where
+    no_more : (zs : List Offence) → tally (λ p. 1) zs ≡ 0 → zs ≡ []
+    no_more [] e = refl
+    no_more (z ∷ zs) e = absurd (omega (arith, e))
+
+    by : (first : Option Offence) → first_offence xs ≡ first → first ≡ first_offence ys
+    by None e =
+        let none : xs ≡ [] = empty-none xs e in
+        sym (ap first_offence (no_more ys (sym (h (λ p. 1)) ∙ ap (tally (λ p. 1)) none)))
+    by (Some o) e =
+        let among = some_at o xs (first-among xs o e) in
+        let same = h (λ p. one_if (is_at o p)) in
+        let before = h (λ p. one_if (not (is_no_later o p))) in
+        sym
+        (first_is_least ys o (at_some o ys (omega (arith, among, same)))
+        (before_none o ys (sym before ∙ none_before o xs (λ p m. first_least xs o p e m))))

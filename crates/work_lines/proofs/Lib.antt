@@ -1,3 +1,0 @@
--- Lemmas of the crate.
-pub mod Words
-pub mod Blocks

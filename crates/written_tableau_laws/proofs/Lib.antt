@@ -1,3 +1,0 @@
-pub mod EarlierOffences
-pub mod JudgedRows
-pub mod LeftShapes

@@ -1,2 +1,0 @@
-pub mod WrittenRows
-pub mod JudgedRows
