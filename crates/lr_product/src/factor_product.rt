@@ -13,13 +13,14 @@ ghost use Rattle.sym_model.specs.Target.{Meets, ExpandsInSchurs, schur_product, 
 ghost use Rattle.product_laws.specs.CountedProducts.{IsShownIn, Reaches};
 ghost use Rattle.lr_product.specs.ProductOfFactors.{AreSmallCounts};
 
+use crate::counts::no_terms;
 use crate::next_factor::{is_canonical, times_factor};
 use calc_base::{NoMemory, SumFault};
 use coeff_rings::Int;
 use partitions::Factors;
 use crate::mult;
 use partitions::Partition;
-use sparse_polys::{Lin, Terms};
+use sparse_polys::Terms;
 use std::alloc::Global;
 
 /// The product of the Schur polynomials of all factors in Schur polynomials: in every number of variables, or, where
@@ -61,18 +62,6 @@ fn has_longer(factors: &Factors, k: u16) -> bool
         }
     }
     false
-}
-
-/// The list with no terms.
-fn no_terms(alloc: Global) -> Result<Terms<Partition, Int>, SumFault>
-    ensures none { IfOk result (λ terms. terms ≡ []) }
-    ensures small { ¬ IsErrOf result SumFault.Large }
-{
-    let terms: Lin<Partition, Int> = Lin::new(alloc);
-    match terms.sorted_terms() {
-        Ok(terms) => Ok(terms),
-        Err(NoMemory) => Err(SumFault::NoMemory),
-    }
 }
 
 /// The product in so many variables, of factors with at most so many rows.

@@ -35,5 +35,4 @@ pub use pair::Pair;
 pub use poly::Poly;
 pub use power::Power;
 pub use products::{times, times_var};
-pub use search::{Counted, label_product};
 pub use terms::Terms;

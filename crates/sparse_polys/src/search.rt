@@ -12,7 +12,7 @@ use std::alloc::{AllocError, Global};
 
 /// A partition with a number of ways, which stands at 2^128 - 1 where there are more.
 #[derive(Drop)]
-pub struct Counted {
+pub(crate) struct Counted {
     /// The parts of the partition, falling.
     pub parts: Vec<u16>,
     /// The number of ways.
@@ -86,7 +86,7 @@ fn extend(
 /// The partitions in the product of two monomial symmetric polynomials, each with the number of ways
 /// in which it is an arrangement of the one label plus an arrangement of the other. A partition that
 /// is not there has no way.
-pub fn label_product(alloc: Global, left: &[u16], right: &[u16]) -> Result<Vec<Counted>, AllocError>
+pub(crate) fn label_product(alloc: Global, left: &[u16], right: &[u16]) -> Result<Vec<Counted>, AllocError>
     requires left { IsPartition left.now }
     requires right { IsPartition right.now }
     requires sizes { size left.now + size right.now < 2 ^ 16 }
