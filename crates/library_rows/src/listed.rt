@@ -4,12 +4,11 @@ use anyhow::Result;
 use calc_base::Lister;
 use partitions::Partition;
 use row_texts::{line, said};
-use skew_shapes::{HorizontalStrips, Skew};
+use skew_shapes::{HorizontalStrips, Skew, VerticalStrips};
 use std::alloc::Global;
-use skew_shapes::VerticalStrips;
 use tableau_iter::Fillings;
 
-/// Prints the rows of the crates `strip_lists` and `tableau_iter`, and of the horizontal strips.
+/// Prints the rows of the listers of strips and of tableaux.
 pub fn print(rt: &(impl Print + Alloc<A = Global>)) -> Result<()> {
     horizontal(rt)?;
     vertical(rt)?;
@@ -48,7 +47,7 @@ fn standard(rt: &(impl Print + Alloc<A = Global>), shape: &Skew) -> Result<()> {
 }
 
 /// Prints the items of a list of at most a hundred, a line each.
-fn listed<L: Lister>(rt: &impl Print, what: &str, list: &mut L) -> Result<()> {
+pub(crate) fn listed<L: Lister>(rt: &impl Print, what: &str, list: &mut L) -> Result<()> {
     for _ in 0..100u16 {
         if list.advance() {
             line(rt, what, list.current())?;

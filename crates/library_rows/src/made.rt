@@ -3,14 +3,16 @@ use crate::shapes::skew;
 use anyhow::Result;
 use row_insertion::reading_word;
 use row_texts::{line, said};
-use skew_shapes::{Tableau, TableauFault};
+use skew_shapes::{Tableau, TableauFault, Word};
 use std::alloc::Global;
 
 /// Prints the rows of the crate `skew_shapes`.
 pub fn print(rt: &(impl Print + Alloc<A = Global>)) -> Result<()> {
     made(rt, "2 1 2", &[2, 1, 2])?;
     made(rt, "2 1", &[2, 1])?;
-    made(rt, "1 2 1", &[1, 2, 1])
+    made(rt, "1 2 1", &[1, 2, 1])?;
+    let word = Word::from_slice(rt.alloc(), &[3, 1])?;
+    line(rt, "the word 3 1", word.as_slice())
 }
 
 /// Prints the tableau of (2,1) with a column reading, and how it is read.

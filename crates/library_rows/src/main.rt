@@ -2,10 +2,13 @@
 //! What it prints is compared with `stdout`, whose lines were written from the definitions and from outside values.
 #![tactic(auto)]
 
+mod expansion_rows;
 mod expressions;
 mod factors;
 mod hooks;
 mod kept;
+mod label_rows;
+mod lattices;
 mod listed;
 mod made;
 mod nesting;
@@ -14,6 +17,7 @@ mod permutation_rows;
 mod plain;
 mod printing;
 mod products;
+mod reductions;
 mod scalar_rows;
 mod shapes;
 mod strips;
@@ -25,10 +29,14 @@ fn main(rt: HostRuntime) -> anyhow::Result<()> {
     partition_rows::print(&rt)?;
     permutation_rows::print(&rt)?;
     table_rows::print(&rt)?;
+    label_rows::print(&rt)?;
     listed::print(&rt)?;
+    lattices::print(&rt)?;
     made::print(&rt)?;
+    reductions::print(&rt)?;
     expressions::print(&rt)?;
     nesting::print(&rt)?;
+    expansion_rows::print(&rt)?;
     texts::print(&rt)?;
     products::print(&rt)?;
     hooks::print(&rt)?;

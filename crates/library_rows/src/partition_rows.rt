@@ -1,7 +1,8 @@
 //! Rows of partitions: the parts of each in brackets, as labels are printed.
+use crate::listed::listed;
 use anyhow::Result;
 use calc_base::Lister;
-use partitions::{Partition, PartitionsOf};
+use partitions::{Arrangements, Partition, PartitionsOf};
 use row_texts::{each_said, line, said, truth};
 use std::alloc::Global;
 
@@ -17,7 +18,10 @@ pub fn print(rt: &(impl Print + Alloc<A = Global>)) -> Result<()> {
     four_two_one(rt)?;
     twenty_rows(rt)?;
     of_four(rt)?;
-    of_thirty(rt)
+    of_thirty(rt)?;
+    conjugates(rt)?;
+    beta_lists(rt)?;
+    arrangements(rt)
 }
 
 /// As many parts as a partition has at most.
@@ -129,4 +133,33 @@ fn number_of(list: &mut PartitionsOf) -> u16 {
         }
     }
     10000
+}
+
+fn conjugates(rt: &(impl Print + Alloc<A = Global>)) -> Result<()> {
+    let shape = Partition::from_parts(rt.alloc(), &[3, 1])?;
+    if shape.part(1) > 512 {
+        return Ok(());
+    }
+    let conjugate = shape.conjugate()?;
+    line(rt, "the conjugate of (3,1)", conjugate.parts())
+}
+
+fn beta_lists(rt: &(impl Print + Alloc<A = Global>)) -> Result<()> {
+    let shape = Partition::from_parts(rt.alloc(), &[2, 1])?;
+    if shape.rows() > 3 {
+        return Ok(());
+    }
+    let beta = shape.beta(3)?;
+    line(rt, "the beta list of (2,1) of length 3", beta.as_slice())?;
+    let again = Partition::from_beta(rt.alloc(), &[4, 2, 0])?;
+    line(rt, "the partition of the beta list 4 2 0", again.parts())
+}
+
+fn arrangements(rt: &(impl Print + Alloc<A = Global>)) -> Result<()> {
+    let shape = Partition::from_parts(rt.alloc(), &[2, 1])?;
+    if shape.rows() > 3 {
+        return Ok(());
+    }
+    let mut list = Arrangements::new(&shape, 3)?;
+    listed(rt, "(2,1) in 3 places", &mut list)
 }

@@ -3,11 +3,10 @@ use anyhow::Result;
 use block_reader::ReadBackFault;
 use coeff_rings::{Digits, Frac, Int, Scalar};
 use expansion_printer::Answer;
-use sparse_polys::{Monomial, Poly};
 use partitions::Partition;
 use perm_codes::Perm;
 use row_texts::{end, said, start, term};
-use sparse_polys::{Lin, Terms};
+use sparse_polys::{Lin, Monomial, Pair, Poly, Power, Terms};
 
 /// Prints what a text is read as.
 pub fn read_as(rt: &impl Print, what: &str, read: Result<Answer, ReadBackFault>) -> Result<()> {
@@ -20,9 +19,13 @@ pub fn read_as(rt: &impl Print, what: &str, read: Result<Answer, ReadBackFault>)
 
 fn answered(rt: &impl Print, what: &str, answer: &Answer) -> Result<()> {
     match answer {
+        Answer::Number { value } => said(rt, what, &value.get()),
         Answer::Expansion { terms } => fractions(rt, what, terms),
         Answer::Product { terms } => shapes(rt, what, terms),
-        _ => said(rt, what, &"another kind"),
+        Answer::Pairs { terms } => pairs(rt, what, terms),
+        Answer::Powers { terms } => powers(rt, what, terms),
+        Answer::Permutations { terms } => permutations(rt, what, terms),
+        Answer::Polynomial { terms } => monomials(rt, what, terms),
     }
 }
 
@@ -44,6 +47,24 @@ fn fraction(rt: &impl Print, c: Frac, parts: &[u16]) -> Result<()> {
     let mut digits = Digits::new();
     c.digits(&mut digits);
     term(rt, &str::from_utf8(digits.as_bytes())?, parts)
+}
+
+fn pairs(rt: &impl Print, what: &str, list: &Terms<Pair, Int>) -> Result<()> {
+    start(rt, what)?;
+    for (pair, c) in list.iter() {
+        term(rt, &c.get(), pair.first.parts())?;
+        term(rt, &"and", pair.second.parts())?;
+    }
+    end(rt)
+}
+
+fn powers(rt: &impl Print, what: &str, list: &Terms<Power, Int>) -> Result<()> {
+    start(rt, what)?;
+    for (power, c) in list.iter() {
+        term(rt, &c.get(), power.shape.parts())?;
+        term(rt, &"q to the power", &[power.power])?;
+    }
+    end(rt)
 }
 
 /// Prints an expansion with whole numbers.

@@ -14,7 +14,7 @@ use row_texts::said;
 use sparse_polys::Lin;
 use std::alloc::Global;
 
-/// Prints the rows of the crates `basis_change`, `block_reader` and `one_line_reader`.
+/// Prints the rows of a change of basis, of blocks and of one-line forms.
 pub fn print(rt: &(impl Print + Alloc<A = Global>)) -> Result<()> {
     in_power_sums(rt)?;
     blocks(rt)?;
@@ -54,7 +54,17 @@ fn blocks(rt: &(impl Print + Alloc<A = Global>)) -> Result<()> {
     )?;
     block(rt, "2/4 at (2) as an expansion", "2/4  (2)\n", expansion)?;
     block(rt, "1/2 at (2) as an expansion", "1/2  (2)\n", expansion)?;
-    block(rt, "a block without its last line feed", "1  (2)", product)
+    block(rt, "a block without its last line feed", "1  (2)", product)?;
+    other_blocks(rt)
+}
+
+/// Prints what blocks of the other kinds are read as.
+fn other_blocks(rt: &(impl Print + Alloc<A = Global>)) -> Result<()> {
+    block(rt, "the block of 2 as a number", "2\n", Kind::Number)?;
+    block(rt, "a pair", "1  (2,1) ()\n", Kind::Pairs)?;
+    block(rt, "a power", "1  q^1  ()\n", Kind::Powers)?;
+    block(rt, "a permutation", "1  (2,1)\n", Kind::Permutations)?;
+    block(rt, "a monomial", "1  (1,0,1)\n", Kind::Polynomial)
 }
 
 /// Prints what a block is read as.
