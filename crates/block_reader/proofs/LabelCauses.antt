@@ -168,12 +168,6 @@ new-at (a ∷ w) (suc at) h below (inr m) = new-at w at (either_false (has a w) 
 pub not_permutation-cut : (w : List ℕ) → (kept w ≡ w → ⊥) → is_permutation_label w ≡ false
 not_permutation-cut w other = not_true (is_permutation_label w) (λ h. other (permutation-tells w h).whole)
 
-pub not_permutation-empty : (w : List ℕ) → length w ≡ 0 → is_permutation_label w ≡ false
-not_permutation-empty w none = not_true (is_permutation_label w) (λ h. let some = (permutation-tells w h).some in omega arith)
-
-pub not_permutation-many : (w : List ℕ) → 255 < length w → is_permutation_label w ≡ false
-not_permutation-many w many = not_true (is_permutation_label w) (λ h. let few = (permutation-tells w h).few in omega arith)
-
 pub not_permutation-letter : (w : List ℕ) (at : ℕ) → OffendsFirstAt w at → is_permutation_label w ≡ false
 not_permutation-letter w at offence = not_true (is_permutation_label w) (λ h.
     let p = permutation-tells w h in

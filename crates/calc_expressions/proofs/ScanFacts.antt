@@ -51,9 +51,6 @@ value_from-snoc n (d ∷ ds) c = value_from-snoc (10 * n + (d - 48)) ds c
 pub value-next : (ds : List ℕ) (c : ℕ) → capped (10 * capped (decimal_value ds) + (c - 48)) ≡ capped (decimal_value (ds ++ c ∷ []))
 value-next ds c = capped-next (decimal_value ds) (c - 48) ∙ ap capped (sym (value_from-snoc 0 ds c))
 
-small-digit : (c : ℕ) → c < 256 → c - 48 ≡ capped (c - 48)
-small-digit c h = omega arith
-
 -- a digit where a number may begin
 abbrev pub IsByte : Symbol → Type 0
 IsByte (digit c) = c < 256

@@ -14,7 +14,7 @@ use Rattle.expression_laws.proofs.PhraseMarks.{depth_of, state_marks, new_mark, 
 use Rattle.sym_model.specs.Expansion.{Basis}
 use Rattle.calc_expressions.specs.declared.scan.Scan.{Scan}
 use Rattle.calc_expressions.specs.declared.scan.Mode.{Mode}
-use Rattle.calc_expressions.specs.ScanSteps.{IsSoundDigit, HasRoom, mode_after, depth_after, number_mark, mark_before, Sees, StepsTo, scan_start, has_factor, is_whole, IsScanned}
+use Rattle.calc_expressions.specs.ScanSteps.{IsSoundDigit, HasRoom, mode_after, depth_after, number_mark, mark_before, Sees, StepsTo, has_factor, is_whole, IsScanned}
 use Rattle.calc_expressions.proofs.ScanFacts.{mode_of, Agrees, agrees, IsByte, same-mark, piece-mark, SameMark, plain, Finds, finds-next}
 
 none-spelled : (w : List ℕ) (phrase : Phrase) → read_on w start ≡ dead → SpellsPhrase w phrase → ⊥
@@ -24,9 +24,6 @@ none-spelled w phrase d h = let e = ap (found phrases) (sym d) ∙ found-spelled
 abbrev pub Keeps : Scan → Reading → Type 0
 Keeps s dead = ⊥
 Keeps s (at p t f o) = (s.mode ≡ mode_of p t f o) × (s.depth ≡ depth_of o) × Finds s (state_marks (at p t f o))
-
-pub keeps-start : Keeps scan_start (start)
-keeps-start = (refl, refl, (refl, refl))
 
 -- a byte more is read
 pub read-more : (w : List ℕ) (i b : ℕ) → i < length w → b ≡ get_or w i 0 → read_on (take (i + 1) w) start ≡ step phrases (read_on (take i w) start) (symbol b)

@@ -59,10 +59,6 @@ letter-nothing : (row column : ℕ) (cells : List (ℕ × ℕ)) → letter_of_ce
 letter-nothing row column [] = refl
 letter-nothing row column (c ∷ cells) = refl
 
-drop-none : (n : ℕ) → drop {A = ℕ} n [] ≡ []
-drop-none zero = refl
-drop-none (suc n) = refl
-
 -- cells of other columns are passed over
 letter-past : (row column : ℕ) (cells others : List (ℕ × ℕ)) (w : List ℕ) → NotIn column cells
     → letter_of_cell row column (cells ++ others) w ≡ letter_of_cell row column others (drop (length cells) w)

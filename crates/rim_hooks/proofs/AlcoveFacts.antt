@@ -153,9 +153,6 @@ pub size_fits : (b : List ℕ) → ((i : ℕ) → Fits w16 (get_or b i 0)) → s
 size_fits [] f = omega arith
 size_fits (x ∷ b) f = let h = f 0 in let r = size_fits b (λ i. f (suc i)) in omega arith
 
-pub window_end : (n : ℕ) (entries : List ℕ) (start left : ℕ) → left ≡ 0 → Window n entries start left → size (map (up n start) entries) ≡ size entries
-window_end n entries start left e v = let t = v.sum in let z = ap (λ m. n * m) e in omega arith
-
 -- ---- an entry in the window
 
 pub raised_low : (n start entry : ℕ) → 1 ≤ n → start - start % n + entry % n < start → up n start entry ≡ start - start % n + entry % n + n

@@ -50,19 +50,12 @@ unanswered z e = by (fits_128_bits z) refl e
     by true d h = absurd (cc)
     by false d h = past_bound z d
 
-pub refused_product : (c sign : ℤ) → IsSign sign → checked_i128 (c *ℤ sign) ≡ None → 2 ^ 127 ≤ nat_abs c
-refused_product c sign s e = subst (λ n. 2 ^ 127 ≤ n) (nat_abs-signed c sign s) (unanswered (c *ℤ sign) e)
-
 module _ {L : Type 0} (eq : L → L → Bool) where
   coefficient-push : (before : WholeTermsOf L) (label : L) (z : ℤ) (other : L)
       → coefficient_by eq (before ++ (label, z) ∷ []) other ≡ coefficient_by eq before other +ℤ cond (eq label other) z (pos 0)
   coefficient-push before label z other =
       total_append (λ (t : L × ℤ). cond (eq t.0 other) t.1 (pos 0)) before ((label, z) ∷ [])
       ∙ ap (λ s. coefficient_by eq before other +ℤ s) (+ℤ_idr (cond (eq label other) z (pos 0)))
-
-  pub absolute-push : (before : WholeTermsOf L) (label : L) (z : ℤ) → absolute_total (before ++ (label, z) ∷ []) ≡ absolute_total before + nat_abs z
-  absolute-push [] label z = omega arith
-  absolute-push (t ∷ before) label z = let e = absolute-push before label z in omega arith
 
   coefficient_within : (before : WholeTermsOf L) (label : L) → nat_abs (coefficient_by eq before label) ≤ absolute_total before
   coefficient_within [] label = omega arith

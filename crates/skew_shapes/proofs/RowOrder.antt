@@ -134,6 +134,3 @@ IsTableauWithin-from t f h =
         order = tests.1;
       };
     }
-
-pub is_tableau-from : (t : SkewFilling) → IsTableauWithin t → is_tableau t ≡ true
-is_tableau-from t h = ap₂ (λ a b. a && b) h.tableau.letters h.tableau.order

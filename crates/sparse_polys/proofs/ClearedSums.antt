@@ -17,7 +17,7 @@ use Rattle.sym_model.specs.ListWeight.{absolute_sum}
 use Rattle.sym_model.proofs.Ring.{distributes_right}
 use Rattle.coeff_rings.specs.Fractions.{whole, scaled, InLowestTerms, fraction_sum, fraction_product}
 use Rattle.coeff_rings.specs.Room.{magnitude, HasRoomForSum}
-use Rattle.coeff_rings.specs.Answers.{AnswersSum, AnswersProduct}
+use Rattle.coeff_rings.specs.Answers.{AnswersSum}
 use Rattle.coeff_rings.specs.Proved.Cleared.{unsigned_abs-scaled, sum-cleared, product-cleared}
 use Rattle.sparse_polys.specs.Combination.{HasMoreAt, IsCombination}
 use Rattle.sparse_polys.specs.Labels.{same_partition}
@@ -146,18 +146,6 @@ refused-term is_held value checked answers q m old k c refused some small divide
     by none (inr l) = l
 
 -- ---- one product
-
--- a product is refused for its size alone
-pub refused-product : {R : Type 0} (value : R → Fraction) (x y : R) (d e : ℕ) → AnswersProduct value x y None → AreDenominators d e (value x) (value y)
-    → d * e < 2 ^ 127 → 2 ^ 127 ≤ magnitude d (value x) * magnitude e (value y)
-refused-product value x y d e answers h small = by (cases_lt (magnitude d (value x) * magnitude e (value y)) (2 ^ 127))
-  where
-    by : (magnitude d (value x) * magnitude e (value y) < 2 ^ 127) ⊎ (2 ^ 127 ≤ magnitude d (value x) * magnitude e (value y))
-        → 2 ^ 127 ≤ magnitude d (value x) * magnitude e (value y)
-    by (inl l) =
-        let some = answers.room d e (record { left_positive = h.left_positive; right_positive = h.right_positive; small = small; left = h.left; right = h.right; room = l }) in
-        cc
-    by (inr l) = l
 
 pub record IsClearedProduct (d e : ℕ) (a b c : Fraction) : Type 0 where
   pub positive : 0 < d * e

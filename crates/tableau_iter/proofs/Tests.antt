@@ -18,12 +18,6 @@ pub lengths_told : (b : Bool) (lengths : List ℕ) (o i outer inner : List ℕ) 
     → lengths ≡ row_lengths outer inner
 lengths_told b lengths o i outer inner t e p q = same_true lengths (row_lengths o i) (sym t ∙ e) ∙ ap₂ row_lengths p q
 
-pub other_lengths : (b : Bool) (o i outer inner : List ℕ) (rows : List (List ℕ)) → b ≡ same (map length rows) (row_lengths o i) → b ≡ false → o ≡ outer → i ≡ inner
-    → is_lattice_tableau outer inner rows ≡ false
-other_lengths b o i outer inner rows t e p q =
-    ap (λ x. x && is_among (column_reading outer inner rows) (lattice_readings outer inner))
-    (ap (same (map length rows)) (sym (ap₂ row_lengths p q)) ∙ sym t ∙ e)
-
 pub right_lengths : (outer inner : List ℕ) (rows : List (List ℕ)) (b : Bool) → map length rows ≡ row_lengths outer inner
     → b ≡ is_among (column_reading outer inner rows) (lattice_readings outer inner) → is_lattice_tableau outer inner rows ≡ b
 right_lengths outer inner rows b l e =

@@ -88,9 +88,6 @@ fits_complete reads tells number x h = number_complete x h
 fits_complete reads tells (target bases) x h = letter_complete bases x h
 fits_complete reads tells formula x h = tells.complete (spelling x) x (record { allowed = h; spelled = refl })
 
-one : List ℕ
-one = codes "1"
-
 is_one : IsNumberWord (codes "1")
 is_one = record { nonempty = omega arith; digits = ((omega arith, omega arith), tt) }
 
