@@ -16,7 +16,7 @@ use Rattle.basis_change.specs.Arranging.{at_label, OverflowsAt}
 use Rattle.sym_model.proofs.Exponents.{same_refl}
 use native.Mathlib.Nat.{mul-le-mul_right}
 use lib.IntN.{+ℤ_idl}
-use Rattle.std.specs.Prelude.{nat_eq, ◌&&◌, Result, Ok, Err, OnOk}
+use Rattle.std.specs.Prelude.{nat_eq, ◌&&◌}
 use Rattle.std.specs.Cmp.Lexicographic.{pointwise}
 use Rattle.std.proofs.lemmas.Bool.{and_parts}
 use Rattle.std.proofs.lemmas.Slice.Eq.{bytes_eq-Decides}
@@ -151,10 +151,6 @@ pub same_label : (a b : MixedLabel) → (pointwise nat_eq a.converted b.converte
 same_label a b h =
     let p = and_parts (pointwise nat_eq a.converted b.converted) (pointwise nat_eq a.augmented b.augmented) h in
     ap₂ (λ (x y : List ℕ). mixed x y) ((bytes_eq-Decides a.converted b.converted).0 p.0) ((bytes_eq-Decides a.augmented b.augmented).0 p.1)
-
-pub on_ok : {T E : Type 0} {P Q : Type 0} (r : Result T E) → (P → Q) → OnOk r P → OnOk r Q
-on_ok (Ok x) f h = f h
-on_ok (Err e) f h = tt
 
 pub refused_sum : (z : ℤ) (answer : Option ℤ) → answer ≡ checked_i128 z → answer ≡ None → 2 ^ 127 ≤ nat_abs z
 refused_sum z answer h e = refused-size z (sym h ∙ e)

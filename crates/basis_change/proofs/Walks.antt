@@ -197,7 +197,3 @@ zero_weight z n m h = by (cases_lt 0 n)
     by : (0 < n) ⊎ (n ≤ 0) → n ≡ 0
     by (inl p) = absurd (let q = mul-pos (nonzero-size z m) p in omega arith)
     by (inr p) = omega arith
-
-pub length-push : {A : Type 0} (xs : List A) (x : A) → length (xs ++ x ∷ []) ≡ length xs + 1
-length-push [] x = refl
-length-push (y ∷ xs) x = let r = length-push xs x in omega arith

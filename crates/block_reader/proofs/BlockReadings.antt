@@ -3,7 +3,7 @@ use Rattle.std.proofs.Common.{◌≡◌, ◌≢◌, ℕ, arith, ℤ, pos, List, 
 use Rattle.std.specs.Prelude.{Err}
 use Rattle.std.specs.Int.{w128}
 use Rattle.std.specs.Fmt.{signed_decimal}
-use Rattle.std.proofs.lemmas.Bool.{and_parts, and_from, eq-eqb, eqb-true, ne_eqb, cond-true, cond-false}
+use Rattle.std.proofs.lemmas.Bool.{and_parts, and_from, eq-eqb, eqb-true, ne_eqb, cond-true, cond-false, false_from_ne_true}
 use Rattle.sym_model.specs.Polynomial.{same}
 use Rattle.sym_model.specs.Expansion.{Fraction, Terms}
 use Rattle.sym_model.specs.Answer.{Answer as PlainAnswer, answer, answer_text}
@@ -20,7 +20,6 @@ use Rattle.block_reader.specs.declared.fault.ReadBackFault.{ReadBackFault}
 use Rattle.block_reader.specs.declared.fault.ReadBackFault.TheVariants.{NotPrinted, NoMemory}
 use Rattle.block_reader.specs.Fitting.{fits, all_fit}
 use Rattle.block_reader.specs.Readings.{IsReading}
-use Rattle.block_reader.proofs.LabelCauses.{not_true}
 
 -- ---- texts and the terms of their lines
 
@@ -51,7 +50,7 @@ canonical-fit {L} rules (t ∷ terms) h k =
 refused-none : {L : Type 0} (rules : LabelRules L) (text : List ℕ)
     → (is_ordered rules.order (terms_of rules text) && all_fit rules.has_fractions rules.is_within_limits (terms_of rules text)) ≡ false → read_by rules text ≡ None
 refused-none {L} rules text h =
-    cond-false (passes rules text) (Some (terms_of rules text)) None (not_true (passes rules text) (λ k.
+    cond-false (passes rules text) (Some (terms_of rules text)) None (false_from_ne_true (passes rules text) (λ k.
     let terms = terms_of rules text in
     let p = and_parts (is_canonical_by rules terms) (is_printable terms) (and_parts (is_canonical_by rules terms && is_printable terms) (same (block_by rules terms) text) k).0 in
     let q = and_parts (is_ordered rules.order terms) (each_term (λ (t : L × Fraction). is_coefficient rules.has_fractions t.1 && rules.is_within_limits t.0) terms) p.0 in

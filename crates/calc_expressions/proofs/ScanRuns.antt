@@ -178,19 +178,13 @@ dead-after w i j e h k =
     ∙ read-append (take (i + 1) w) (drop (i + 1) (take j w)) start
     ∙ ap (read_on (drop (i + 1) (take j w))) e ∙ read-dead (drop (i + 1) (take j w))
 
-whole-take : (w : List ℕ) → take (length w) w ≡ w
-whole-take w = take-length w
-
-either : (i j : ℕ) → (i < j) ⊎ (j ≤ i)
-either i j = cases_lt i j
-
 pub fault-scanned : (w : List ℕ) (i b : ℕ) (s : Scan) → i < length w → b ≡ get_or w i 0 → b < 256 → Keeps s (read_on (take i w) start) → StepsTo s i (symbol b) None
     → IsScanned w (Err i)
 fault-scanned w i b s h e small keep steps =
     let d : read_on (take (i + 1) w) start ≡ dead =
     read-more w i b h e ∙ fault w i b s (read_on (take i w) start) h small (written-so_far (take i w)) keep steps in
     let all : read_on w start ≡ dead =
-    ap (λ v. read_on v start) (sym (whole-take w)) ∙ dead-after w i (length w) d h (omega arith) in (
+    ap (λ v. read_on v start) (sym (take-length w)) ∙ dead-after w i (length w) d h (omega arith) in (
       (λ phrase k. none-spelled w phrase all k),
       record {
         within = omega arith;
@@ -199,7 +193,7 @@ fault-scanned w i b s h e small keep steps =
             ⊎_elim
             (λ after. absurd (not_live (read_on (take j w) start) (dead-after w i j d after k) (live-from_begins (take j w) begins)))
             (λ before. before)
-            (either i j);
+            (cases_lt i j);
       },
     )
 

@@ -3,7 +3,7 @@
 --     refused_product     a sign times a coefficient that does not fit
 --     refused_sum         a sum that does not fit
 use Rattle.std.proofs.Common.{◌≡◌, ◌+◌, ◌^◌, ◌≤◌, inl, inr, Bool, true, false, cond, [], ◌∷◌, ◌++◌, refl, sym, ◌∙◌, ap, subst, arith, ℤ, pos, negsuc, ◌+ℤ◌, ◌*ℤ◌, Some, None, FitsSigned, to_z, of_z, w8}
-use Rattle.std.specs.Prelude.{nat_abs, Result, Ok, Err, OnOk}
+use Rattle.std.specs.Prelude.{nat_abs}
 use Rattle.std.specs.Int.{w128}
 use Rattle.std.proofs.lemmas.Bool.Decides.{nat_tests}
 use Rattle.std.proofs.lemmas.Int.{ints}
@@ -124,7 +124,3 @@ kept_narrow z (inr e) = subst (λ y. to_z w8 (of_z w8 y) ≡ y) (sym e) refl
 -- a sign that passed through a narrow and a wide number
 pub kept_through : (sign narrow wide : ℤ) → IsSign sign → narrow ≡ to_z w8 (of_z w8 sign) → wide ≡ to_z w128 (of_z w128 narrow) → wide ≡ sign
 kept_through sign narrow wide s e d = d ∙ ap (λ z. to_z w128 (of_z w128 z)) (e ∙ kept_narrow sign s) ∙ kept_wide sign s
-
-pub on_ok : {T E : Type 0} {P Q : Type 0} (r : Result T E) → (P → Q) → OnOk r P → OnOk r Q
-on_ok (Ok x) f p = f p
-on_ok (Err e) f p = p

@@ -10,6 +10,7 @@ use Rattle.std.specs.Option.{unwrap_or}
 use Rattle.std.specs.Cmp.Lexicographic.{pointwise, nat_list_eq_equiv}
 use Rattle.std.proofs.lemmas.Bool.{cases_lt}
 use Rattle.std.proofs.lemmas.Int.{ints, unsigned_abs-mul}
+use Rattle.std.proofs.Math.Nat.{zero-mul}
 use Rattle.sym_model.specs.Sum.{total}
 use Rattle.sym_model.specs.Expansion.{Fraction, Terms}
 use Rattle.sym_model.specs.LabelLimits.{is_monomial_label}
@@ -60,9 +61,6 @@ found_within q (t ∷ terms) e = by (pointwise nat_eq e t.0) (found_within q ter
     by true rest = let s = size-here q t.1 in omega arith
     by false rest = omega arith
 
-nothing_here : (n : ℕ) → 0 * n ≡ 0
-nothing_here n = omega arith
-
 triangle : (x y : ℤ) → unsigned_abs (x +ℤ y) ≤ unsigned_abs x + unsigned_abs y
 triangle x y = omega (arith, ints)
 
@@ -101,7 +99,7 @@ module _ (q : ℕ) (old new : Terms (List ℕ)) (k : List ℕ) (c : Fraction) (i
 
   grows_more : absolute_sum q new ≤ absolute_sum q old + magnitude q c
   grows_more =
-      let t = total-more nat_list_eq_equiv same_partition (λ (l : List ℕ) (r : Fraction). pos (magnitude q r)) (λ l. ap pos (nothing_here (q / 1))) k old new is also c more in
+      let t = total-more nat_list_eq_equiv same_partition (λ (l : List ℕ) (r : Fraction). pos (magnitude q r)) (λ l. ap pos (zero-mul (q / 1))) k old new is also c more in
       let s = ap unsigned_abs sum_here in
       let r = triangle (scaled q (coefficient_at old k)) (scaled q c) in
       let u = unsigned_abs-scaled q (coefficient_at new k) in

@@ -1,6 +1,7 @@
 -- Exponent lists: `same` decides their equality, `join` is their sum, `resize` cuts and pads them.
 use Rattle.std.proofs.Common.{◌≡◌, ℕ, zero, suc, ◌+◌, ◌≤◌, max, ◌⊎◌, Bool, true, false, ◌&&◌, ◌==◌, List, [], ◌∷◌, length, replicate, sym, ◌∙◌, ap, ap₂, subst, refl, inl, inr, arith, eqb-true, eq-eqb, add-zero, add_comm, add_assoc}
 use Rattle.std.proofs.lemmas.Bool.{and_parts, and_from, cases_Bool, false_from_ne_true, both_ways}
+use Rattle.std.proofs.Math.Bool.{and-true}
 use Rattle.sym_model.specs.Polynomial.{same, join, resize, all_zero, fits_in}
 use Rattle.sym_model.specs.Partition.{size}
 
@@ -128,19 +129,15 @@ and_exchange true false true s = refl
 and_exchange true false false s = refl
 and_exchange false q r s = refl
 
-and_true : (p : Bool) → (p && true) ≡ p
-and_true true = refl
-and_true false = refl
-
 pub all_zero-join : (α β : List ℕ) → all_zero (join α β) ≡ (all_zero α && all_zero β)
 all_zero-join [] β = refl
-all_zero-join (a ∷ α) [] = sym (and_true (all_zero (a ∷ α)))
+all_zero-join (a ∷ α) [] = sym (and-true (all_zero (a ∷ α)))
 all_zero-join (a ∷ α) (b ∷ β) = ap₂ ◌&&◌ (zero_sum a b) (all_zero-join α β) ∙ and_exchange (a == 0) (b == 0) (all_zero α) (all_zero β)
 
 pub fits_in-join : (n : ℕ) (α β : List ℕ) → fits_in n (join α β) ≡ (fits_in n α && fits_in n β)
 fits_in-join zero α β = all_zero-join α β
 fits_in-join (suc n) [] β = refl
-fits_in-join (suc n) (a ∷ α) [] = sym (and_true (fits_in n α))
+fits_in-join (suc n) (a ∷ α) [] = sym (and-true (fits_in n α))
 fits_in-join (suc n) (a ∷ α) (b ∷ β) = fits_in-join n α β
 
 pub all_zero_zeros : (k : ℕ) → all_zero (replicate k 0) ≡ true

@@ -257,14 +257,6 @@ next-taken old b taken place letter h s u is none =
 
 -- ---- facts for one answer
 
-pub on_true : (b : Bool) (P : Type 0) → (b ≡ true → P) → OnTrue b P
-on_true true P h = h refl
-on_true false P h = tt
-
-pub on_false : (b : Bool) (P : Type 0) → (b ≡ false → P) → OnFalse b P
-on_false true P h = tt
-on_false false P h = h refl
-
 pub from_true : (b : Bool) (P : Type 0) → OnTrue b P → b ≡ true → P
 from_true true P h e = h
 from_true false P h e = absurd (cc)
