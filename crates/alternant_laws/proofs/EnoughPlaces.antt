@@ -177,10 +177,6 @@ no_zero (a ∷ α) x = ap (λ b. b || has 0 (shifted (α ++ suc x ∷ []))) (fir
     first : (a k : ℕ) → 0 < k → (a + k == 0) ≡ false
     first a k h = grind (arith, nat_tests)
 
-size-pushed : (α : List ℕ) (x : ℕ) → size (α ++ x ∷ []) ≡ size α + x
-size-pushed [] x = omega arith
-size-pushed (a ∷ α) x = let r = size-pushed α x in omega arith
-
 -- the terms of one list of exponents, in n variables
 abbrev straight_value : ℕ → (List ℕ → ℤ) → List ℕ → ℤ
 straight_value n φ α = pair (combined (λ label. schur label n) (straightened_term (straightened α))) φ

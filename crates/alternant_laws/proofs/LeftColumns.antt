@@ -151,10 +151,6 @@ put_beside true false true r = refl
 put_beside true false false r = refl
 put_beside false p q r = refl
 
-and_true : (p : Bool) → (p && true) ≡ p
-and_true true = refl
-and_true false = refl
-
 left_of_put : (right c : List ℕ) (rows : List (List ℕ)) → is_left_of right (put_row c rows) ≡ (pass_by_place nat_le c right && is_left_of right rows)
 left_of_put right [] rows = refl
 left_of_put [] (x ∷ c) [] = refl

@@ -2,6 +2,7 @@
 use Rattle.std.proofs.Common.{◌≡◌, ℕ, zero, suc, ◌-◌, ◌<◌, ◌≤◌, ◌⊎◌, Bool, true, false, cond, ◌&&◌, List, [], ◌∷◌, ◌++◌, map, length, replicate, drop, sym, ◌∙◌, ap, ap₂, subst, refl, inl, inr, arith, ℤ, pos}
 use Rattle.std.proofs.lemmas.Bool.{cases_Bool, cases_lt, cases_eq}
 use Rattle.std.proofs.lemmas.List.{length-append}
+use Rattle.std.proofs.Math.Bool.{and-true}
 use Rattle.sym_model.specs.Sum.{total, select, Among}
 use Rattle.sym_model.specs.Partition.{Falls, IsPartition, part}
 use Rattle.sym_model.specs.Polynomial.{Term, same, coefficient}
@@ -128,10 +129,6 @@ bender_knuth n k outer inner p q o i =
 
 -- ---- symmetry
 
-and_true : (p : Bool) → (p && true) ≡ p
-and_true true = refl
-and_true false = refl
-
 left_of_nothing : (rows : List (List ℕ)) → is_left_of [] rows ≡ true
 left_of_nothing [] = refl
 left_of_nothing (w ∷ ws) = refl
@@ -141,7 +138,7 @@ pub total_left_of_nothing : (n : ℕ) (pattern : List (List Bool)) (g : List (Li
     → total (of_tableaux g) (fillings_over n pattern) ≡ total g (left_tableaux n pattern [])
 total_left_of_nothing n pattern g =
     total_ext (of_tableaux g) (λ (rows : List (List ℕ)). cond (stands_left [] rows) (g rows) (pos 0))
-    (λ rows. ap (λ (b : Bool). cond b (g rows) (pos 0)) (sym (ap (λ (b : Bool). is_padded_tableau rows && b) (left_of_nothing rows) ∙ and_true (is_padded_tableau rows))))
+    (λ rows. ap (λ (b : Bool). cond b (g rows) (pos 0)) (sym (ap (λ (b : Bool). is_padded_tableau rows && b) (left_of_nothing rows) ∙ and-true (is_padded_tableau rows))))
     (fillings_over n pattern)
     ∙ sym (total_select g (stands_left []) (fillings_over n pattern))
 

@@ -1,9 +1,9 @@
 -- Partitions with parts put in, one place after another.
-use Rattle.std.proofs.Common.{◌≡◌, ℕ, zero, suc, ◌+◌, ◌*◌, ◌<◌, ◌≤◌, ◌^◌, Bool, cond, List, [], ◌∷◌, ◌++◌, length, take, drop, get_or, refl, sym, ap, ◌∙◌, subst, arith, append_assoc}
-use Rattle.std.proofs.Math.Seq.{take-suc, drop-cons}
+use Rattle.std.proofs.Common.{◌≡◌, ℕ, zero, suc, ◌+◌, ◌*◌, ◌<◌, ◌≤◌, ◌^◌, Bool, cond, List, [], ◌∷◌, length, take, drop, get_or, refl, sym, ap, ◌∙◌, subst, arith}
+use Rattle.std.proofs.Math.Seq.{drop-cons}
 use Rattle.sym_model.specs.Partition.{IsPartition, ArePositive, size, insert_part}
 use Rattle.sym_model.specs.Weight.{factorial}
-use Rattle.sym_model.proofs.SortedParts.{insert_part_above, insert_part_below, IsPartition-insert_part, size-insert_part}
+use Rattle.sym_model.proofs.SortedParts.{IsPartition-insert_part, size-insert_part}
 use Rattle.std.proofs.Common.{◌-◌, lit<}
 use Rattle.std.proofs.lemmas.Bool.{eq-eqb}
 use Rattle.sym_model.specs.Schur.{times_in}
@@ -12,30 +12,6 @@ use Rattle.basis_change_laws.specs.AugmentedMonomial.{multiplicity_factorials}
 use Rattle.basis_change_laws.proofs.AugmentedMonomials.{multiplicity_factorials-cons}
 use Rattle.basis_change.specs.Mixed.{merged}
 use native.Mathlib.Nat.{mul-pos, mul-le-mul_left, mul-le-mul_right}
-
--- a greater part is passed
-pub insert_part-passes : (part : ℕ) (parts : List ℕ) (at : ℕ) → at < length parts → 0 < part → part < get_or parts at 0
-    → insert_part part parts ≡ take at parts ++ insert_part part (drop at parts)
-    → insert_part part parts ≡ take (suc at) parts ++ insert_part part (drop (suc at) parts)
-insert_part-passes zero parts at h p g e = absurd (omega arith)
-insert_part-passes (suc a) parts at h p g e =
-    e ∙ ap (λ l. take at parts ++ insert_part (suc a) l) (drop-cons parts at 0 h)
-    ∙ ap (λ l. take at parts ++ l) (insert_part_below a (get_or parts at 0) (drop (suc at) parts) g)
-    ∙ sym (append_assoc (take at parts) (get_or parts at 0 ∷ []) (insert_part (suc a) (drop (suc at) parts)))
-    ∙ ap (λ l. l ++ insert_part (suc a) (drop (suc at) parts)) (sym (take-suc parts at 0 h))
-
--- in front of the first that is not
-pub insert_part-stands : (part : ℕ) (parts : List ℕ) (at : ℕ) → at < length parts → 0 < part → get_or parts at 0 ≤ part
-    → insert_part part (drop at parts) ≡ part ∷ drop at parts
-insert_part-stands zero parts at h p g = absurd (omega arith)
-insert_part-stands (suc a) parts at h p g =
-    ap (insert_part (suc a)) (drop-cons parts at 0 h)
-    ∙ insert_part_above a (get_or parts at 0) (drop (suc at) parts) g
-    ∙ ap (λ l. suc a ∷ l) (sym (drop-cons parts at 0 h))
-
-pub insert_part-last : (part : ℕ) → 0 < part → insert_part part [] ≡ part ∷ []
-insert_part-last zero p = absurd (omega arith)
-insert_part-last (suc a) p = refl
 
 pub IsPartition-merged : (more parts : List ℕ) → IsPartition parts → IsPartition (merged more parts)
 IsPartition-merged [] parts p = p

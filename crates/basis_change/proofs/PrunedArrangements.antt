@@ -4,7 +4,7 @@
 --     too_many_zeros    nor where no part is greater than the number of the last places before, all with 0
 --     all_zeros         where no part is left, all places to come have 0
 use Rattle.std.proofs.Common.{◌≡◌, ◌⊎◌, ℕ, zero, suc, ◌+◌, ◌<◌, ◌≤◌, Bool, true, false, ◌||◌, eqb, List, [], ◌∷◌, ◌++◌, length, replicate, append_assoc, refl, sym, ap, ◌∙◌, inl, inr, arith, ℤ, pos}
-use Rattle.std.proofs.lemmas.Bool.{cases_eq, cases_lt, eq-eqb, or_right, eqb-true}
+use Rattle.std.proofs.lemmas.Bool.{cases_eq, cases_lt, eq-eqb, or_right, eqb-true, or_left}
 use Rattle.std.proofs.lemmas.List.{length-replicate}
 use Rattle.sym_model.specs.Sum.{total, Among}
 use Rattle.sym_model.specs.Polynomial.{join}
@@ -46,10 +46,6 @@ has-append e (a ∷ front) rest h = or_right (eqb a e) (has e (front ++ rest)) (
 
 has-here : (e : ℕ) (rest : List ℕ) → has e (e ∷ rest) ≡ true
 has-here e rest = ap (λ t. t || has e rest) (eq-eqb e e refl)
-
-or_left : (a b : Bool) → a ≡ true → (a || b) ≡ true
-or_left true b h = refl
-or_left false b h = cc
 
 equal_entry : (e : ℕ) (front rest : List ℕ) → has e front ≡ true → has_equal_entries (front ++ (e ∷ rest)) ≡ true
 equal_entry e [] rest h = cc

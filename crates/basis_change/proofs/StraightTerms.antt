@@ -37,6 +37,7 @@ use Rattle.sym_model.proofs.SortedParts.{IsPartition-without_one, has-zero_or}
 use Rattle.monomial_laws.proofs.PowerSumLists.{has_from-distinct}
 use Rattle.basis_change.proofs.Walks.{each-next, each-whole, get-index}
 use Rattle.std.proofs.Common.{append_assoc}
+use Rattle.std.proofs.lemmas.List.{nil_from_length}
 use Rattle.sym_model.specs.Expansion.{Fraction, Terms}
 use Rattle.basis_change.specs.Clearing.{scaled}
 use Rattle.basis_change.specs.Straightening.{straightened_list}
@@ -163,13 +164,9 @@ HasZeros-next front n many (suc a) z = subst (λ t. HasZeros (front ++ (suc a + 
 
 -- ---- the steps of the search
 
-no_parts : (parts : List ℕ) → length parts ≡ 0 → parts ≡ []
-no_parts [] e = refl
-no_parts (a ∷ parts) e = absurd (omega arith)
-
 pub ended_same : (c : ℤ) (front parts entries : List ℕ) (n : ℕ) → length parts ≡ 0 → entries ≡ front ++ staircase n → SameTotals (straight_term c entries) (straight_terms c front parts n)
 ended_same c front parts entries n none e g =
-    ap (λ l. total g (straight_term c l)) e ∙ ended_terms c front n g ∙ ap (λ l. total g (straight_terms c front l n)) (sym (no_parts parts none))
+    ap (λ l. total g (straight_term c l)) e ∙ ended_terms c front n g ∙ ap (λ l. total g (straight_terms c front l n)) (sym (nil_from_length parts none))
 
 pub past_zeros_of : (c : ℤ) (front parts : List ℕ) (greatest : ℕ) (rest : List ℕ) (n many : ℕ) → parts ≡ greatest ∷ rest → IsPartition parts → greatest ≤ many → HasZeros front n many
     → (g : MixedLabel × ℤ → ℤ) → total g (straight_terms c front parts n) ≡ pos 0

@@ -1,7 +1,7 @@
 -- Terms added to a table.
 --     added_put, added_new           one term more
 --     overflow_put, overflow_new     one that is refused
---     Added-none, Added-then         nothing, and one list after another
+--     Added-then                     one list after another
 --     Overflows-then, -front         a list that is refused after another, and before others
 use Rattle.std.proofs.Common.{◌≡◌, ℕ, zero, suc, ◌+◌, ◌*◌, ◌<◌, ◌≤◌, ◌^◌, Bool, true, false, List, [], ◌∷◌, ◌++◌, length, get_or, cond, refl, sym, ap, ap₂, ◌∙◌, subst, arith, ℤ, pos, ◌+ℤ◌, ◌*ℤ◌}
 use Rattle.std.specs.Prelude.{Option, Some, None, is_some, slice_get, position, nat_abs}
@@ -15,8 +15,8 @@ use Rattle.basis_change.specs.Mixed.{Mixed, weighed, weight, Added, Overflows}
 use Rattle.basis_change.specs.Arranging.{at_label, OverflowsAt}
 use Rattle.sym_model.proofs.Exponents.{same_refl}
 use native.Mathlib.Nat.{mul-le-mul_right}
-use lib.IntN.{+ℤ_idl, +ℤ_idr, zero-*ℤ}
-use Rattle.std.specs.Prelude.{nat_eq, ◌&&◌, Result, Ok, Err, OnOk}
+use lib.IntN.{+ℤ_idl}
+use Rattle.std.specs.Prelude.{nat_eq, ◌&&◌}
 use Rattle.std.specs.Cmp.Lexicographic.{pointwise}
 use Rattle.std.proofs.lemmas.Bool.{and_parts}
 use Rattle.std.proofs.lemmas.Slice.Eq.{bytes_eq-Decides}
@@ -135,9 +135,6 @@ none_found (Some x) h = cc
 
 -- ---- one list after another
 
-pub Added-none : (es : Mixed) → Added [] es es
-Added-none es = record { sums = λ f. sym (+ℤ_idr (weighed f es)); weights = λ w. omega arith }
-
 pub Added-then : (xs ys old mid new : Mixed) → Added xs old mid → Added ys mid new → Added (xs ++ ys) old new
 Added-then xs ys old mid new h k = record {
   sums = λ f. omega (arith, ints, h.sums f, k.sums f, weighed-append f xs ys);
@@ -155,10 +152,6 @@ same_label a b h =
     let p = and_parts (pointwise nat_eq a.converted b.converted) (pointwise nat_eq a.augmented b.augmented) h in
     ap₂ (λ (x y : List ℕ). mixed x y) ((bytes_eq-Decides a.converted b.converted).0 p.0) ((bytes_eq-Decides a.augmented b.augmented).0 p.1)
 
-pub on_ok : {T E : Type 0} {P Q : Type 0} (r : Result T E) → (P → Q) → OnOk r P → OnOk r Q
-on_ok (Ok x) f h = f h
-on_ok (Err e) f h = tt
-
 pub refused_sum : (z : ℤ) (answer : Option ℤ) → answer ≡ checked_i128 z → answer ≡ None → 2 ^ 127 ≤ nat_abs z
 refused_sum z answer h e = refused-size z (sym h ∙ e)
 
@@ -171,9 +164,3 @@ answered z v answer h e = by (fits_128_bits z) (sym h ∙ e)
 
 pub overflow_term : (es : Mixed) (label : MixedLabel) (z : ℤ) → 2 ^ 127 ≤ nat_abs z → Overflows ((label, z) ∷ []) es
 overflow_term es label z h w positive = let m = at_least w es z label (nat_abs z) (2 ^ 127) h (positive label) in omega arith
-
-pub Added-zero : (es : Mixed) (label : MixedLabel) (z : ℤ) → z ≡ pos 0 → Added ((label, z) ∷ []) es es
-Added-zero es label z e = record {
-  sums = λ f. let h : z *ℤ f label ≡ pos 0 = ap (λ c. c *ℤ f label) e ∙ zero-*ℤ (f label) in omega (arith, ints, h);
-  weights = λ w. omega arith;
-}

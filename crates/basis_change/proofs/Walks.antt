@@ -162,11 +162,6 @@ unready-from d rows l h =
     (le-leb (size l.converted + size l.augmented) d h.low))
     (le-leb (length l.augmented) rows h.few))
 
-pub mixed_at-map : {M : Type 0} (entries : M → Mixed) (ms : List M) (i : ℕ) (m : M) → slice_get ms i ≡ Some m → mixed_at (map entries ms) i ≡ entries m
-mixed_at-map {M} entries [] i m h = cc
-mixed_at-map {M} entries (n ∷ ms) zero m h = let here : n ≡ m = cc in ap entries here
-mixed_at-map {M} entries (n ∷ ms) (suc i) m h = mixed_at-map entries ms i m h
-
 pub mixed_at-index : {M : Type 0} (entries : M → Mixed) (ms : List M) (i : ℕ) (d m : M) → i < length ms → m ≡ get_or ms i d → mixed_at (map entries ms) i ≡ entries m
 mixed_at-index {M} entries [] i d m h e = absurd (omega arith)
 mixed_at-index {M} entries (n ∷ ms) zero d m h e = ap entries (sym e)
@@ -202,7 +197,3 @@ zero_weight z n m h = by (cases_lt 0 n)
     by : (0 < n) ⊎ (n ≤ 0) → n ≡ 0
     by (inl p) = absurd (let q = mul-pos (nonzero-size z m) p in omega arith)
     by (inr p) = omega arith
-
-pub length-push : {A : Type 0} (xs : List A) (x : A) → length (xs ++ x ∷ []) ≡ length xs + 1
-length-push [] x = refl
-length-push (y ∷ xs) x = let r = length-push xs x in omega arith

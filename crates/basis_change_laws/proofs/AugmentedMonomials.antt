@@ -2,6 +2,7 @@
 use Rattle.std.proofs.Common.{◌≡◌, ℕ, zero, suc, ◌+◌, ◌*◌, ◌<◌, ◌≤◌, ◌⊎◌, ◌==◌, Bool, true, false, cond, ◌||◌, List, [], ◌∷◌, map, nat_le, sym, ◌∙◌, ap, ap₂, refl, inl, inr, arith, ℤ, pos, ◌+ℤ◌, ◌*ℤ◌}
 use Rattle.std.proofs.lemmas.Int.{ints}
 use Rattle.std.proofs.lemmas.Bool.{cases_lt, cases_eq, cases_Bool, eq-eqb, eqb-true, ne_eqb, leb-false, or_right, both_ways}
+use Rattle.std.proofs.Math.Nat.{mul_left_comm}
 use Rattle.sym_model.specs.Sum.{total, each, Among}
 use Rattle.sym_model.specs.Polynomial.{Same, scale, plus, times, pair}
 use Rattle.sym_model.specs.Partition.{IsPartition, insert_part}
@@ -52,9 +53,6 @@ factorials_without c l (b ∷ D) z = by (cases_eq b c) (factorials_without c l D
     by (inl e) later = absurd (let t = counted c b D e in omega arith)
     by (inr n) later = ap₂ ◌*◌ (ap factorial (passed b c l (λ e. n (sym e)))) (later (sym (passed c b D n) ∙ z))
 
-product_swap : (x y z : ℕ) → x * (y * z) ≡ y * (x * z)
-product_swap x y z = omega arith
-
 factorials_with : (c : ℕ) (l D : List ℕ) → times_in c D ≡ 1 → factorials (map (λ b. times_in b (c ∷ l)) D) ≡ times_in c (c ∷ l) * factorials (map (λ b. times_in b l) D)
 factorials_with c l [] z = absurd (omega arith)
 factorials_with c l (b ∷ D) z = by (cases_eq b c) (factorials_with c l D)
@@ -75,7 +73,7 @@ factorials_with c l (b ∷ D) z = by (cases_eq b c) (factorials_with c l D)
         product_right x y w = omega arith
     by (inr n) later =
         ap₂ ◌*◌ (ap factorial (passed b c l (λ e. n (sym e)))) (later (sym (passed c b D n) ∙ z))
-        ∙ product_swap (factorial (times_in b l)) (times_in c (c ∷ l)) (factorials (map (λ d. times_in d l) D))
+        ∙ mul_left_comm (factorial (times_in b l)) (times_in c (c ∷ l)) (factorials (map (λ d. times_in d l) D))
 
 -- one number more: the factor is how often it then stands there
 pub multiplicity_factorials-cons : (c : ℕ) (l : List ℕ) → multiplicity_factorials (c ∷ l) ≡ times_in c (c ∷ l) * multiplicity_factorials l
@@ -115,7 +113,7 @@ multiplicity_factorials-insert (suc a) (b ∷ parts) h = by (nat_le b (suc a)) r
         let v = passed (suc a) b (insert_part (suc a) parts) (λ d. absurd (omega arith)) in
         x
         ∙ ap₂ ◌*◌ u later
-        ∙ product_swap (times_in b (b ∷ parts)) (times_in (suc a) (insert_part (suc a) parts)) (multiplicity_factorials parts)
+        ∙ mul_left_comm (times_in b (b ∷ parts)) (times_in (suc a) (insert_part (suc a) parts)) (multiplicity_factorials parts)
         ∙ ap₂ ◌*◌ (sym v) (sym y)
 
 -- a part b made a + b

@@ -32,11 +32,6 @@ pub Among-after : (before : List (List ℕ)) (label : List ℕ) (new : List (Lis
 Among-after [] label new = inl refl
 Among-after (l ∷ before) label new = inr (Among-after before label new)
 
-Among-before : (before : List (List ℕ)) (label x : List ℕ) (new : List (List ℕ)) → Among x before → Among x (before ++ new)
-Among-before [] label x new m = absurd m
-Among-before (l ∷ before) label x new (inl e) = inl e
-Among-before (l ∷ before) label x new (inr m) = inr (Among-before before label x new m)
-
 -- it is one of the partitions
 pub listed_partition : (before new : List (List ℕ)) (d : ℕ) (label : List ℕ) → before ++ (label ∷ new) ≡ partitions_of d → IsPartition label × (size label ≡ d)
 listed_partition before new d label e =

@@ -24,10 +24,6 @@ among_place [] i x h e = absurd (omega arith)
 among_place (y ∷ xs) zero x h e = inl e
 among_place (y ∷ xs) (suc i) x h e = inr (among_place xs i x (omega arith) e)
 
--- the rows below the first
-pub limits_below : (row : ℕ) (rest : List ℕ) → IsWithinLimits (row ∷ rest) → IsWithinLimits rest
-limits_below row rest h = let f = h.few in let s = h.small in record { partition = (partition_tail row rest h.partition).0; few = omega arith; small = omega arith }
-
 pub below-limits : (k i row : ℕ) (rest left : List ℕ) → IsWithinLimits (row ∷ rest) → i ≤ row - part rest 1 → Among left (strips_off (k - i) rest) → IsWithinLimits (in_front (row - i) left)
 below-limits k i row rest left h l m =
     let t = partition_tail row rest h.partition in

@@ -2,8 +2,9 @@
 --     alcove_reduced      what the answer of the reflections is
 --     alcove_found        an end that is found in a window is the answer, with the sign of sorting
 use Rattle.std.proofs.Common.{◌↔◌, ◌≡◌, ℕ, zero, suc, ◌+◌, ◌-◌, ◌%◌, ◌<◌, ◌≤◌, ◌⊎◌, inl, inr, Bool, true, false, ◌==◌, ◌||◌, cond, List, [], ◌∷◌, ◌++◌, map, refl, sym, ◌∙◌, ap, ap₂, subst, arith, ℤ, ◌*ℤ◌, pos, Option, Some, None}
-use Rattle.std.proofs.lemmas.Bool.{cases_lt, cases_eq, cases_Bool, eq-eqb, eqb-true}
+use Rattle.std.proofs.lemmas.Bool.{cases_lt, cases_eq, cases_Bool, eq-eqb, eqb-true, or_cases, or_right as or_either}
 use Rattle.std.proofs.Math.Nat.{add-mod_right, mod-mod}
+use Rattle.std.proofs.Math.Bool.{or-true}
 use Rattle.sym_model.specs.Partition.{size}
 use Rattle.sym_model.specs.Bases.{has}
 use Rattle.sym_model.specs.PlaceOrders.{minus_one_to}
@@ -23,30 +24,19 @@ use Rattle.beta_list_laws.proofs.Windows.{LieIn, up_low, up_high, up-remainder, 
 
 -- ---- equal entries
 
-or_true : (a b : Bool) → (a || b) ≡ true → (a ≡ true) ⊎ (b ≡ true)
-or_true true b e = inl refl
-or_true false b e = inr e
-
-or_right : (a : Bool) → (a || true) ≡ true
-or_right true = refl
-or_right false = refl
-
 has_map : (f : ℕ → ℕ) (x : ℕ) (b : List ℕ) → has x b ≡ true → has (f x) (map f b) ≡ true
 has_map f x [] e = absurd (cc)
-has_map f x (y ∷ b) e = elim (or_true (y == x) (has x b) e) [
+has_map f x (y ∷ b) e = elim (or_cases (y == x) (has x b) e) [
   | inl h ↦ has_here (f x) (f y) (map f b) (ap f (eqb-true y x h))
-  | inr h ↦ ap (λ t. (f y == f x) || t) (has_map f x b h) ∙ or_right (f y == f x)
+  | inr h ↦ ap (λ t. (f y == f x) || t) (has_map f x b h) ∙ or-true (f y == f x)
 ]
 
 pub equal_map : (f : ℕ → ℕ) (b : List ℕ) → has_equal_entries b ≡ true → has_equal_entries (map f b) ≡ true
 equal_map f [] e = absurd (cc)
-equal_map f (a ∷ b) e = elim (or_true (has a b) (has_equal_entries b) e) [
+equal_map f (a ∷ b) e = elim (or_cases (has a b) (has_equal_entries b) e) [
   | inl h ↦ ap (λ t. t || has_equal_entries (map f b)) (has_map f a b h)
-  | inr h ↦ ap (λ t. has (f a) (map f b) || t) (equal_map f b h) ∙ or_right (has (f a) (map f b))
+  | inr h ↦ ap (λ t. has (f a) (map f b) || t) (equal_map f b h) ∙ or-true (has (f a) (map f b))
 ]
-
-or_either : (a : Bool) (b : Bool) → b ≡ true → (a || b) ≡ true
-or_either a b e = ap (λ t. a || t) e ∙ or_right a
 
 equal_inside : (left : List ℕ) (x y : ℕ) (right : List ℕ) → x ≡ y → has_equal_entries (left ++ (x ∷ y ∷ right)) ≡ true
 equal_inside [] x y right e = ap (λ t. t || has_equal_entries (y ∷ right)) (has_here x y right (sym e))

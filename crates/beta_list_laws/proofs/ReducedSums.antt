@@ -47,10 +47,6 @@ reduced_sum k n (t ∷ terms) label = by (reduction_by_remainders k n t.0) (redu
     by None e = e ∙ sym (+ℤ_idl (total (λ (t : Term). t.1 *ℤ reduced_share k n label t.0) terms)) ∙ ap (λ z. z +ℤ total (λ (t : Term). t.1 *ℤ reduced_share k n label t.0) terms) (sym (*ℤ-zero t.1))
     by (Some r) e = ap₂ ◌+ℤ◌ (times_chosen (same_power (r.2, r.0) label) t.1 r.1) e
 
-pub reduced_same : (k n : ℕ) (f g : WholeTerms) (label : ℕ × List ℕ) → Same f g
-    → coefficient_by same_power (reduced_terms f (reductions_of k n f)) label ≡ coefficient_by same_power (reduced_terms g (reductions_of k n g)) label
-reduced_same k n f g label e = reduced_sum k n f label ∙ pair_determined f g (reduced_share k n label) e ∙ sym (reduced_sum k n g label)
-
 -- ---- reflections
 
 abbrev pub alcove_value : List ℕ → Option (List ℕ × ℤ) → ℤ

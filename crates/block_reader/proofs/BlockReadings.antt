@@ -1,11 +1,9 @@
 -- What a text is read back as.
 use Rattle.std.proofs.Common.{◌≡◌, ◌≢◌, ℕ, arith, ℤ, pos, List, [], ◌∷◌, ◌++◌, ◌&&◌, ◌==◌, Bool, true, false, cond, Option, Some, None, FitsSigned, refl, sym, ◌∙◌, ap, subst, append-nil, nat_lt, nat_abs}
-use Rattle.std.specs.Prelude.{Result, Ok, Err, MatchBool, nat_eq}
+use Rattle.std.specs.Prelude.{Err}
 use Rattle.std.specs.Int.{w128}
 use Rattle.std.specs.Fmt.{signed_decimal}
-use Rattle.std.specs.Cmp.Lexicographic.{pointwise}
-use Rattle.std.proofs.lemmas.Bool.{and_parts, and_from, eq-eqb, eqb-true, ne_eqb, cond-true, cond-false}
-use Rattle.std.proofs.lemmas.Slice.Eq.{bytes_eq-Decides}
+use Rattle.std.proofs.lemmas.Bool.{and_parts, and_from, eq-eqb, eqb-true, ne_eqb, cond-true, cond-false, false_from_ne_true}
 use Rattle.sym_model.specs.Polynomial.{same}
 use Rattle.sym_model.specs.Expansion.{Fraction, Terms}
 use Rattle.sym_model.specs.Answer.{Answer as PlainAnswer, answer, answer_text}
@@ -15,9 +13,6 @@ use Rattle.sym_model.specs.Canonical.{is_coefficient, is_reduced, is_ordered, ea
 use Rattle.sym_model.specs.NumberText.{Lacks, cut_at, before_cut, signed_value, fraction_text}
 use Rattle.sym_model.specs.PrintedBlock.{terms_of, read_by, block_by}
 use Rattle.coeff_rings.specs.Proved.Whole.{fits_from_test, zero_fits_128_bits}
-use Rattle.calc_base.specs.Fault.{Rose}
-use Rattle.calc_base.specs.Sink.{Appends}
-use Rattle.calc_base.specs.Puts.{Prints}
 use Rattle.expansion_printer.specs.Answers.{number_terms}
 use Rattle.printing_laws.proofs.Decimals.{signed_decimal-lacks, signed_value-signed_decimal}
 use Rattle.printing_laws.proofs.Blocks.{read_by-tells, are_short-from_tests}
@@ -25,7 +20,6 @@ use Rattle.block_reader.specs.declared.fault.ReadBackFault.{ReadBackFault}
 use Rattle.block_reader.specs.declared.fault.ReadBackFault.TheVariants.{NotPrinted, NoMemory}
 use Rattle.block_reader.specs.Fitting.{fits, all_fit}
 use Rattle.block_reader.specs.Readings.{IsReading}
-use Rattle.block_reader.proofs.LabelCauses.{not_true}
 
 -- ---- texts and the terms of their lines
 
@@ -56,7 +50,7 @@ canonical-fit {L} rules (t ∷ terms) h k =
 refused-none : {L : Type 0} (rules : LabelRules L) (text : List ℕ)
     → (is_ordered rules.order (terms_of rules text) && all_fit rules.has_fractions rules.is_within_limits (terms_of rules text)) ≡ false → read_by rules text ≡ None
 refused-none {L} rules text h =
-    cond-false (passes rules text) (Some (terms_of rules text)) None (not_true (passes rules text) (λ k.
+    cond-false (passes rules text) (Some (terms_of rules text)) None (false_from_ne_true (passes rules text) (λ k.
     let terms = terms_of rules text in
     let p = and_parts (is_canonical_by rules terms) (is_printable terms) (and_parts (is_canonical_by rules terms && is_printable terms) (same (block_by rules terms) text) k).0 in
     let q = and_parts (is_ordered rules.order terms) (each_term (λ (t : L × Fraction). is_coefficient rules.has_fractions t.1 && rules.is_within_limits t.0) terms) p.0 in
@@ -127,13 +121,3 @@ pub not_printed : (kind : Kind) (text : List ℕ) (a : PlainAnswer)
     → read_by (label_rules kind) text ≡ None
 not_printed kind text a only other = none_else (read_by (label_rules kind) text)
     (λ terms e. other (ap answer_text (only terms e) ∙ (read_by-tells (label_rules kind) text terms e).block))
-
--- where no call can fail, all was put
-pub never-cut : {S E : Type 0} {written : S → Option (List ℕ)} {count : S → Option ℕ} {old new : S} {text : List ℕ} (result : Result (Unit {0}) E)
-    → Prints written count (λ s. 0) old new text result → Appends written count old new text
-never-cut (Ok x) p = p.whole
-never-cut (Err e) p = let rose : Rose 0 0 = p.counted.rose in absurd (omega arith)
-
-pub compared : (b : Bool) (bytes block text : List ℕ) → b ≡ pointwise nat_eq bytes text → bytes ≡ block → MatchBool b (block ≡ text) (block ≢ text)
-compared true bytes block text e is = sym is ∙ (bytes_eq-Decides bytes text).0 (sym e)
-compared false bytes block text e is = λ k. let clash : true ≡ false = sym ((bytes_eq-Decides bytes text).1 (is ∙ k)) ∙ sym e in cc

@@ -1,9 +1,8 @@
 -- Texts that are cut at their first separator, and their pieces.
 use Rattle.std.proofs.Common.{◌≡◌, ℕ, zero, suc, ◌-◌, ◌≤◌, ◌<◌, length, arith, List, [], ◌∷◌, refl, ◌∙◌, ap, take, drop, get_or, cond, ◌==◌, Bool, true, false}
 use Rattle.std.proofs.lemmas.Bool.{eq-eqb, ne_eqb, cond-true, cond-false}
-use Rattle.std.proofs.Math.Seq.{take-length}
-use Rattle.sym_model.specs.Kind.{after_one, after_two}
-use Rattle.sym_model.specs.NumberText.{cut_at, before_cut, split_at, before_first, without_last, label_of, numbers_of}
+use Rattle.sym_model.specs.Kind.{after_one}
+use Rattle.sym_model.specs.NumberText.{cut_at, before_cut, split_at, before_first, without_last}
 use Rattle.block_reader.specs.Parts.{inside_of}
 
 -- a text with a separator at a place, and none before it
@@ -51,20 +50,6 @@ after_one-cut s (b ∷ text) some = by (b == s) (after_one-cut s text) some
 
 -- ---- slices as the code takes them
 
-pub after_one-taken : (text : List ℕ) → 1 ≤ length text → take (length text - 1) (drop 1 text) ≡ after_one text
-after_one-taken [] some = absurd (omega arith)
-after_one-taken (b ∷ text) some = let e : suc (length text) - 1 ≡ length text = omega arith in ap (λ k. take k text) e ∙ take-length text
-
-pub after_two-taken : (text : List ℕ) → 2 ≤ length text → take (length text - 2) (drop 2 text) ≡ after_two text
-after_two-taken [] some = absurd (omega arith)
-after_two-taken (a ∷ []) some = absurd (omega arith)
-after_two-taken (a ∷ b ∷ text) some = let e : suc (suc (length text)) - 2 ≡ length text = omega arith in ap (λ k. take k text) e ∙ take-length text
-
-pub after_two-short : (text : List ℕ) → length text < 2 → [] ≡ after_two text
-after_two-short [] few = refl
-after_two-short (a ∷ []) few = refl
-after_two-short (a ∷ b ∷ text) few = absurd (omega arith)
-
 without_last-taken : (text : List ℕ) → 1 ≤ length text → take (length text - 1) text ≡ without_last text
 without_last-taken [] some = absurd (omega arith)
 without_last-taken (a ∷ []) some = refl
@@ -77,13 +62,3 @@ inside-taken [] some = absurd (omega arith)
 inside-taken (a ∷ text) some =
     let e : suc (length text) - 2 ≡ length text - 1 = omega arith in
     ap (λ k. take k text) e ∙ without_last-taken text (omega arith)
-
-pub inside-short : (text : List ℕ) → length text < 2 → [] ≡ inside_of text
-inside-short [] few = refl
-inside-short (a ∷ []) few = refl
-inside-short (a ∷ b ∷ text) few = absurd (omega arith)
-
--- the numbers of a label stand inside of it
-pub label-inside : (text : List ℕ) → numbers_of (inside_of text) ≡ label_of text
-label-inside [] = refl
-label-inside (b ∷ text) = refl

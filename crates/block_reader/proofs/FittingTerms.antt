@@ -2,7 +2,7 @@
 use Rattle.std.proofs.Common.{◌≡◌, ◌≢◌, ℕ, zero, suc, arith, ℤ, pos, negsuc, List, [], ◌∷◌, ◌++◌, ◌&&◌, Bool, true, false, FitsSigned, refl, sym, ◌∙◌, ap, ap₂}
 use Rattle.std.specs.Prelude.{nat_lt, nat_abs}
 use Rattle.std.specs.Int.{w128}
-use Rattle.std.proofs.lemmas.Bool.{and_parts, and_from, lt-ltb, cond-true}
+use Rattle.std.proofs.lemmas.Bool.{and_parts, and_from, lt-ltb, cond-true, false_from_ne_true}
 use Rattle.sym_model.specs.Expansion.{Fraction, Terms}
 use Rattle.sym_model.specs.Kind.{LabelRules}
 use Rattle.sym_model.specs.Canonical.{is_coefficient, is_reduced, fits_128_bits}
@@ -13,7 +13,6 @@ use Rattle.coeff_rings.specs.Proved.Whole.{fits_from_test}
 use Rattle.block_reader.specs.Parts.{denominator_after}
 use Rattle.block_reader.specs.Fitting.{fits, all_fit, term_with}
 use Rattle.block_reader.proofs.Cuts.{pieces_after, split-cut}
-use Rattle.block_reader.proofs.LabelCauses.{not_true}
 
 -- ---- fractions
 
@@ -60,27 +59,27 @@ module _ {L : Type 0} (has_fractions : Bool) (is_label : L → Bool) where
       → all_fit has_fractions is_label (term_with z den label) ≡ false
   term-unlabelled z den label other h =
       ap (all_fit has_fractions is_label) (term-counts z den label other)
-      ∙ alone label (z, denominator_after den) (not_true (fits has_fractions (z, denominator_after den) && is_label label)
+      ∙ alone label (z, denominator_after den) (false_from_ne_true (fits has_fractions (z, denominator_after den) && is_label label)
       (λ k. let clash : true ≡ false = sym (and_parts (fits has_fractions (z, denominator_after den)) (is_label label) k).1 ∙ h in cc))
 
   -- a numerator that is no number of 128 bits
   pub term-large : (z : ℤ) (den : List ℕ) (label : L) → (FitsSigned w128 z → ⊥) → all_fit has_fractions is_label (term_with z den label) ≡ false
   term-large z den label large =
       term-unfit z den label (λ e. large (fits_from_test z (ap fits_128_bits e)))
-      (not_true (fits has_fractions (z, denominator_after den)) (λ k.
+      (false_from_ne_true (fits has_fractions (z, denominator_after den)) (λ k.
       large (fits_from_test z (and_parts (fits_128_bits z) (fits_128_bits (pos (denominator_after den))) (and_parts (is_coefficient has_fractions (z, denominator_after den)) _ k).1).0)))
 
   -- terms in front and behind
   pub unfit-behind : (xs ys : Terms L) → all_fit has_fractions is_label ys ≡ false → all_fit has_fractions is_label (xs ++ ys) ≡ false
   unfit-behind [] ys h = h
-  unfit-behind (x ∷ xs) ys h = not_true (all_fit has_fractions is_label (x ∷ xs ++ ys))
+  unfit-behind (x ∷ xs) ys h = false_from_ne_true (all_fit has_fractions is_label (x ∷ xs ++ ys))
       (λ k. let clash : true ≡ false = sym (and_parts (fits has_fractions x.1 && is_label x.0) (all_fit has_fractions is_label (xs ++ ys)) k).1 ∙ unfit-behind xs ys h in cc)
 
   pub unfit-front : (xs ys : Terms L) → all_fit has_fractions is_label xs ≡ false → all_fit has_fractions is_label (xs ++ ys) ≡ false
   unfit-front [] ys h = let clash : true ≡ false = h in cc
-  unfit-front (x ∷ xs) ys h = not_true (all_fit has_fractions is_label (x ∷ xs ++ ys)) (λ k.
+  unfit-front (x ∷ xs) ys h = false_from_ne_true (all_fit has_fractions is_label (x ∷ xs ++ ys)) (λ k.
       let p = and_parts (fits has_fractions x.1 && is_label x.0) (all_fit has_fractions is_label (xs ++ ys)) k in
-      let rest = unfit-front xs ys (not_true (all_fit has_fractions is_label xs) (λ m.
+      let rest = unfit-front xs ys (false_from_ne_true (all_fit has_fractions is_label xs) (λ m.
       let clash : true ≡ false = sym (and_from (fits has_fractions x.1 && is_label x.0) (all_fit has_fractions is_label xs) p.0 m) ∙ h in cc)) in
       let clash : true ≡ false = sym p.1 ∙ rest in cc)
 

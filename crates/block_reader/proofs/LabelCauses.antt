@@ -1,7 +1,7 @@
 -- Why a list of numbers is no label.
-use Rattle.std.proofs.Common.{◌≡◌, ℕ, zero, suc, ◌+◌, ◌-◌, ◌^◌, ◌≤◌, ◌<◌, length, arith, List, [], ◌∷◌, ◌++◌, append-nil, length-append, ◌&&◌, ◌||◌, ◌==◌, Bool, true, false, Option, Some, None, refl, sym, ◌∙◌, ap, subst, take, inl, inr}
+use Rattle.std.proofs.Common.{◌≡◌, ℕ, zero, suc, ◌+◌, ◌-◌, ◌^◌, ◌≤◌, ◌<◌, length, arith, List, [], ◌∷◌, ◌++◌, append-nil, length-append, ◌&&◌, ◌==◌, Bool, true, false, Option, Some, None, refl, sym, ◌∙◌, ap, subst, take, inl, inr}
 use Rattle.std.specs.Prelude.{Result, Ok, Err, OnOk, is_err, slice_index, MatchOption, not, nat_lt, nat_le}
-use Rattle.std.proofs.lemmas.Bool.{and_parts, leb-true, ltb-true, eq-eqb}
+use Rattle.std.proofs.lemmas.Bool.{and_parts, leb-true, ltb-true, eq-eqb, false_from_ne_true, not-true, or_parts}
 use Rattle.sym_model.specs.Sum.{Among}
 use Rattle.sym_model.specs.Polynomial.{same}
 use Rattle.sym_model.specs.Bases.{has}
@@ -17,10 +17,6 @@ use Rattle.sym_model.proofs.Orders.{is_label-tells}
 use Rattle.partitions.specs.Limits.{RisesFirstAt}
 use Rattle.perm_codes.specs.Limits.{OffendsFirstAt}
 use Rattle.block_reader.specs.Parts.{AreSmall}
-
-pub not_true : (b : Bool) → (b ≡ true → ⊥) → b ≡ false
-not_true true h = absurd (h refl)
-not_true false h = refl
 
 -- what holds where nothing was found
 pub at_none : {A : Type 0} (P : Type 0) (Q : A → Type 0) (o : Option A) → o ≡ None → MatchOption o P Q → P
@@ -46,17 +42,17 @@ falls-at (a ∷ b ∷ parts) zero f = f.0
 falls-at (a ∷ b ∷ parts) (suc k) f = falls-at (b ∷ parts) k f.1
 
 pub not_label-cut : (parts : List ℕ) → (without_last_zeros parts ≡ parts → ⊥) → is_label parts ≡ false
-not_label-cut parts other = not_true (is_label parts) (λ h. other (trimmed parts (is_label-tells parts h).partition.positive))
+not_label-cut parts other = false_from_ne_true (is_label parts) (λ h. other (trimmed parts (is_label-tells parts h).partition.positive))
 
 pub not_label-many : (parts : List ℕ) → 512 < rows (without_last_zeros parts) → is_label parts ≡ false
-not_label-many parts many = not_true (is_label parts) (λ h.
+not_label-many parts many = false_from_ne_true (is_label parts) (λ h.
     let l = is_label-tells parts h in
     let e : length (without_last_zeros parts) ≡ length parts = ap length (trimmed parts l.partition.positive) in
     let few = l.rows in
     omega arith)
 
 pub not_label-rising : (parts : List ℕ) (at : ℕ) → RisesFirstAt (without_last_zeros parts) at → is_label parts ≡ false
-not_label-rising parts at rising = not_true (is_label parts) (λ h.
+not_label-rising parts at rising = false_from_ne_true (is_label parts) (λ h.
     let l = is_label-tells parts h in
     let r : RisesFirstAt parts at = subst (λ (ps : List ℕ). RisesFirstAt ps at) (trimmed parts l.partition.positive) rising in
     falls_not parts at r.later r.rises l.partition.falls)
@@ -69,7 +65,7 @@ not_label-rising parts at rising = not_true (is_label parts) (λ h.
         let h = falls-at parts k f in omega arith
 
 pub not_label-big : (parts : List ℕ) → 4096 < size (without_last_zeros parts) → is_label parts ≡ false
-not_label-big parts big = not_true (is_label parts) (λ h.
+not_label-big parts big = false_from_ne_true (is_label parts) (λ h.
     let l = is_label-tells parts h in
     let e : size (without_last_zeros parts) ≡ size parts = ap size (trimmed parts l.partition.positive) in
     let small = l.size in
@@ -80,7 +76,7 @@ small-from_size [] h = tt
 small-from_size (a ∷ numbers) h = (omega arith, small-from_size numbers (omega arith))
 
 pub not_label-numbers : (parts : List ℕ) → (AreSmall parts → ⊥) → is_label parts ≡ false
-not_label-numbers parts large = not_true (is_label parts) (λ h. let small = (is_label-tells parts h).size in large (small-from_size parts (omega arith)))
+not_label-numbers parts large = false_from_ne_true (is_label parts) (λ h. let small = (is_label-tells parts h).size in large (small-from_size parts (omega arith)))
 
 -- ---- monomials
 
@@ -96,24 +92,24 @@ monomial-tells e h =
     record { whole = same_true (without_last_zeros e) e q.0; few = leb-true (length e) 255 q.1; small = leb-true (size e) 32385 p.1 }
 
 pub not_monomial-cut : (e : List ℕ) → (without_last_zeros e ≡ e → ⊥) → is_monomial_label e ≡ false
-not_monomial-cut e other = not_true (is_monomial_label e) (λ h. other (monomial-tells e h).whole)
+not_monomial-cut e other = false_from_ne_true (is_monomial_label e) (λ h. other (monomial-tells e h).whole)
 
 pub not_monomial-many : (e : List ℕ) → 255 < length (without_last_zeros e) → is_monomial_label e ≡ false
-not_monomial-many e many = not_true (is_monomial_label e) (λ h.
+not_monomial-many e many = false_from_ne_true (is_monomial_label e) (λ h.
     let m = monomial-tells e h in
     let same_long : length (without_last_zeros e) ≡ length e = ap length m.whole in
     let few = m.few in
     omega arith)
 
 pub not_monomial-big : (e : List ℕ) → 32385 < size (without_last_zeros e) → is_monomial_label e ≡ false
-not_monomial-big e big = not_true (is_monomial_label e) (λ h.
+not_monomial-big e big = false_from_ne_true (is_monomial_label e) (λ h.
     let m = monomial-tells e h in
     let same_size : size (without_last_zeros e) ≡ size e = ap size m.whole in
     let small = m.small in
     omega arith)
 
 pub not_monomial-numbers : (e : List ℕ) → (AreSmall e → ⊥) → is_monomial_label e ≡ false
-not_monomial-numbers e large = not_true (is_monomial_label e) (λ h. let small = (monomial-tells e h).small in large (small-from_size e (omega arith)))
+not_monomial-numbers e large = false_from_ne_true (is_monomial_label e) (λ h. let small = (monomial-tells e h).small in large (small-from_size e (omega arith)))
 
 -- ---- permutations
 
@@ -124,10 +120,6 @@ record IsKeptLetters (w : List ℕ) : Type 0 where
   whole : kept w ≡ w
   few : length w ≤ 255
 
-not_false : (b : Bool) → not b ≡ true → b ≡ false
-not_false true h = cc
-not_false false h = refl
-
 permutation-tells : (w : List ℕ) → is_permutation_label w ≡ true → IsKeptLetters w
 permutation-tells w h =
     let p = and_parts _ (nat_le (length w) 255) h in
@@ -136,7 +128,7 @@ permutation-tells w h =
     let s = and_parts (are_letters (length w) w) (not (has_equal_entries w)) r.0 in
     record {
       letters = s.0;
-      apart = not_false (has_equal_entries w) s.1;
+      apart = not-true (has_equal_entries w) s.1;
       some = ltb-true 0 (length w) r.1;
       whole = same_true (kept w) w q.1;
       few = leb-true (length w) 255 p.1;
@@ -150,32 +142,22 @@ letter-at n (a ∷ w) zero h below =
     (leb-true 1 a q.0, leb-true a n q.1)
 letter-at n (a ∷ w) (suc at) h below = letter-at n w at (and_parts (nat_le 1 a && nat_le a n) (are_letters n w) h).1 (omega arith)
 
-either_false : (a b : Bool) → (a || b) ≡ false → (a ≡ false) × (b ≡ false)
-either_false true b e = cc
-either_false false b e = (refl, e)
-
 has-at : (a : ℕ) (w : List ℕ) (k : ℕ) → k < length w → slice_index w k ≡ a → has a w ≡ false → ⊥
 has-at a [] k below e h = omega arith
-has-at a (b ∷ w) zero below e h = let clash : true ≡ false = sym (eq-eqb b a e) ∙ (either_false (b == a) (has a w) h).0 in cc
-has-at a (b ∷ w) (suc k) below e h = has-at a w k (omega arith) e (either_false (b == a) (has a w) h).1
+has-at a (b ∷ w) zero below e h = let clash : true ≡ false = sym (eq-eqb b a e) ∙ (or_parts (b == a) (has a w) h).0 in cc
+has-at a (b ∷ w) (suc k) below e h = has-at a w k (omega arith) e (or_parts (b == a) (has a w) h).1
 
 new-at : (w : List ℕ) (at : ℕ) → has_equal_entries w ≡ false → at < length w → Among (slice_index w at) (take at w) → ⊥
 new-at [] at h below m = omega arith
 new-at (a ∷ w) zero h below m = m
-new-at (a ∷ w) (suc at) h below (inl e) = has-at a w at (omega arith) e (either_false (has a w) (has_equal_entries w) h).0
-new-at (a ∷ w) (suc at) h below (inr m) = new-at w at (either_false (has a w) (has_equal_entries w) h).1 (omega arith) m
+new-at (a ∷ w) (suc at) h below (inl e) = has-at a w at (omega arith) e (or_parts (has a w) (has_equal_entries w) h).0
+new-at (a ∷ w) (suc at) h below (inr m) = new-at w at (or_parts (has a w) (has_equal_entries w) h).1 (omega arith) m
 
 pub not_permutation-cut : (w : List ℕ) → (kept w ≡ w → ⊥) → is_permutation_label w ≡ false
-not_permutation-cut w other = not_true (is_permutation_label w) (λ h. other (permutation-tells w h).whole)
-
-pub not_permutation-empty : (w : List ℕ) → length w ≡ 0 → is_permutation_label w ≡ false
-not_permutation-empty w none = not_true (is_permutation_label w) (λ h. let some = (permutation-tells w h).some in omega arith)
-
-pub not_permutation-many : (w : List ℕ) → 255 < length w → is_permutation_label w ≡ false
-not_permutation-many w many = not_true (is_permutation_label w) (λ h. let few = (permutation-tells w h).few in omega arith)
+not_permutation-cut w other = false_from_ne_true (is_permutation_label w) (λ h. other (permutation-tells w h).whole)
 
 pub not_permutation-letter : (w : List ℕ) (at : ℕ) → OffendsFirstAt w at → is_permutation_label w ≡ false
-not_permutation-letter w at offence = not_true (is_permutation_label w) (λ h.
+not_permutation-letter w at offence = false_from_ne_true (is_permutation_label w) (λ h.
     let p = permutation-tells w h in
     let l = letter-at (length w) w at p.letters offence.inside in
     offence.offends (record { positive = l.0; within = l.1; new = new-at w at p.apart offence.inside }))
@@ -188,7 +170,7 @@ letters-small n (a ∷ w) low h =
     (omega arith, letters-small n w low p.1)
 
 pub not_permutation-numbers : (w : List ℕ) → (AreSmall w → ⊥) → is_permutation_label w ≡ false
-not_permutation-numbers w large = not_true (is_permutation_label w) (λ h.
+not_permutation-numbers w large = false_from_ne_true (is_permutation_label w) (λ h.
     let p = permutation-tells w h in large (letters-small (length w) w p.few p.letters))
 
 -- where no letter was dropped, none was to be

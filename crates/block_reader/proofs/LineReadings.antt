@@ -1,6 +1,7 @@
 -- A line is read by the block that it comes to.
 use Rattle.std.proofs.Common.{◌≡◌, ◌≢◌, ℕ, List, Option, Some, None, true, false, refl, sym, ap, ◌∙◌, subst}
 use Rattle.std.proofs.lemmas.Bool.{and_parts}
+use Rattle.std.proofs.lemmas.Option.{same_Some}
 use Rattle.sym_model.specs.Expansion.{Basis, Terms}
 use Rattle.sym_model.specs.Kind.{Kind, Label, label_rules, expansion, product}
 use Rattle.sym_model.specs.Answer.{Answer as PlainAnswer, answer, answer_text, IsPrintable}
@@ -19,9 +20,6 @@ use Rattle.block_reader.proofs.Blocks.{line-rewritten}
 none_else : {A : Type 0} (o : Option A) → ((x : A) → o ≡ Some x → ⊥) → o ≡ None
 none_else None h = refl
 none_else (Some x) h = absurd (h x refl)
-
-some_same : {A : Type 0} (x y : A) → Some x ≡ Some y → x ≡ y
-some_same x y e = cc
 
 -- the kind of a plain answer
 abbrev pub plain_kind : PlainAnswer → Kind
@@ -65,7 +63,7 @@ same_line basis kind atoms text terms h found printable same =
     let e : Some found ≡ Some terms =
     sym (read_by-block (label_rules kind) (legible kind) found printable.0 printable.1)
     ∙ ap (read_by (label_rules kind)) same ∙ reads-block basis kind atoms text terms h in
-    ap (text_in (as_line basis) kind) (some_same found terms e) ∙ (read_in-tells (as_line basis) kind text terms h).text_is
+    ap (text_in (as_line basis) kind) (same_Some found terms e) ∙ (read_in-tells (as_line basis) kind text terms h).text_is
 
 -- where the only answer that can have the text as its line has another one, no answer has it
 pub not_line : (basis : Basis) (kind : Kind) → HasAtoms kind → (text : List ℕ) (a : PlainAnswer) → plain_kind a ≡ kind → IsPrintable a → answer_text a ≡ block_from true text

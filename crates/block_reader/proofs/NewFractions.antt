@@ -1,7 +1,7 @@
 -- A fraction that can stand in a block is made of its own numbers.
 use Rattle.std.proofs.Common.{◌≡◌, ℕ, ◌*◌, arith, ℤ, pos, true, false, ◌&&◌, Some, None, Option, refl, ◌∙◌, ap, ap₂}
 use Rattle.std.specs.Ordering.{int_eq}
-use Rattle.std.proofs.lemmas.Bool.{and_parts, cond-false}
+use Rattle.std.proofs.lemmas.Bool.{and_parts, cond-false, false_from_ne_true}
 use Rattle.std.proofs.lemmas.Int.{ints}
 use Rattle.std.proofs.lemmas.Bool.Decides.{Decides-int_eq}
 use Rattle.sym_model.specs.Canonical.{is_coefficient, fits_128_bits}
@@ -12,14 +12,13 @@ use Rattle.coeff_rings.specs.Proved.Fractions.{Stands-same, Stands-itself, Stand
 use Rattle.coeff_rings.specs.Proved.Whole.{where_fits-true}
 use Rattle.sparse_polys.proofs.Coefficients.{lowest-is_reduced}
 use Rattle.block_reader.specs.Fitting.{fits}
-use Rattle.block_reader.proofs.LabelCauses.{not_true}
 
 pub fits-new : (num : ℤ) (den : ℕ) (positive : ℤ) → positive ≡ pos den → fits true (num, den) ≡ true → checked_fraction_of num positive ≡ Some (num, den)
 fits-new num den positive e h =
     let p = and_parts (is_coefficient true (num, den)) (fits_128_bits num && fits_128_bits (pos den)) h in
     let lowest : InLowestTerms (num, den) = lowest-is_reduced (num, den) p.0 in
     let one : 1 * den ≡ den = omega arith in
-    let other : int_eq (pos den) (pos 0) ≡ false = not_true (int_eq (pos den) (pos 0))
+    let other : int_eq (pos den) (pos 0) ≡ false = false_from_ne_true (int_eq (pos den) (pos 0))
     (λ k. let z : pos den ≡ pos 0 = (Decides-int_eq (pos den) (pos 0)).0 k in let some = lowest.positive in omega (arith, ints)) in
     let quotient : fraction_quotient (whole num) (whole (pos den)) ≡ (num, den) =
     ap₂ lowest_terms (product-one num) one
@@ -32,4 +31,4 @@ fits-new num den positive e h =
 -- so one that is not cannot
 pub not_new : (num : ℤ) (den : ℕ) (positive : ℤ) (made : Option (ℤ × ℕ)) → positive ≡ pos den → made ≡ checked_fraction_of num positive
     → (made ≡ Some (num, den) → ⊥) → fits true (num, den) ≡ false
-not_new num den positive made e is other = not_true (fits true (num, den)) (λ h. other (is ∙ fits-new num den positive e h))
+not_new num den positive made e is other = false_from_ne_true (fits true (num, den)) (λ h. other (is ∙ fits-new num den positive e h))

@@ -1,11 +1,8 @@
 -- How texts that are put to a sink one after another join: `Puts-then` for two, `Puts-as` for an equal text, `Puts-nothing`
--- where nothing was put, `Puts-finished` at a finish, `Puts-stopped` after a fault, `Puts-item` in a loop over a list,
--- and `Puts-prints` at a printer's end.
-use Rattle.std.proofs.Common.{◌≡◌, ℕ, ◌+◌, ◌<◌, min, max, List, [], ◌∷◌, ◌++◌, length, take, get_or, Option, Some, None, Bool, true, false, refl, sym, ◌∙◌, ap, subst, arith, append_assoc, append-nil, length-append}
+-- where nothing was put, `Puts-finished` at a finish, `Puts-stopped` after a fault, and
+-- `Puts-prints` at a printer's end.
+use Rattle.std.proofs.Common.{◌≡◌, ℕ, ◌+◌, min, max, List, [], ◌++◌, length, Option, Some, None, Bool, true, false, refl, sym, ◌∙◌, ap, subst, arith, append_assoc, append-nil, length-append}
 use Rattle.std.specs.Prelude.{Result, Ok, Err, is_ok}
-use Rattle.std.specs.List.{flat_map}
-use Rattle.std.proofs.lemmas.List.{take_more}
-use Rattle.std.proofs.lemmas.Grind.{flat_map-append}
 use Rattle.calc_base.specs.Fault.{counted_up, Rose}
 use Rattle.calc_base.specs.Sink.{greatest_length, grown, longer, Appends, AppendsPrefix}
 use Rattle.calc_base.specs.Puts.{Puts, Prints}
@@ -164,18 +161,3 @@ Puts-stopped written count faults s text = record {
   untouched = λ ill. refl;
   ill = λ ill. ill;
 }
-
--- one more item of a list whose items go to the sink one after another: the step of a printer's loop
-pub Puts-item : {S X : Type 0} {written : S → Option (List ℕ)} {count : S → Option ℕ} {faults : S → ℕ}
-    {before mid now : Bool} {old between new : S} (text : X → List ℕ) (items : List X) (index : ℕ) (item : X)
-    → index < length items
-    → Puts written count faults before old mid between (flat_map text (take index items))
-    → Puts written count faults mid between now new (text (get_or items index item))
-    → Puts written count faults before old now new (flat_map text (take (index + 1) items))
-Puts-item text items index item below first second =
-    Puts-as (sym one_more) (Puts-then first second)
-  where
-    one_more : flat_map text (take (index + 1) items) ≡ flat_map text (take index items) ++ text (get_or items index item)
-    one_more = ap (flat_map text) (take_more items index item below)
-        ∙ flat_map-append text (take index items) (get_or items index item ∷ [])
-        ∙ ap (λ t. flat_map text (take index items) ++ t) (append-nil (text (get_or items index item)))

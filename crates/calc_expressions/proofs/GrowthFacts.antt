@@ -1,5 +1,5 @@
 -- How fast factorials and the growth of a conversion grow, and when a product of three is past 128 bits.
-use Rattle.std.proofs.Common.{◌≡◌, ℕ, zero, suc, ◌+◌, ◌*◌, ◌^◌, ◌<◌, ◌≤◌, refl, ap, ◌∙◌, arith, add-one, inl, inr, ⊎_elim, ◌⊎◌}
+use Rattle.std.proofs.Common.{◌≡◌, ℕ, zero, suc, ◌*◌, ◌^◌, ◌<◌, ◌≤◌, refl, ap, arith, inl, inr, ⊎_elim, ◌⊎◌}
 use Rattle.std.proofs.Math.Nat.{mul-le-mul, pow-suc, pow-zero}
 use Rattle.sym_model.specs.Expansion.{Basis, monomials, elementaries, completes, power_sums, schurs}
 use Rattle.sym_model.specs.Expression.{Tree, denominator, degree}
@@ -16,9 +16,6 @@ pow-positive n (suc k) h = rw pow-suc (times-positive (n ^ k) n (pow-positive n 
 factorial-positive : (k : ℕ) → 0 < factorial k
 factorial-positive zero = omega arith
 factorial-positive (suc k) = times-positive (suc k) (factorial k) (omega arith) (factorial-positive k)
-
-pub factorial-step : (k : ℕ) → factorial (k + 1) ≡ factorial k * (k + 1)
-factorial-step k = ap factorial (add-one k) ∙ omega arith
 
 factorial-rises : (k j : ℕ) → k ≤ j → factorial k ≤ factorial j
 factorial-rises zero j h = factorial-positive j

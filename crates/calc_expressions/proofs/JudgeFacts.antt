@@ -1,7 +1,7 @@
 -- What the offences of an expression's word come to.
 use Rattle.std.proofs.Common.{◌≡◌, ℕ, zero, suc, ◌+◌, ◌<◌, ◌≤◌, nat_lt, max, Bool, true, false, ◌||◌, cond, List, [], ◌∷◌, ◌++◌, length, length-append, map, refl, sym, ap, ◌∙◌, arith, Option, Some, None, option_map, ◌⊎◌, inl, inr, ⊎_elim}
 use Rattle.std.proofs.lemmas.Bool.Decides.{nat_tests}
-use Rattle.std.proofs.lemmas.Bool.{cases_lt}
+use Rattle.std.proofs.lemmas.Bool.{cases_lt, or_cases}
 use Rattle.std.specs.Prelude.{codes, Result, Ok, Err, IfOk}
 use Rattle.std.specs.Bool.{then_some}
 use Rattle.sym_model.specs.Sum.{each}
@@ -62,11 +62,6 @@ mild-from (m ∷ ms) h k =
       mild-from ms (none_right (first_of (each offences_at (m ∷ []))) _ both) (or_right (is_high m.1) (any_high ms) k),
     )
 
--- a high number makes a high degree
-or_true : (a b : Bool) → (a || b) ≡ true → (a ≡ true) ⊎ (b ≡ true)
-or_true true b h = inl refl
-or_true false b h = inr h
-
 above : (n : ℕ) → nat_lt 20 n ≡ true → 20 < n
 above n h = grind (arith, nat_tests)
 
@@ -82,7 +77,7 @@ high-entries b k before (w ∷ ws) h =
     ⊎_elim
     (λ here. omega (arith, above (decimal_value w) here, sized))
     (λ later. omega (arith, high-entries (b + length w + 1) (k + 1) (Some (decimal_value w)) ws later, sized))
-    (or_true (nat_lt 20 (decimal_value w)) _ h)
+    (or_cases (nat_lt 20 (decimal_value w)) _ h)
 
 degree-joined_left : (operator : Operator) (e f : Tree) → degree e ≤ degree (join_trees operator e f)
 degree-joined_left plus e f = omega arith
@@ -105,7 +100,7 @@ high-degree d b (operation operator l r) h =
     (λ (x : any_high (marks d b l) ≡ true). omega (arith, high-degree d b l x, degree-joined_left operator (tree l) (tree r)))
     (λ (y : any_high (marks d (b + length (spelling l) + 1) r) ≡ true).
     omega (arith, high-degree d (b + length (spelling l) + 1) r y, degree-joined_right operator (tree l) (tree r)))
-    (or_true _ _ (sym (any_high-append (marks d b l) (marks d (b + length (spelling l) + 1) r)) ∙ h))
+    (or_cases _ _ (sym (any_high-append (marks d b l) (marks d (b + length (spelling l) + 1) r)) ∙ h))
 
 nesting-joined : (operator : Operator) (e f : Tree) → nesting (join_trees operator e f) ≡ max (nesting e) (nesting f) + 1
 nesting-joined plus e f = refl

@@ -1,8 +1,9 @@
 -- What the reader keeps of a word is what the phrase that has been read in part says.
-use Rattle.std.proofs.Common.{◌≡◌, ℕ, ◌+◌, ◌-◌, ◌*◌, ◌<◌, ◌==◌, Bool, true, false, ◌||◌, cond, List, [], ◌∷◌, ◌++◌, length, length-append, refl, sym, ap, ◌∙◌, subst, add-one, arith, Option, Some, None, option_map}
+use Rattle.std.proofs.Common.{◌≡◌, ℕ, ◌+◌, ◌-◌, ◌*◌, ◌<◌, ◌==◌, true, ◌||◌, cond, List, [], ◌∷◌, ◌++◌, length, length-append, refl, sym, ap, ◌∙◌, subst, add-one, arith, Option, Some, None, option_map}
 use Rattle.std.specs.Prelude.{option_to_list}
 use Rattle.std.proofs.lemmas.List.{append-nil}
 use Rattle.std.proofs.Math.Dec.{eqb-suc-zero}
+use Rattle.std.proofs.Math.Bool.{or-false}
 use Rattle.sym_model.specs.Sum.{each}
 use Rattle.sym_model.specs.Expansion.{Basis, monomials, elementaries, completes, power_sums, schurs}
 use Rattle.sym_model.specs.PrintedBlock.{decimal_value, value_from}
@@ -50,9 +51,6 @@ value_from-snoc n (d ∷ ds) c = value_from-snoc (10 * n + (d - 48)) ds c
 
 pub value-next : (ds : List ℕ) (c : ℕ) → capped (10 * capped (decimal_value ds) + (c - 48)) ≡ capped (decimal_value (ds ++ c ∷ []))
 value-next ds c = capped-next (decimal_value ds) (c - 48) ∙ ap capped (sym (value_from-snoc 0 ds c))
-
-small-digit : (c : ℕ) → c < 256 → c - 48 ≡ capped (c - 48)
-small-digit c h = omega arith
 
 -- a digit where a number may begin
 abbrev pub IsByte : Symbol → Type 0
@@ -238,10 +236,6 @@ same-mark _ p t f o h = piece-mark p t f o
 -- what is found at marks
 abbrev pub Finds : Scan → List (ℕ × PlainMark) → Type 0
 Finds s ms = (option_map offence_in s.first ≡ first_of (each offences_at ms)) × (s.is_high ≡ any_high ms)
-
-or-false : (b : Bool) → (b || false) ≡ b
-or-false true = refl
-or-false false = refl
 
 some-parts : (k : ℕ × Mark) (m : ℕ × PlainMark) → SameMark (Some k) (Some m) → (k.0 ≡ m.0) × (mark_in k.1 ≡ capped_mark m.1)
 some-parts k m e =

@@ -14,7 +14,7 @@ use Rattle.expression_laws.proofs.PhraseMarks.{depth_of, state_marks, new_mark, 
 use Rattle.sym_model.specs.Expansion.{Basis}
 use Rattle.calc_expressions.specs.declared.scan.Scan.{Scan}
 use Rattle.calc_expressions.specs.declared.scan.Mode.{Mode}
-use Rattle.calc_expressions.specs.ScanSteps.{IsSoundDigit, HasRoom, mode_after, depth_after, number_mark, mark_before, Sees, StepsTo, scan_start, has_factor, is_whole, IsScanned}
+use Rattle.calc_expressions.specs.ScanSteps.{IsSoundDigit, HasRoom, mode_after, depth_after, number_mark, mark_before, Sees, StepsTo, has_factor, is_whole, IsScanned}
 use Rattle.calc_expressions.proofs.ScanFacts.{mode_of, Agrees, agrees, IsByte, same-mark, piece-mark, SameMark, plain, Finds, finds-next}
 
 none-spelled : (w : List ℕ) (phrase : Phrase) → read_on w start ≡ dead → SpellsPhrase w phrase → ⊥
@@ -24,9 +24,6 @@ none-spelled w phrase d h = let e = ap (found phrases) (sym d) ∙ found-spelled
 abbrev pub Keeps : Scan → Reading → Type 0
 Keeps s dead = ⊥
 Keeps s (at p t f o) = (s.mode ≡ mode_of p t f o) × (s.depth ≡ depth_of o) × Finds s (state_marks (at p t f o))
-
-pub keeps-start : Keeps scan_start (start)
-keeps-start = (refl, refl, (refl, refl))
 
 -- a byte more is read
 pub read-more : (w : List ℕ) (i b : ℕ) → i < length w → b ≡ get_or w i 0 → read_on (take (i + 1) w) start ≡ step phrases (read_on (take i w) start) (symbol b)
@@ -181,19 +178,13 @@ dead-after w i j e h k =
     ∙ read-append (take (i + 1) w) (drop (i + 1) (take j w)) start
     ∙ ap (read_on (drop (i + 1) (take j w))) e ∙ read-dead (drop (i + 1) (take j w))
 
-whole-take : (w : List ℕ) → take (length w) w ≡ w
-whole-take w = take-length w
-
-either : (i j : ℕ) → (i < j) ⊎ (j ≤ i)
-either i j = cases_lt i j
-
 pub fault-scanned : (w : List ℕ) (i b : ℕ) (s : Scan) → i < length w → b ≡ get_or w i 0 → b < 256 → Keeps s (read_on (take i w) start) → StepsTo s i (symbol b) None
     → IsScanned w (Err i)
 fault-scanned w i b s h e small keep steps =
     let d : read_on (take (i + 1) w) start ≡ dead =
     read-more w i b h e ∙ fault w i b s (read_on (take i w) start) h small (written-so_far (take i w)) keep steps in
     let all : read_on w start ≡ dead =
-    ap (λ v. read_on v start) (sym (whole-take w)) ∙ dead-after w i (length w) d h (omega arith) in (
+    ap (λ v. read_on v start) (sym (take-length w)) ∙ dead-after w i (length w) d h (omega arith) in (
       (λ phrase k. none-spelled w phrase all k),
       record {
         within = omega arith;
@@ -202,7 +193,7 @@ fault-scanned w i b s h e small keep steps =
             ⊎_elim
             (λ after. absurd (not_live (read_on (take j w) start) (dead-after w i j d after k) (live-from_begins (take j w) begins)))
             (λ before. before)
-            (either i j);
+            (cases_lt i j);
       },
     )
 

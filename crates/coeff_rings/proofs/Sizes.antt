@@ -5,7 +5,7 @@ use Rattle.std.specs.Ordering.{int_eq}
 use Rattle.std.proofs.lemmas.Int.{ints}
 use Rattle.std.proofs.lemmas.Bool.{ltb-true, eqb-true, eq-eqb, le-ltb, both_ways, and_left, and_right, false_from_ne_true, cond-false}
 use Rattle.std.proofs.lemmas.Bool.Decides.{Decides-int_eq}
-use Rattle.std.proofs.lemmas.Option.{cond_some, none-some}
+use Rattle.std.proofs.lemmas.Option.{cond_some}
 use native.Mathlib.Nat.{dvd_trans, dvd-mul_right, zero-div, mul-one, one-mul, mul-pos, div-mul_cancel}
 use Rattle.sym_model.proofs.Ring.{negation-product}
 use Rattle.sym_model.specs.Expansion.{Fraction}
@@ -16,7 +16,7 @@ use Rattle.coeff_rings.specs.Checked.{where_fits, checked_i128, checked_fraction
 use Rattle.coeff_rings.specs.Proved.Divisors.{coprime_from, greatest_common_divisor-is, coprime-products, coprime_without, quotient_positive, divisor_positive}
 use Rattle.coeff_rings.specs.Proved.Fractions.{Stands-same, Stands-itself, Stands-lowest_terms, InLowestTerms-whole}
 use Rattle.coeff_rings.specs.Proved.FractionLaws.{num-zero, reciprocal-lowest}
-use Rattle.coeff_rings.specs.Proved.Whole.{where_fits-true, fits_from_test}
+use Rattle.coeff_rings.specs.Proved.Whole.{fits_from_test}
 use Rattle.coeff_rings.specs.Proved.FractionAnswers.{checked_fraction-held}
 
 -- ---- signs
@@ -81,9 +81,6 @@ pub checked_i128-some : (z w : ℤ) → Some w ≡ checked_i128 z → (w ≡ z) 
 checked_i128-some z w e =
     let parts = cond_some (fits_128_bits z) z w (sym e) in
     (sym parts.1, fits_from_test z parts.0)
-
-pub checked_i128-none : (z : ℤ) → None ≡ checked_i128 z → fits_128_bits z ≡ false
-checked_i128-none z e = false_from_ne_true (fits_128_bits z) (λ t. none-some z (e ∙ where_fits-true (fits_128_bits z) z t))
 
 -- ---- lowest terms of sizes
 

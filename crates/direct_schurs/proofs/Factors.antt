@@ -1,7 +1,7 @@
 -- Lists times the polynomials of a family, one part after another.
 use Rattle.std.proofs.Common.{◌≡◌, true, ℕ, ◌+◌, ◌<◌, ◌≤◌, List, [], ◌∷◌, ◌++◌, inl, inr, length, sym, ◌∙◌, ap, subst, refl, arith}
 use Rattle.sym_model.specs.Bases.{at_most_one, has}
-use Rattle.sym_model.specs.Partition.{ArePositive, size, rows}
+use Rattle.sym_model.specs.Partition.{size, rows}
 use Rattle.sym_model.specs.Polynomial.{Poly, In, one, times}
 use Rattle.sym_model.specs.Schur.{schur}
 use Rattle.sym_model.specs.Expansion.{schurs, Fraction, Terms, basis_polynomial, IsExpansionOf}
@@ -59,13 +59,6 @@ product_alone family parts start list n h e =
     expansion_respects list n (times (product_of family parts n) (one n)) (product_of family parts n) 1
     (times-one n (product_of family parts n) (In-product_over (polynomial_of family) parts n (λ k. In-family family n k)))
     (h (one n) 1 (In_one n) (subst (λ g. IsExpansionOf schurs start n g 1) (schur-nothing n) e))
-
--- the parts of a slice
-pub parts_behind : (parts : List ℕ) (k : ℕ) (rest : List ℕ) → k ∷ rest ≡ parts → ArePositive parts → size parts ≤ 512 → (0 < k) × (k ≤ 512) × ArePositive rest × (size rest ≤ 512)
-parts_behind parts k rest e p h =
-    let q : ArePositive (k ∷ rest) = subst ArePositive (sym e) p in
-    let s : size (k ∷ rest) ≤ 512 = subst (λ (l : List ℕ). size l ≤ 512) (sym e) h in
-    (q.0, omega arith, q.1, omega arith)
 
 -- ---- labels with room
 

@@ -66,8 +66,3 @@ one_line-some basis [] some = absurd (omega arith)
 one_line-some basis (t ∷ terms) some =
     append_assoc (signed_text basis true t) (later_text basis terms) (codes "\n")
     ∙ append_assoc (cond (is_negative t.1.0) (codes "-") []) (unsigned_text basis t) (later_text basis terms ++ codes "\n")
-
--- the line of no terms
-pub one_line-nothing : (basis : Basis) (terms : Terms (List ℕ)) → length terms ≡ 0 → codes "0\n" ≡ one_line basis terms
-one_line-nothing basis [] none = refl
-one_line-nothing basis (t ∷ terms) none = absurd (omega arith)

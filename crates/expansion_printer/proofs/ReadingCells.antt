@@ -1,7 +1,7 @@
 -- The letter that a column reading puts into a cell.
 use Rattle.std.proofs.Common.{zero-add, ◌≡◌, ◌≢◌, ℕ, zero, suc, ◌+◌, ◌-◌, ◌≤◌, ◌<◌, inl, inr, ◌⊎◌, max, length, arith, Bool, true, false, ◌&&◌, List, [], ◌∷◌, ◌++◌, refl, sym, ◌∙◌, ap, ap₂, map, drop, cond, ◌==◌, nat_lt, nat_le, reverse}
 use Rattle.std.specs.Prelude.{slice_index}
-use Rattle.std.proofs.lemmas.Bool.{eq-eqb, ne_eqb, cases_eq, cond-true, cond-false, lt-ltb, le-leb, and_from}
+use Rattle.std.proofs.lemmas.Bool.{eq-eqb, ne_eqb, cases_eq, cond-true, cond-false, lt-ltb, le-leb, and_from, and_right}
 use Rattle.std.proofs.lemmas.Bool.Decides.{nat_tests}
 use Rattle.std.proofs.lemmas.List.{reverse-append, length-map, get_or-drop}
 use Rattle.sym_model.specs.Sum.{each, select}
@@ -51,17 +51,9 @@ abbrev NotIn : ℕ → List (ℕ × ℕ) → Type 0
 NotIn column [] = Unit {0}
 NotIn column (c ∷ cells) = (c.1 ≢ column) × NotIn column cells
 
-and_not : (a b : Bool) → b ≡ false → (a && b) ≡ false
-and_not true b h = h
-and_not false b h = refl
-
 letter-nothing : (row column : ℕ) (cells : List (ℕ × ℕ)) → letter_of_cell row column cells [] ≡ 0
 letter-nothing row column [] = refl
 letter-nothing row column (c ∷ cells) = refl
-
-drop-none : (n : ℕ) → drop {A = ℕ} n [] ≡ []
-drop-none zero = refl
-drop-none (suc n) = refl
 
 -- cells of other columns are passed over
 letter-past : (row column : ℕ) (cells others : List (ℕ × ℕ)) (w : List ℕ) → NotIn column cells
@@ -70,7 +62,7 @@ letter-past row column [] others w n = refl
 letter-past row column (c ∷ cells) others [] n =
     sym (letter-nothing row column others)
 letter-past row column (c ∷ cells) others (a ∷ w) n =
-    cond-false ((c.0 == row) && (c.1 == column)) a (letter_of_cell row column (cells ++ others) w) (and_not (c.0 == row) (c.1 == column) (ne_eqb c.1 column n.0))
+    cond-false ((c.0 == row) && (c.1 == column)) a (letter_of_cell row column (cells ++ others) w) (and_right (c.0 == row) (c.1 == column) (ne_eqb c.1 column n.0))
     ∙ letter-past row column cells others w n.1
 
 not_in-column : (column j : ℕ) (is : List ℕ) → j ≢ column → NotIn column (map (λ (i : ℕ). (i, j)) is)
@@ -113,7 +105,7 @@ in-column row column test others a (suc m) high low h w =
     by false (inl e) t w ih = let clash : true ≡ false = sym h ∙ ap test (sym e) ∙ t in cc
     by false (inr n) t w ih =
         ih (omega arith) w ∙ ap (slice_index w) (sym (zero-add (rows_above row test (after (a + 1) m)))
-        ∙ ap (λ b. counted b + rows_above row test (after (a + 1) m)) (sym (and_not (nat_lt (a + 1) row) false refl)))
+        ∙ ap (λ b. counted b + rows_above row test (after (a + 1) m)) (sym (and_right (nat_lt (a + 1) row) false refl)))
     by true c t [] ih = refl
     by true (inl e) t (x ∷ w) ih =
         cond-true ((a + 1 == row) && (column == column)) x _ (and_from (a + 1 == row) (column == column) (eq-eqb (a + 1) row e) (eq-eqb column column refl))

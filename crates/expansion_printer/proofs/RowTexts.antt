@@ -1,5 +1,5 @@
 -- Texts of rows, entry by entry.
-use Rattle.std.proofs.Common.{◌≡◌, ℕ, zero, suc, ◌+◌, ◌-◌, ◌≤◌, ◌<◌, arith, List, [], ◌∷◌, ◌++◌, refl, sym, ◌∙◌, ap, map, cond, ◌==◌}
+use Rattle.std.proofs.Common.{◌≡◌, ℕ, zero, suc, ◌+◌, ◌-◌, ◌<◌, arith, List, [], ◌∷◌, ◌++◌, refl, sym, ◌∙◌, ap, map, cond, ◌==◌}
 use Rattle.std.specs.Prelude.{codes, decimal}
 use Rattle.std.proofs.lemmas.List.{length-map, map-append}
 use Rattle.std.proofs.lemmas.Simd.{map-map}
@@ -30,13 +30,6 @@ pieces-more separator text a at next e =
 pub spaced-map : (f : ℕ → ℕ) (columns : List ℕ) → separated (codes " ") (map (λ column. decimal (f column)) columns) ≡ spaced (map f columns)
 spaced-map f columns = ap (separated (codes " ")) (sym (map-map decimal f columns))
 
--- a row without cells
-pub row_text-none : (f : ℕ → ℕ → ℕ) (outer inner : List ℕ) (row : ℕ) → part outer row ≤ part inner row
-    → codes "." ≡ row_text (row_by f outer inner row)
-row_text-none f outer inner row none =
-    let e : part outer row - part inner row ≡ 0 = omega arith in
-    sym (ap (λ k. row_text (map (f row) (after (part inner row) k))) e)
-
 -- a row with cells
 pub row_text-some : (f : ℕ → ℕ → ℕ) (outer inner : List ℕ) (row : ℕ) → part inner row < part outer row
     → spaced (row_by f outer inner row) ≡ row_text (row_by f outer inner row)
@@ -45,11 +38,6 @@ row_text-some f outer inner row some = by (part outer row - part inner row) (ome
     by : (k : ℕ) → 0 < k → spaced (map (f row) (after (part inner row) k)) ≡ row_text (map (f row) (after (part inner row) k))
     by zero h = absurd (omega arith)
     by (suc k) h = refl
-
--- a tableau without rows
-pub tableau_text-none : (f : ℕ → ℕ → ℕ) (outer inner : List ℕ) → rows outer ≡ 0 → codes "." ≡ tableau_text (rows_by f outer inner)
-tableau_text-none f [] inner none = refl
-tableau_text-none f (a ∷ outer) inner none = absurd (omega arith)
 
 -- a tableau with rows, a text for each number from 1 on
 pub tableau_text-some : (f : ℕ → ℕ → ℕ) (outer inner : List ℕ) (k : ℕ) → k ≡ rows outer → 0 < k

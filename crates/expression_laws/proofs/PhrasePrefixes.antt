@@ -1,6 +1,6 @@
 -- A text that is read without a fault begins an expression, and is one where nothing is left to come.
 use Rattle.std.proofs.Common.{◌≡◌, ℕ, ◌==◌, nat_le, Bool, true, false, cond, ◌&&◌, List, [], ◌∷◌, ◌++◌, length-append, refl, sym, ap, ◌∙◌, subst, append_assoc, arith, Some}
-use Rattle.std.proofs.lemmas.Bool.{leb-true, eqb-true}
+use Rattle.std.proofs.lemmas.Bool.{leb-true, eqb-true, and_parts}
 use Rattle.std.proofs.lemmas.List.{append-nil}
 use Rattle.std.specs.Prelude.{codes}
 use Rattle.sym_model.specs.Expansion.{Basis, monomials, elementaries, completes, power_sums, schurs}
@@ -31,13 +31,8 @@ choose b false s t h k = k
 same : (b k : ℕ) → b == k ≡ true → b ≡ k
 same b k h = eqb-true b k h
 
-both : (x y : Bool) → (x && y) ≡ true → (x ≡ true) × (y ≡ true)
-both true true h = (refl, refl)
-both true false h = cc
-both false y h = cc
-
 digit_range : (b : ℕ) → (nat_le 48 b && nat_le b 57) ≡ true → IsDigit b
-digit_range b h = let p = both (nat_le 48 b) (nat_le b 57) h in (leb-true 48 b p.0, leb-true b 57 p.1)
+digit_range b h = let p = and_parts (nat_le 48 b) (nat_le b 57) h in (leb-true 48 b p.0, leb-true b 57 p.1)
 
 one_letter : (b k : ℕ) (l : List ℕ) → l ≡ k ∷ [] → b ≡ k → l ≡ b ∷ []
 one_letter b k l h e = cc

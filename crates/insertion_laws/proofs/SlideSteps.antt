@@ -18,12 +18,6 @@ rows_at inner n m left right row below =
 abbrev pub moved : List ℕ → List ℕ → List ℕ → List ℕ → ℕ
 moved inner left right row = moves_left right (drop (place_below inner left) row)
 
-pub rows_at-start :
-    (inner left right row : List ℕ) (below : List (List ℕ))
-    → slid_rows inner left right (row ∷ below)
-    ≡ rows_at inner (place_below inner left + moved inner left right row) (moved inner left right row) left right row below
-rows_at-start inner left right row below = refl
-
 rows_at-next :
     (inner : List ℕ) (n k m a : ℕ) (left right row : List ℕ) (below : List (List ℕ)) → n ≡ k
     → rows_at inner n (suc m) left (a ∷ right) row below ≡ rows_at inner k m (left ++ a ∷ []) right row below

@@ -1,5 +1,6 @@
 -- The partitions inside a partition: which they are, and that each stands once.
 use Rattle.std.proofs.Common.{◌≡◌, ℕ, zero, suc, ◌+◌, ◌-◌, ◌≤◌, List, [], ◌∷◌, ◌++◌, append_assoc, append-nil, map, length, get_or, min, refl, sym, ap, ap₂, ◌∙◌, subst, inl, inr, arith}
+use Rattle.std.proofs.lemmas.List.{map-append}
 use Rattle.sym_model.specs.Sum.{Among, Once, each}
 use Rattle.sym_model.specs.Partition.{IsPartition, ArePositive, Falls, Holds, part, columns, size, after, without_last_zeros}
 use Rattle.sym_model.specs.Polynomial.{resize}
@@ -10,7 +11,7 @@ use Rattle.lr_product.proofs.GoodCounts.{contains-tells}
 use Rattle.partitions.specs.Limits.{IsWithinLimits}
 use Rattle.alternant_laws.proofs.FallingAlternants.{resize-without_last_zeros, without_last_zeros-resize, length-without_last_zeros}
 use Rattle.schur_laws.specs.InnerShapes.{up_to, shapes_inside}
-use Rattle.schur_laws.proofs.Coproducts.{map-append, map-map}
+use Rattle.schur_laws.proofs.Coproducts.{map-map}
 use Rattle.schur_laws.proofs.InnerShapeLists.{inside-tells, same-without_last_zeros, partition_inside}
 
 -- the partitions inside

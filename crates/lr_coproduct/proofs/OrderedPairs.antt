@@ -1,5 +1,5 @@
 -- Terms labelled by pairs, listed in the printed order: the terms behind one more first partition.
-use Rattle.std.proofs.Common.{◌≡◌, ℕ, zero, suc, ◌+◌, ◌<◌, true, ◌&&◌, List, [], ◌∷◌, ◌++◌, append_assoc, length, take, refl, sym, ap, ◌∙◌, ◌⊎◌, inl, inr, subst, arith, ℤ, ◌+ℤ◌, ◌*ℤ◌}
+use Rattle.std.proofs.Common.{◌≡◌, ℕ, ◌+◌, true, ◌&&◌, List, [], ◌∷◌, ◌++◌, append_assoc, take, refl, sym, ap, ◌∙◌, ◌⊎◌, inl, inr, subst, arith, ℤ, ◌+ℤ◌, ◌*ℤ◌}
 use Rattle.std.specs.Prelude.{Option, Some, None, slice_get}
 use Rattle.std.specs.Option.{SomeIff}
 use Rattle.std.specs.declared.cmp.Ordering.{Ordering}
@@ -118,11 +118,6 @@ terms_pushed {L} old new label c e = ap (terms_of whole) e ∙ map-append (λ (p
 pub unwrapped : {A : Type 0} (P : Type 0) (o : Option A) (x v : A) → o ≡ Some x → SomeIff o P v → x ≡ v
 unwrapped P None x v e h = cc
 unwrapped P (Some y) x v e h = let same : y ≡ x = cc in sym same ∙ h.1
-
-pub get_there : {A : Type 0} (xs : List A) (i : ℕ) → i < length xs → slice_get xs i ≡ None → ⊥
-get_there [] i h e = absurd (omega arith)
-get_there (x ∷ xs) zero h e = cc
-get_there (x ∷ xs) (suc i) h e = get_there xs i (omega arith) e
 
 pub found_at : (list : Terms (List ℕ)) (i : ℕ) (label : List ℕ) (c x : ℤ) → Some (label, whole c) ≡ slice_get list i → ((l : List ℕ) (z : ℤ) → slice_get list i ≡ Some (l, whole z) → x ≡ z) → slice_get list i ≡ Some (label, whole x)
 found_at list i label c x e f =

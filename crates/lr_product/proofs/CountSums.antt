@@ -1,5 +1,5 @@
 -- Counts that are added to a table: what stays small, and what a refusal tells.
-use Rattle.std.proofs.Common.{◌≡◌, ◌≤◌, ◌<◌, ◌^◌, ◌⊎◌, inl, inr, Bool, true, false, cond, ℕ, List, [], ◌∷◌, ◌++◌, refl, sym, ◌∙◌, ap, ap₂, subst, arith, ℤ, pos, negsuc, ◌+ℤ◌, ◌*ℤ◌, Option, Some, None}
+use Rattle.std.proofs.Common.{◌≡◌, ◌≤◌, ◌<◌, ◌^◌, ◌⊎◌, inl, inr, Bool, true, false, cond, ℕ, List, [], ◌∷◌, ◌++◌, refl, sym, ◌∙◌, ap, ap₂, arith, ℤ, pos, negsuc, ◌+ℤ◌, ◌*ℤ◌, Option, Some, None}
 use Rattle.std.specs.Prelude.{◌≤ℤ◌, ◌<ℤ◌, nat_eq, FitsSigned}
 use Rattle.std.specs.Int.{w128}
 use Rattle.std.specs.Cmp.Lexicographic.{pointwise}
@@ -121,9 +121,6 @@ module _ (old new : Terms (List ℕ)) (label : List ℕ) (c d z : ℤ) (is : IsT
 
 pub small_same : (xs ys : WholeTerms) → Same xs ys → AreSmallCounts xs → AreSmallCounts ys
 small_same xs ys e small parts = let s = small parts in let x = e parts in (omega (arith, ints, s.0), omega (arith, ints, s.1))
-
-pub small_none : (terms : WholeTerms) → terms ≡ [] → AreSmallCounts terms
-small_none terms e = subst AreSmallCounts (sym e) (λ parts. (omega (arith, ints), omega (arith, ints)))
 
 -- where a label is reached, the whole list reaches it
 pub Reaches-more : (k c : ℕ) (xs ys : WholeTerms) → AreCounts ys → Reaches k c xs → Reaches k c (xs ++ ys)

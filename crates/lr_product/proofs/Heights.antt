@@ -150,37 +150,3 @@ column-none outer inner f c = past (columns outer) (column_lines outer inner) (l
 pub column-all : (lines : List (List Bool)) → drop 0 lines ≡ lines
 column-all [] = refl
 column-all (l ∷ lines) = refl
-
--- a line row by row
-pub column_line-step : (row column : ℕ) (outer inner : List ℕ) → row < length outer
-    → column_line column (drop row outer) (drop row inner) ≡ cond (nat_le column (get_or outer row 0)) (nat_lt (get_or inner row 0) column ∷ []) [] ++ column_line column (drop (row + 1) outer) (drop (row + 1) inner)
-column_line-step row column [] inner h = absurd (omega arith)
-column_line-step zero column (a ∷ outer) [] h = ap (λ l. cond (nat_le column a) (nat_lt 0 column ∷ []) [] ++ column_line column l []) (all outer)
-  where
-    all : (l : List ℕ) → l ≡ drop 0 l
-    all [] = refl
-    all (x ∷ l) = refl
-column_line-step zero column (a ∷ outer) (b ∷ inner) h = ap₂ (λ (l m : List ℕ). cond (nat_le column a) (nat_lt b column ∷ []) [] ++ column_line column l m) (all outer) refl
-  where
-    all : (l : List ℕ) → l ≡ drop 0 l
-    all [] = refl
-    all (x ∷ l) = refl
-column_line-step (suc row) column (a ∷ outer) [] h =
-    let e : row + 1 ≡ suc row = omega arith in
-    ap (column_line column (drop row outer)) (nothing row) ∙ column_line-step row column outer [] (omega arith)
-    ∙ ap₂ (λ (u : ℕ) (l : List ℕ). cond (nat_le column (get_or outer row 0)) (nat_lt u column ∷ []) [] ++ column_line column (drop (row + 1) outer) l) (none row) (sym (nothing (row + 1)) ∙ more (row + 1))
-    ∙ ap (λ k. cond (nat_le column (get_or outer row 0)) (nat_lt 0 column ∷ []) [] ++ column_line column (drop k (a ∷ outer)) (drop {A = ℕ} k [])) (let q : suc (row + 1) ≡ suc row + 1 = omega arith in q)
-  where
-    nothing : (k : ℕ) → [] ≡ drop {A = ℕ} k []
-    nothing zero = refl
-    nothing (suc k) = refl
-
-    more : (k : ℕ) → [] ≡ drop {A = ℕ} (suc k) []
-    more k = refl
-
-    none : (k : ℕ) → get_or {A = ℕ} [] k 0 ≡ 0
-    none zero = refl
-    none (suc k) = refl
-column_line-step (suc row) column (a ∷ outer) (b ∷ inner) h =
-    column_line-step row column outer inner (omega arith)
-    ∙ ap (λ k. cond (nat_le column (get_or outer row 0)) (nat_lt (get_or inner row 0) column ∷ []) [] ++ column_line column (drop k (a ∷ outer)) (drop k (b ∷ inner))) (let q : suc (row + 1) ≡ suc row + 1 = omega arith in q)

@@ -1,5 +1,5 @@
 -- A factor with more rows than there are variables leaves nothing of the product.
-use Rattle.std.proofs.Common.{◌≡◌, ◌≤◌, ◌<◌, ◌+◌, inl, inr, ℕ, max, List, [], ◌∷◌, map, true, false, refl, sym, ◌∙◌, ap, arith, ℤ, pos, Option, Some, None}
+use Rattle.std.proofs.Common.{◌≡◌, ◌≤◌, ◌<◌, ◌+◌, inl, inr, ℕ, max, List, [], ◌∷◌, map, true, false, refl, ◌∙◌, ap, arith, ℤ, pos, Option, Some, None}
 use Rattle.std.specs.Prelude.{IsTrue}
 use Rattle.std.specs.Option.{unwrap_or}
 use Rattle.std.proofs.lemmas.Int.{ints}
@@ -16,7 +16,6 @@ use Rattle.sym_model.specs.Target.{Meets, schur_product}
 use Rattle.sym_model.specs.LargeAnswer.{HasPastCoefficient, is_past}
 use Rattle.sym_model.proofs.Polynomials.{at_only, coefficient_pair, pair_times, pair_zero, Same_refl, Same_sym, times_respects}
 use Rattle.sym_model.proofs.WholeTerms.{represents-whole}
-use Rattle.product_laws.specs.CountedProducts.{IsShownIn}
 use Rattle.product_laws.proofs.Expanding.{product_nothing}
 
 -- some factor has more than k rows
@@ -54,14 +53,3 @@ nothing_fits (Some n) k factors e are h past =
   where
     small : (z : ℤ) → z ≡ pos 0 → is_past z ≡ true → ⊥
     small z e h = let none : is_past z ≡ is_past (pos 0) = ap is_past e in cc
-
--- the variables that are taken show the product
-pub shown : (given : Option ℕ) (k n : ℕ) → k ≡ unwrap_or given (max n 1) → IsShownIn given n k
-shown None k n e = omega arith
-shown (Some m) k n e = sym e
-
-pub shows_all : (k : ℕ) (factors : List (List ℕ)) → (HasLonger k factors → ⊥) → (parts : List ℕ) → Among parts factors → rows parts ≤ k
-shows_all k factors h parts m = not_more k (rows parts) (λ l. h (parts, m, l))
-  where
-    not_more : (a b : ℕ) → (a < b → ⊥) → b ≤ a
-    not_more a b g = omega (arith, g)

@@ -1,5 +1,5 @@
 -- The product of the first factors as a list, and what it is with one factor more.
-use Rattle.std.proofs.Common.{◌≡◌, ◌≤◌, ◌<◌, ◌+◌, ◌^◌, ◌⊎◌, inl, inr, Bool, ℕ, zero, suc, List, [], ◌∷◌, ◌++◌, append_assoc, append-nil, length, map, take, drop, refl, sym, ◌∙◌, ap, subst, arith, ℤ, pos, negsuc, ◌*ℤ◌, Option, Some, None}
+use Rattle.std.proofs.Common.{◌≡◌, ◌≤◌, ◌<◌, ◌+◌, ◌^◌, inl, inr, Bool, ℕ, zero, suc, List, [], ◌∷◌, ◌++◌, append_assoc, append-nil, length, map, take, drop, refl, sym, ◌∙◌, ap, subst, arith, ℤ, pos, negsuc, ◌*ℤ◌, Option, Some, None}
 use Rattle.std.specs.Prelude.{◌≤ℤ◌, ◌<ℤ◌, slice_get}
 use Rattle.std.proofs.lemmas.Bool.{and_parts}
 use Rattle.std.proofs.lemmas.Int.{ints}
@@ -15,7 +15,7 @@ use Rattle.sym_model.specs.Expansion.{Fraction, Terms}
 use Rattle.sym_model.specs.WholeTerms.{WholeTerms, AreWhole, combined, numerators}
 use Rattle.sym_model.specs.Target.{schur_product, ExpandsInSchurs, classical_product}
 use Rattle.sym_model.proofs.Ring.{one-product}
-use Rattle.sym_model.proofs.Sums.{total_ext, Among-map, Among_from_map, Among_from_append, Among-append_left, Among-append_right}
+use Rattle.sym_model.proofs.Sums.{total_ext, Among-map, Among_from_map, Among-append_left, Among-append_right}
 use Rattle.sym_model.proofs.Orders.{printed_order-total}
 use Rattle.sym_model.proofs.CanonicalLists.{each_term-among, is_ordered-tells, labels-once}
 use Rattle.sym_model.proofs.Polynomials.{pair_each, pair_scale, pair_determined, same_from_pair, Same_sym, Same_trans}
@@ -345,24 +345,11 @@ large_at k i factors next product f one at few h r = by (take i factors) refl h
 
 -- ---- the rows of the factors so far
 
-pub few_next : (k i : ℕ) (factors : List (List ℕ)) (next : List ℕ) → slice_get factors i ≡ Some next → rows next ≤ k
-    → ((parts : List ℕ) → Among parts (take i factors) → rows parts ≤ k) → (parts : List ℕ) → Among parts (take (i + 1) factors) → rows parts ≤ k
-few_next k i factors next at h few parts m = by (Among_from_append parts (take i factors) (next ∷ []) (subst (λ l. Among parts l) (take_next factors i next at) m))
-  where
-    by : Among parts (take i factors) ⊎ Among parts (next ∷ []) → rows parts ≤ k
-    by (inl a) = few parts a
-    by (inr (inl e)) = subst (λ l. rows l ≤ k) (sym e) h
-    by (inr (inr n)) = absurd n
-
 pub take_all : (i : ℕ) (xs : List (List ℕ)) → length xs ≤ i → take i xs ≡ xs
 take_all zero [] h = refl
 take_all (suc i) [] h = refl
 take_all zero (x ∷ xs) h = absurd (omega arith)
 take_all (suc i) (x ∷ xs) h = ap (λ l. x ∷ l) (take_all i xs (omega arith))
-
-pub few_all : (k i : ℕ) (factors : List (List ℕ)) → length factors ≤ i → ((parts : List ℕ) → Among parts (take i factors) → rows parts ≤ k)
-    → (parts : List ℕ) → Among parts factors → rows parts ≤ k
-few_all k i factors h few parts m = few parts (subst (λ l. Among parts l) (sym (take_all i factors h)) m)
 
 -- ---- the first two places
 
@@ -403,7 +390,3 @@ pub partial_first : (k : ℕ) (factors : List (List ℕ)) (left right : List ℕ
 partial_first k factors left right product f b few w c e small =
     subst (λ l. IsPartial k l product) (sym b.taken)
     (partial_two k left right product (f.small.partitions left b.left_among) (f.small.partitions right b.right_among) (few left b.left_among) w c e small)
-
--- the product of all factors
-pub partial_all : (k i : ℕ) (factors : List (List ℕ)) (product : Terms (List ℕ)) → length factors ≤ i → IsPartial k (take i factors) product → IsPartial k factors product
-partial_all k i factors product h p = subst (λ l. IsPartial k l product) (take_all i factors h) p

@@ -1,6 +1,6 @@
 -- Letters that lead to no whole column, and sums that still fall where a number is raised.
 use Rattle.std.proofs.Common.{◌≡◌, ℕ, zero, suc, ◌+◌, ◌-◌, ◌<◌, ◌≤◌, ◌==◌, ◌⊎◌, inl, inr, nat_le, nat_lt, Bool, true, false, cond, ◌&&◌, ◌||◌, List, [], ◌∷◌, ◌++◌, length, take, drop, get_or, length-append, refl, sym, ap, ap₂, ◌∙◌, arith}
-use Rattle.std.proofs.lemmas.Bool.{ne_eqb, lt-leb, le-leb, lt-ltb, le-ltb, cases_lt, and_parts, and_from, or_parts, or_cases, eqb-true, leb-true, leb-false, ltb-true, ltb-false, eqb-false}
+use Rattle.std.proofs.lemmas.Bool.{ne_eqb, lt-leb, le-leb, lt-ltb, le-ltb, cases_lt, and_parts, and_from, or_parts, or_cases, eqb-true, leb-true, leb-false, ltb-true, ltb-false, eqb-false, and_cases}
 use Rattle.sym_model.specs.GoodTableau.{is_falling}
 use Rattle.tableau_laws.specs.Grid.{pass_by_place}
 use Rattle.lr_product.specs.WeighedSum.{sum_over, at_state, VanishesOutside}
@@ -89,16 +89,12 @@ not_within (suc i) (a ∷ ν) (b ∷ bound) h g = by (nat_le a b) (not_within i 
     by true e = e
     by false e = refl
 
-fails_and : (x y : Bool) → x && y ≡ false → (x ≡ false) ⊎ (y ≡ false)
-fails_and true y h = inr h
-fails_and false y h = inl refl
-
 -- a letter whose number can't rise leads to nothing
 pub stuck : (kept : Bool) (n : ℕ) (bound : List ℕ) (f : List ℕ → List ℕ → ℕ) (i : ℕ) (s : List ℕ) → VanishesOutside bound f → i < n → n ≤ length s → length bound ≤ n
     → can_rise bound i s ≡ false → Hopeless n f (suc i) (raised (suc i) s ++ mark kept (suc i))
 stuck kept n bound f i s vanishes h l m e t long same =
     by
-    (fails_and ((i == 0) || nat_lt (get_or s i 0) (get_or s (i - 1) 0)) (nat_le (length bound) i || nat_lt (get_or s i 0) (get_or bound i 0)) e)
+    (and_cases ((i == 0) || nat_lt (get_or s i 0) (get_or s (i - 1) 0)) (nat_le (length bound) i || nat_lt (get_or s i 0) (get_or bound i 0)) e)
   where
     here : get_or t i 0 ≡ get_or s i 0 + 1
     here = same i (omega arith) ∙ get-append (raised (suc i) s) (mark kept (suc i)) i (let r = length-raised (suc i) s in omega arith) ∙ get-raised_at i s (omega arith)

@@ -1,6 +1,7 @@
 -- One round of adding columns.
 use Rattle.std.proofs.Common.{◌≡◌, ℕ, zero, suc, ◌+◌, ◌-◌, ◌^◌, ◌<◌, ◌≤◌, ◌⊎◌, inl, inr, nat_le, nat_lt, Bool, true, false, ◌&&◌, cond, List, [], ◌∷◌, ◌++◌, length, take, drop, refl, sym, ap, ap₂, ◌∙◌, arith}
 use Rattle.std.proofs.lemmas.Bool.{cases_lt, lt-ltb, le-ltb, lt-leb, le-leb}
+use Rattle.std.proofs.Math.Seq.{take-length}
 use Rattle.sym_model.specs.Partition.{Falls, IsPartition, size, columns}
 use Rattle.sym_model.specs.Polynomial.{join, resize}
 use Rattle.sym_model.specs.Schur.{contains, content}
@@ -159,13 +160,9 @@ last_reached n start outer inner es at c room z =
     let s = places-lines outer inner c in
     weighed-weaker n _ 4096 es (omega arith) z
 
-take_whole : (s : List ℕ) → take (length s) s ≡ s
-take_whole [] = refl
-take_whole (a ∷ s) = ap (λ l. a ∷ l) (take_whole s)
-
 drop_whole : (s : List ℕ) → drop (length s) s ≡ []
 drop_whole [] = refl
 drop_whole (a ∷ s) = drop_whole s
 
 pub at_whole : (n : ℕ) (f : List ℕ → List ℕ → ℕ) (s : List ℕ) → length s ≡ n → at_state n f s ≡ f s []
-at_whole n f s e = ap₂ f (ap (λ k. take k s) (sym e) ∙ take_whole s) (ap (λ k. drop k s) (sym e) ∙ drop_whole s)
+at_whole n f s e = ap₂ f (ap (λ k. take k s) (sym e) ∙ take-length s) (ap (λ k. drop k s) (sym e) ∙ drop_whole s)

@@ -1,6 +1,6 @@
 -- What the test of a permutation's label tells.
-use Rattle.std.proofs.Common.{◌≡◌, ℕ, ◌≤◌, Bool, true, false, ◌&&◌, ◌||◌, not, List, [], ◌∷◌, length, refl, sym, ◌∙◌, inl, inr, arith, leb}
-use Rattle.std.proofs.lemmas.Bool.{and_parts, cases_eq, leb-true}
+use Rattle.std.proofs.Common.{◌≡◌, ℕ, ◌≤◌, true, false, ◌&&◌, not, List, [], ◌∷◌, length, sym, ◌∙◌, inl, inr, arith, leb}
+use Rattle.std.proofs.lemmas.Bool.{and_parts, cases_eq, leb-true, or_parts, not-true}
 use Rattle.sym_model.specs.Sum.{Among, Once}
 use Rattle.sym_model.specs.Bases.{has}
 use Rattle.sym_model.specs.BetaList.{has_equal_entries}
@@ -23,19 +23,11 @@ has_among k [] m = absurd m
 has_among k (a ∷ w) (inl e) = has_here k a w (sym e)
 has_among k (a ∷ w) (inr m) = elim (cases_eq a k) [ inl e ↦ has_here k a w e | inr n ↦ has_past k a w n ∙ has_among k w m ]
 
-or_false : (a b : Bool) → (a || b) ≡ false → (a ≡ false) × (b ≡ false)
-or_false true b e = absurd (cc)
-or_false false b e = (refl, e)
-
 once_tells : (w : List ℕ) → has_equal_entries w ≡ false → Once w
 once_tells [] h = tt
 once_tells (a ∷ w) h =
-    let p = or_false (has a w) (has_equal_entries w) h in
+    let p = or_parts (has a w) (has_equal_entries w) h in
     (λ m. let t = has_among a w m in let f = p.0 in cc, once_tells w p.1)
-
-not_false : (b : Bool) → not b ≡ true → b ≡ false
-not_false true h = sym h
-not_false false h = refl
 
 pub label_one_line : (w : List ℕ) → is_permutation_label w ≡ true → IsOneLine w
 label_one_line w h =
@@ -43,4 +35,4 @@ label_one_line w h =
     let b = (and_parts _ _ a).0 in
     let c = (and_parts _ _ b).0 in
     let d = and_parts (are_letters (length w) w) (not (has_equal_entries w)) c in
-    record { letters = letters_tell (length w) w d.0; once = once_tells w (not_false (has_equal_entries w) d.1) }
+    record { letters = letters_tell (length w) w d.0; once = once_tells w (not-true (has_equal_entries w) d.1) }

@@ -32,13 +32,6 @@ list_next done v most here old cur new next shown h a b d e =
     let s : (done + v) * most ≡ done * most + v * most = omega arith in
     omega arith
 
-pub list_large : (done v most here old cur all limit : ℕ) → here ≤ most → cur ≤ old + done * most → limit ≤ cur + v * here → done + v ≤ all → limit ≤ old + all * most
-list_large done v most here old cur all limit h a b d =
-    let p = mul-le-mul_left v h in
-    let q = mul-le-mul_left most d in
-    let s : most * (done + v) ≡ done * most + v * most = omega arith in
-    omega arith
-
 pub abs_negated : (z : ℤ) → nat_abs (neg_ℤ z) ≡ nat_abs z
 abs_negated (pos a) = omega (arith, ints)
 abs_negated (negsuc a) = omega (arith, ints)

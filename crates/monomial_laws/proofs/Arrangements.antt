@@ -29,13 +29,6 @@ sorts_to_both l r s = cond (same (sorted_parts s.0) l && same (sorted_parts s.1)
 count : (l r ν : List ℕ) → pos (arrangements l r ν) ≡ total (sorts_to_both l r) (splits ν)
 count l r ν = length-select (λ (s : List ℕ × List ℕ). same (sorted_parts s.0) l && same (sorted_parts s.1) r) (splits ν)
 
-pub arrangements-none : (l r : List ℕ) → arrangements l r [] ≡ cond (same [] l && same [] r) 1 0
-arrangements-none l r = by (same [] l && same [] r)
-  where
-    by : (b : Bool) → length {A = List ℕ × List ℕ} (cond b (([], []) ∷ []) []) ≡ cond b 1 0
-    by true = refl
-    by false = refl
-
 -- b put into a partition gives l where b is a part of l, or 0, and the partition is what is left
 inserted : (b : ℕ) (p l : List ℕ) → IsPartition p → IsPartition l → same (insert_part b p) l ≡ (has b (0 ∷ l) && same p (without_one b l))
 inserted zero p l h k =

@@ -1,11 +1,8 @@
 -- A list with whole coefficients, each divided by D (specs/ExpressionTerms).
 --     value-divided           its value, labels read as any polynomials
 --     expansion_divided       the fractions stand for the list divided by D
---     divided-bound           a bound of the whole coefficient is one of the fraction
-use Rattle.std.proofs.Common.{◌≡◌, ◌⊎◌, ℕ, ◌*◌, ◌/◌, ◌%◌, ◌<◌, ◌≤◌, cond, List, [], ◌∷◌, map, sym, ◌∙◌, ap, ap₂, subst, refl, inl, inr, arith, ℤ, pos, ◌+ℤ◌, ◌*ℤ◌}
-use Rattle.std.specs.Prelude.{nat_abs}
+use Rattle.std.proofs.Common.{◌≡◌, ◌⊎◌, ℕ, ◌*◌, ◌/◌, ◌%◌, ◌<◌, cond, List, [], ◌∷◌, map, sym, ◌∙◌, ap, ap₂, subst, refl, inl, inr, arith, ℤ, pos, ◌+ℤ◌, ◌*ℤ◌}
 use Rattle.std.specs.Int.{◌∣◌}
-use Rattle.std.proofs.lemmas.Int.{unsigned_abs-mul}
 use Rattle.std.proofs.Math.Nat.{div-mul_cancel, dvd-mul_right, dvd-mul_left}
 use Rattle.std.proofs.lemmas.Nat.Gcd.{dvd_trans, dvd_of_mod-eq-zero}
 use Rattle.sym_model.specs.Sum.{Among, Once}
@@ -20,7 +17,6 @@ use Rattle.sym_model.proofs.Exponents.{same_from, same_apart, same_or_not}
 use Rattle.sym_model.proofs.Polynomials.{coefficient_scale, pair_scale, pair_determined, Same_trans, Same_sym, scale_respects}
 use Rattle.sym_model.proofs.WholeTerms.{combined_respects, coefficient-combined}
 use Rattle.monomial_laws.proofs.ExpressionTerms.{list-scale}
-use native.Mathlib.Nat.{mul-le-mul_left}
 use lib.IntN.{+ℤ_idl, +ℤ_idr, *ℤ_comm, *ℤ-zero}
 
 -- the labels of a list of terms
@@ -158,15 +154,3 @@ expansion_divided D whole terms f d h n =
     }
 
 -- ---- bounds
-
--- a fraction that is c/D, by its size
-pub divided-size : (num c : ℤ) (den D : ℕ) → num *ℤ pos D ≡ c *ℤ pos den → nat_abs num * D ≡ nat_abs c * den
-divided-size num c den D e = sym (unsigned_abs-mul num (pos D)) ∙ ap nat_abs e ∙ unsigned_abs-mul c (pos den)
-
--- a bound of c is one of the fraction times D
-pub divided-bound : (num c : ℤ) (den D F B : ℕ) → num *ℤ pos D ≡ c *ℤ pos den → nat_abs c * F ≤ B → nat_abs num * D * F ≤ B * den
-divided-bound num c den D F B e h =
-    let size = divided-size num c den D e in
-    let m = mul-le-mul_left den h in
-    let s = ap (λ k. k * F) size in
-    omega arith

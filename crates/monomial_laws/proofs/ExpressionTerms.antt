@@ -7,7 +7,7 @@ use Rattle.std.proofs.Common.{◌≡◌, ℕ, ◌/◌, List, [], ◌∷◌, sym,
 use Rattle.sym_model.specs.Polynomial.{Poly, coefficient, Same, one, pair, plus, scale, negate, times}
 use Rattle.sym_model.specs.Partition.{IsPartition}
 use Rattle.sym_model.specs.Bases.{monomial, product_over}
-use Rattle.sym_model.specs.Expression.{Tree, number, fraction, negation, sum, difference, product, lcm, denominator, cleared_value}
+use Rattle.sym_model.specs.Expression.{Tree, number, fraction, negation, sum, product, lcm, denominator, cleared_value}
 use Rattle.sym_model.specs.WholeTerms.{WholeTerms}
 use Rattle.monomial_laws.specs.MonomialProduct.{product_coefficient}
 use Rattle.monomial_laws.specs.ExpressionTerms.{in_monomials, IsList, IsCleared}
@@ -99,24 +99,6 @@ cleared-sum A B e f h k n =
     (in_monomials (scale (pos q) A) n) (scale (pos q) (cleared_value e n))
     (in_monomials (scale (pos r) B) n) (scale (pos r) (cleared_value f n))
     (scaled q A e h n) (scaled r B f k n))
-
-pub cleared-difference : (A B : WholeTerms) (e f : Tree) → IsCleared A e → IsCleared B f
-    → IsCleared (plus (scale (pos (lcm (denominator e) (denominator f) / denominator e)) A) (negate (scale (pos (lcm (denominator e) (denominator f) / denominator f)) B))) (difference e f)
-cleared-difference A B e f h k n =
-    let q = lcm (denominator e) (denominator f) / denominator e in
-    let r = lcm (denominator e) (denominator f) / denominator f in
-    Same_trans
-    (in_monomials (plus (scale (pos q) A) (negate (scale (pos r) B))) n)
-    (plus (in_monomials (scale (pos q) A) n) (in_monomials (negate (scale (pos r) B)) n))
-    (plus (scale (pos q) (cleared_value e n)) (negate (scale (pos r) (cleared_value f n))))
-    (list-plus (scale (pos q) A) (negate (scale (pos r) B)) n)
-    (plus_respects
-    (in_monomials (scale (pos q) A) n) (scale (pos q) (cleared_value e n))
-    (in_monomials (negate (scale (pos r) B)) n) (negate (scale (pos r) (cleared_value f n)))
-    (scaled q A e h n)
-    (Same_trans (in_monomials (negate (scale (pos r) B)) n) (negate (in_monomials (scale (pos r) B) n)) (negate (scale (pos r) (cleared_value f n)))
-    (list-negate (scale (pos r) B) n)
-    (negate_respects (in_monomials (scale (pos r) B) n) (scale (pos r) (cleared_value f n)) (scaled r B f k n))))
 
 -- products of lists
 pub list-product : (A B C : WholeTerms) (f g : ℕ → Poly) → IsList A f → IsList B g

@@ -1,5 +1,5 @@
 -- Majorants of polynomials (specs/Majorant), and what they say of an expression.
---     majorant-plus, -times, -scale        majorants of sums, products and multiples
+--     majorant-times, -scale               majorants of products and multiples
 --     majorant-monomials, -product_over    (x_1 + .. + x_n)^d is a majorant of the atoms of degree d
 --     bounded_value                        N of an expression bounds its value
 --     coefficient_bound                    so each coefficient is at most N·d!/Π α_i! in absolute value
@@ -51,9 +51,6 @@ product_within a b (pos c) (negsuc d) h k = absurd (omega (arith, ints))
 
 pub majorant_respects : (F G f g : Poly) → Same F G → Same f g → IsMajorant F f → IsMajorant G g
 majorant_respects F G f g e k m α = subst (λ z. pos (nat_abs z) ≤ℤ coefficient G α) (k α) (subst (λ z. pos (nat_abs (coefficient f α)) ≤ℤ z) (e α) (m α))
-
-pub majorant-plus : (F G f g : Poly) → IsMajorant F f → IsMajorant G g → IsMajorant (plus F G) (plus f g)
-majorant-plus F G f g h k α = omega (arith, ints, coefficient_plus F G α, coefficient_plus f g α, h α, k α)
 
 pub majorant-negate : (F f : Poly) → IsMajorant F f → IsMajorant F (negate f)
 majorant-negate F f h α = omega (arith, ints, coefficient_negate f α, h α)

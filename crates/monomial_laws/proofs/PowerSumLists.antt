@@ -2,26 +2,24 @@
 --     power_sum-times_terms      p_a·(a list) is `times_power_sum a` of the list
 --     monomial-none              the list {(): 1} is 1
 --     power_sum-terms            p_λ is the list `power_sum_terms λ`, in every number of variables
---     power_sum_step, power_sum_terms_step      one step of a program that collects terms as it goes
---     power_sum-expansion        a list of whole terms with the coefficients of `power_sum_terms λ` is p_λ
-use Rattle.std.proofs.Common.{arith, ◌≡◌, ℕ, ◌+◌, ◌<◌, Bool, true, false, ◌||◌, cond, eqb, List, [], ◌∷◌, ◌++◌, map, sym, ◌∙◌, ap, subst, refl, inl, inr, ℤ, pos, ◌+ℤ◌, ◌*ℤ◌}
+--     power_sum_step             one step of a program that collects terms as it goes
+use Rattle.std.proofs.Common.{◌≡◌, ℕ, ◌+◌, ◌<◌, Bool, true, false, ◌||◌, cond, eqb, List, [], ◌∷◌, ◌++◌, map, sym, ◌∙◌, ap, refl, inl, inr, ℤ, pos, ◌+ℤ◌, ◌*ℤ◌}
 use Rattle.std.proofs.lemmas.Bool.{eq-eqb, or_right, cond-true}
 use Rattle.sym_model.specs.Sum.{select, Among}
 use Rattle.sym_model.specs.Polynomial.{Poly, same, Same, pair, one, join, times, scale, no_exponents}
 use Rattle.sym_model.specs.Partition.{IsPartition, ArePositive, size, sorted_parts}
 use Rattle.sym_model.specs.Bases.{has, exponent_lists, monomial, power_sum_of, power_sum}
-use Rattle.sym_model.specs.Expansion.{Terms, monomials, value, IsExpansionOf}
 use Rattle.sym_model.specs.Schur.{times_in}
-use Rattle.sym_model.specs.WholeTerms.{WholeTerms, combined, as_fractions, AreWhole, numerators, EachLabel}
+use Rattle.sym_model.specs.WholeTerms.{WholeTerms, combined, EachLabel}
 use Rattle.sym_model.specs.RaisedPart.{raise, distinct}
 use Rattle.monomial_laws.specs.PowerSumProduct.{raised_terms, times_power_sum, power_sum_terms, IsPartitionOf}
 use Rattle.sym_model.proofs.Ring.{one-product}
 use Rattle.sym_model.proofs.Sums.{total_select}
 use Rattle.sym_model.proofs.Exponents.{same_from}
-use Rattle.sym_model.proofs.Polynomials.{pair_ext, pair_plus, pair_times, pair_scale, pair_exchange, pair_monomials, pair_one, pair_determined, same_from_pair, Same_refl, Same_sym, Same_trans, times_respects, scale_respects}
+use Rattle.sym_model.proofs.Polynomials.{pair_ext, pair_plus, pair_times, pair_scale, pair_exchange, pair_monomials, pair_one, pair_determined, same_from_pair, Same_refl, Same_sym, Same_trans, times_respects}
 use Rattle.sym_model.proofs.SortedParts.{sorted_parts-zeros, IsPartition-none, IsPartition-raise, size-raise}
 use Rattle.sym_model.proofs.Monomials.{total_exponent_lists-zero}
-use Rattle.sym_model.proofs.WholeTerms.{pair-combined, combined_respects, value-as_fractions, value_of_whole, as_fractions-numerators, denominators_of_whole}
+use Rattle.sym_model.proofs.WholeTerms.{pair-combined, combined_respects}
 use Rattle.monomial_laws.proofs.PowerSums.{power_sum_times_monomial}
 use lib.IntN.{+ℤ_idr}
 
@@ -176,32 +174,3 @@ power_sum-terms (a ∷ parts) p n =
     n
 
 -- ---- a program that keeps a table of collected terms
-
--- the table stays p_λ as a list: from the same list for the rest of the parts
-pub power_sum_terms_step : (a : ℕ) (parts : List ℕ) (terms next : WholeTerms) → Same terms (power_sum_terms parts) → Same next (times_power_sum a terms) → Same next (power_sum_terms (a ∷ parts))
-power_sum_terms_step a parts terms next e k =
-    Same_trans next (times_power_sum a terms) (power_sum_terms (a ∷ parts)) k (combined_respects (raised_terms a) terms (power_sum_terms parts) e)
-
--- and a table with the coefficients of p_λ has its value, with the denominators 1
-pub power_sum-value : (parts : List ℕ) (terms : WholeTerms) → ArePositive parts → Same terms (power_sum_terms parts) → (n : ℕ) → Same (value monomials (as_fractions terms) n) (power_sum parts n)
-power_sum-value parts terms p e n =
-    rw (value-as_fractions monomials terms n)
-    (Same_trans (combined (λ label. monomial label n) terms) (combined (λ label. monomial label n) (power_sum_terms parts)) (power_sum parts n)
-    (combined_respects (λ label. monomial label n) terms (power_sum_terms parts) e)
-    (power_sum-terms parts p n))
-
--- p_a times the value of a list with denominators 1
-pub power_sum-times_value : (a n : ℕ) (terms : Terms (List ℕ)) → 0 < a → AreWhole terms → EachLabel IsPartition (numerators terms) → Same (times (power_sum_of a n) (value monomials terms n)) (value monomials (as_fractions (times_power_sum a (numerators terms))) n)
-power_sum-times_value a n terms h w p =
-    rw (value_of_whole monomials terms n w, value-as_fractions monomials (times_power_sum a (numerators terms)) n) (power_sum-times_terms a n (numerators terms) h p)
-
--- the same table as the statement of an expansion, with the denominator 1
-pub power_sum-expansion : (parts : List ℕ) (terms : Terms (List ℕ)) → ArePositive parts → AreWhole terms → Same (numerators terms) (power_sum_terms parts) → (n : ℕ) → IsExpansionOf monomials terms n (power_sum parts n) 1
-power_sum-expansion parts terms p w e n = record {
-  positive = omega (arith, denominators_of_whole terms w);
-  equal = subst
-      (λ d. Same (scale (pos 1) (value monomials terms n)) (scale (pos d) (power_sum parts n)))
-      (sym (denominators_of_whole terms w))
-      (scale_respects (pos 1) (value monomials terms n) (power_sum parts n)
-      (subst (λ l. Same (value monomials l n) (power_sum parts n)) (as_fractions-numerators terms w) (power_sum-value parts (numerators terms) p e n)));
-}

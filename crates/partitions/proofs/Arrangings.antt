@@ -76,9 +76,6 @@ each-none f (suc a) none =
 
 -- ---- sorted lists
 
-Falls-sorted : (α : List ℕ) → IsPartition (sorted_parts α)
-Falls-sorted α = IsPartition-sorted_parts α
-
 -- one number put into two sorted lists
 insert_part-cancel : (b : ℕ) (σ τ : List ℕ) → insert_part b σ ≡ insert_part b τ → σ ≡ τ
 insert_part-cancel zero σ τ e = e

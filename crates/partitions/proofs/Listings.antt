@@ -1,7 +1,6 @@
 -- The first partition of a list, and the one that comes next.
-use Rattle.std.proofs.Common.{◌≡◌, ℕ, zero, suc, ◌+◌, ◌-◌, ◌<◌, ◌≤◌, min, List, [], ◌∷◌, ◌++◌, map, length, drop, get_or, sym, ◌∙◌, ap, ap₂, refl, arith}
+use Rattle.std.proofs.Common.{◌≡◌, ℕ, zero, suc, ◌+◌, ◌-◌, ◌<◌, ◌≤◌, min, List, [], ◌∷◌, ◌++◌, map, length, sym, ◌∙◌, ap, ap₂, refl, arith}
 use Rattle.std.proofs.Math.Nat.{min-le_right, le-min, min-eq_left}
-use Rattle.std.proofs.Math.Seq.{drop-cons}
 use Rattle.sym_model.specs.Sum.{each}
 use Rattle.sym_model.specs.Partition.{ArePositive, size}
 use Rattle.sym_model.specs.PartitionList.{down_to_one, partitions_within}
@@ -94,9 +93,6 @@ partitions_within-first (suc rows) (suc d) most h p =
     (partitions_within-first rows (suc d - min most (suc d)) (min most (suc d)) room (λ _. positive))
 
 -- ---- the one that comes next
-
-pub AreOnes-cons : (xs : List ℕ) (k : ℕ) → k < length xs → get_or xs k 0 ≡ 1 → AreOnes (drop (suc k) xs) → AreOnes (drop k xs)
-AreOnes-cons xs k h e o = rw (drop-cons xs k 0) (e, o)
 
 pub size-AreOnes : (xs : List ℕ) → AreOnes xs → size xs ≡ length xs
 size-AreOnes [] o = refl

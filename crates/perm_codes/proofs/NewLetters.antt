@@ -65,13 +65,6 @@ any_from_among a (b ∷ w) (inr m) = ap (λ t. (b == a) || t) (any_from_among a 
 pub no_offence : (w : List ℕ) (at : ℕ) → IsOneLine w → OffendsFirstAt w at → ⊥
 no_offence w at o f = f.offends (new_letter w at o f.inside)
 
--- there is one first offence
-pub offence_same : (w : List ℕ) (a b : ℕ) → OffendsFirstAt w a → OffendsFirstAt w b → a ≡ b
-offence_same w a b f g =
-    let p : a < b → ⊥ = λ h. f.offends (g.before a h) in
-    let q : b < a → ⊥ = λ h. g.offends (f.before b h) in
-    omega arith
-
 pub short_letter : (w : List ℕ) (k d : ℕ) → IsShortPermutation w → k < length w → get_or w k d ≤ 255
 short_letter w k d s l =
     let few = s.few in
@@ -95,12 +88,4 @@ pub no_excess : (cs : List ℕ) (at : ℕ) → IsCode cs → ExceedsFirstAt cs a
 no_excess cs at i f =
     let e = code_entry cs at i f.inside in
     let x = f.exceeds in
-    omega arith
-
-pub excess_same : (cs : List ℕ) (a b : ℕ) → ExceedsFirstAt cs a → ExceedsFirstAt cs b → a ≡ b
-excess_same cs a b f g =
-    let x = f.exceeds in
-    let y = g.exceeds in
-    let p : a < b → ⊥ = λ h. let e = g.before a h in omega arith in
-    let q : b < a → ⊥ = λ h. let e = f.before b h in omega arith in
     omega arith

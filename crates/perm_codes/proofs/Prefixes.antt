@@ -1,12 +1,11 @@
 -- Lists of letters read from the left: what is counted behind a place, and which fixed letters are dropped.
-use Rattle.std.proofs.Common.{◌≡◌, ℕ, zero, suc, ◌+◌, ◌-◌, ◌<◌, ◌≤◌, nat_lt, List, [], ◌∷◌, ◌++◌, length, take, drop, get_or, refl, sym, ap, ◌∙◌, arith, cond, true, false, inl, inr, Bool, add-one, length-take, count_by}
-use Rattle.std.proofs.Math.Seq.{drop-cons}
+use Rattle.std.proofs.Common.{◌≡◌, ℕ, ◌+◌, ◌-◌, ◌<◌, ◌≤◌, nat_lt, List, [], ◌∷◌, ◌++◌, length, take, get_or, refl, sym, ap, ◌∙◌, arith, cond, true, false, inl, inr, Bool, length-take, count_by}
 use Rattle.std.proofs.lemmas.List.{take_more}
 use Rattle.std.proofs.lemmas.List.Recursion.{is_count_by}
 use Rattle.std.proofs.lemmas.Bool.{cases_eq, ne_eqb}
 use Rattle.sym_model.specs.Partition.{after}
-use Rattle.sym_model.specs.PlaceOrders.{smaller, inversions}
-use Rattle.sym_model.specs.Permutation.{code, kept, without_fixed_from, in_front_unless_fixed}
+use Rattle.sym_model.specs.PlaceOrders.{smaller}
+use Rattle.sym_model.specs.Permutation.{kept, without_fixed_from, in_front_unless_fixed}
 use Rattle.schubert_laws.proofs.FixedTails.{after_more, kept_added}
 
 -- ---- counts
@@ -17,16 +16,6 @@ one_more false n = omega arith
 
 pub smaller-count_by : (a : ℕ) (w : List ℕ) → smaller a w ≡ count_by (λ b. nat_lt b a) w
 smaller-count_by a w = is_count_by (smaller a) (λ b. nat_lt b a) refl (λ b v. one_more (nat_lt b a) (smaller a v)) w
-
--- the letters from a place on: the letter there, and those behind it
-pub drop_here : (w : List ℕ) (i d : ℕ) → i < length w → drop i w ≡ get_or w i d ∷ drop (i + 1) w
-drop_here w i d h = drop-cons w i d h ∙ ap (λ n. get_or w i d ∷ drop n w) (sym (add-one i))
-
-pub inversions_from : (w : List ℕ) (i d : ℕ) → i < length w → inversions (drop i w) ≡ smaller (get_or w i d) (drop (i + 1) w) + inversions (drop (i + 1) w)
-inversions_from w i d h = ap inversions (drop_here w i d h)
-
-pub code_from : (w : List ℕ) (i d : ℕ) → i < length w → code (drop i w) ≡ smaller (get_or w i d) (drop (i + 1) w) ∷ code (drop (i + 1) w)
-code_from w i d h = ap code (drop_here w i d h)
 
 -- ---- fixed letters
 
@@ -68,9 +57,3 @@ kept_here w n p l d =
     let long : length (take (n - 1) w) ≡ n - 1 = omega (arith, length-take (n - 1) w) in
     ap kept (last_of w n (omega arith) l) ∙ kept_unfixed_last (take (n - 1) w) (get_or w (n - 1) 0) (λ e. d (omega arith))
     ∙ sym (last_of w n (omega arith) l)
-
-pub kept_first : (w : List ℕ) (n : ℕ) → n ≤ 1 → kept (take n w) ≡ take n w
-kept_first w zero h = refl
-kept_first [] (suc n) h = refl
-kept_first (a ∷ w) (suc zero) h = refl
-kept_first (a ∷ w) (suc (suc n)) h = absurd (omega arith)

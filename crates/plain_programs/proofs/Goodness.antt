@@ -1,17 +1,10 @@
 -- Tests of the numbers 0, 1, .., k, one after another.
 use Rattle.std.proofs.Common.{◌≡◌, ℕ, zero, suc, ◌+◌, ◌<◌, Bool, true, false, ◌&&◌, List, [], ◌∷◌, ◌++◌, sym, ◌∙◌, ap, ap₂, refl, inl, inr, ◌⊎◌, arith}
 use Rattle.std.proofs.lemmas.Bool.{cases_eq}
+use Rattle.std.proofs.Math.Bool.{and_assoc, and-false}
 use Rattle.sym_model.specs.Partition.{after}
 use Rattle.sym_model.specs.GoodTableau.{every}
 use Rattle.plain_programs.proofs.WordLists.{after-more}
-
-and_assoc : (p q r : Bool) → ((p && q) && r) ≡ (p && (q && r))
-and_assoc true q r = refl
-and_assoc false q r = refl
-
-and_false : (p : Bool) → (p && false) ≡ false
-and_false true = refl
-and_false false = refl
 
 every-append : (test : ℕ → Bool) (xs : List ℕ) (x : ℕ) → every test (xs ++ (x ∷ [])) ≡ (every test xs && test x)
 every-append test [] x = last (test x)
@@ -39,8 +32,8 @@ every_fails_in test j zero h e = absurd (omega arith)
 every_fails_in test j (suc k) h e = let n : suc k ≡ k + 1 = omega arith in ap (λ n. every test (after 0 n)) n ∙ every_more test k ∙ by (cases_eq j k) (λ l. every_fails_in test j k l e)
   where
     by : (j ≡ k) ⊎ (j ≡ k → ⊥) → (j < k → every test (after 0 k) ≡ false) → (every test (after 0 k) && test (k + 1)) ≡ false
-    by (inl d) later = ap (λ p. every test (after 0 k) && p) (ap (λ i. test (i + 1)) (sym d) ∙ e) ∙ and_false (every test (after 0 k))
+    by (inl d) later = ap (λ p. every test (after 0 k) && p) (ap (λ i. test (i + 1)) (sym d) ∙ e) ∙ and-false (every test (after 0 k))
     by (inr d) later = ap (λ p. p && test (k + 1)) (later (omega (arith, d)))
 
 pub every_fails : (test : ℕ → Bool) (j k : ℕ) → j < k → test (j + 1) ≡ false → every test (0 ∷ after 0 k) ≡ false
-every_fails test j k h e = ap (λ p. test 0 && p) (every_fails_in test j k h e) ∙ and_false (test 0)
+every_fails test j k h e = ap (λ p. test 0 && p) (every_fails_in test j k h e) ∙ and-false (test 0)

@@ -5,8 +5,8 @@ use Rattle.sym_model.specs.Polynomial.{same}
 use Rattle.sym_model.specs.Expansion.{Fraction, Terms}
 use Rattle.sym_model.specs.Canonical.{gcd, is_reduced, is_coefficient, each_term, fits_128_bits, is_canonical_by, is_printable}
 use Rattle.sym_model.specs.NumberText.{Lacks, fraction_text, cut_at}
-use Rattle.sym_model.specs.Kind.{LabelRules, IsLegible, label_rules, expansion}
-use Rattle.sym_model.specs.PrintedBlock.{line_by, lines_by, block_by, term_of_parts, term_of_line, terms_of_lines, terms_of, accepted, read_by, block, read}
+use Rattle.sym_model.specs.Kind.{LabelRules, IsLegible}
+use Rattle.sym_model.specs.PrintedBlock.{line_by, lines_by, block_by, term_of_parts, term_of_line, terms_of_lines, terms_of, accepted, read_by, block}
 use Rattle.printing_laws.proofs.Decimals.{lacks-append, IsShort}
 use Rattle.printing_laws.proofs.NumberTexts.{split_at-piece, cut_at-space, IsShortFraction, fraction_of-text, fraction_text-lacks}
 use Rattle.sym_model.proofs.Exponents.{same_refl, same_true}
@@ -83,10 +83,6 @@ read_by-block rules legible terms h k =
     let e = terms_of-block rules legible terms short in
     let passes = and_from _ _ (and_from _ _ h k) (same_refl (block_by rules terms)) in
     ap (accepted rules (block_by rules terms)) e ∙ cond-true (is_block_of rules (block_by rules terms) terms) _ _ passes
-
--- the same for expansions
-pub read-block : (terms : Terms (List ℕ)) → is_canonical_by (label_rules expansion) terms ≡ true → is_printable terms ≡ true → read (block terms) ≡ Some terms
-read-block terms h k = read_by-block (label_rules expansion) (legible expansion) terms h k
 
 -- the text is the block of the terms, which are canonical and printable
 pub record Reads {Label : Type 0} (rules : LabelRules Label) (text : List ℕ) (terms : Terms Label) : Type 0 where

@@ -1,5 +1,5 @@
 -- Decimal text: the digits that std writes of a number, and the value that they are read as.
-use Rattle.std.proofs.Common.{◌≡◌, ℕ, zero, suc, ◌+◌, ◌*◌, ◌-◌, ◌^◌, ◌<◌, ◌≤◌, ◌/◌, ◌%◌, List, [], ◌∷◌, ◌++◌, length, take, get_or, replicate, length-append, mul-le-mul_right, pow-suc, eqb, ℤ, pos, negsuc, neg_ℤ, refl, sym, ap, ◌∙◌, subst, decimal, arith}
+use Rattle.std.proofs.Common.{◌≡◌, ℕ, suc, ◌+◌, ◌*◌, ◌-◌, ◌^◌, ◌<◌, ◌≤◌, ◌/◌, ◌%◌, List, [], ◌∷◌, ◌++◌, length, take, get_or, length-append, eqb, ℤ, pos, negsuc, neg_ℤ, refl, ap, ◌∙◌, subst, decimal, arith}
 use Rattle.std.specs.Fmt.{signed_decimal}
 use Rattle.std.proofs.lemmas.Fmt.{decimal_by_steps_wide}
 use Rattle.std.proofs.lemmas.List.{take_more}
@@ -20,16 +20,6 @@ value_from-push n xs d = value_from-append n xs (d ∷ [])
 pub decimal_value_more : (xs : List ℕ) (i : ℕ) → i < length xs → decimal_value (take (i + 1) xs) ≡ 10 * decimal_value (take i xs) + (get_or xs i 0 - 48)
 decimal_value_more xs i h = ap decimal_value (take_more xs i 0 h) ∙ value_from-push 0 (take i xs) (get_or xs i 0)
 
--- leading zeros change nothing
-pub decimal_value-zeros : (k : ℕ) (xs : List ℕ) → decimal_value (replicate k 48 ++ xs) ≡ decimal_value xs
-decimal_value-zeros zero xs = refl
-decimal_value-zeros (suc k) xs = decimal_value-zeros k xs
-
--- reading on from a greater number gives a greater number
-pub value_from-le : (m n : ℕ) (xs : List ℕ) → m ≤ n → value_from m xs ≤ value_from n xs
-value_from-le m n [] h = h
-value_from-le m n (x ∷ xs) h = value_from-le (10 * m + (x - 48)) (10 * n + (x - 48)) xs (omega arith)
-
 -- reading on never makes the number smaller
 pub value_from-ge : (n : ℕ) (xs : List ℕ) → n ≤ value_from n xs
 value_from-ge n [] = omega arith
@@ -38,36 +28,6 @@ value_from-ge n (x ∷ xs) = let h = value_from-ge (10 * n + (x - 48)) xs in ome
 pub are_digits-append : (xs ys : List ℕ) → AreDigits xs → AreDigits ys → AreDigits (xs ++ ys)
 are_digits-append [] ys h k = k
 are_digits-append (x ∷ xs) ys h k = (h.0, are_digits-append xs ys h.1 k)
-
-pub are_digits-front : (xs ys : List ℕ) → AreDigits (xs ++ ys) → AreDigits xs
-are_digits-front [] ys h = tt
-are_digits-front (x ∷ xs) ys h = (h.0, are_digits-front xs ys h.1)
-
-pub are_digits-back : (xs ys : List ℕ) → AreDigits (xs ++ ys) → AreDigits ys
-are_digits-back [] ys h = h
-are_digits-back (x ∷ xs) ys h = are_digits-back xs ys h.1
-
--- each byte of a digit word is an ASCII digit
-pub are_digits-at : (xs : List ℕ) (i : ℕ) → AreDigits xs → i < length xs → IsDigit (get_or xs i 0)
-are_digits-at [] i h k = absurd (omega arith)
-are_digits-at (x ∷ xs) zero h k = h.0
-are_digits-at (x ∷ xs) (suc i) h k = are_digits-at xs i h.1 (omega arith)
-
--- and a word each byte of which is one is a digit word
-pub are_digits-from : (xs : List ℕ) → ((i : ℕ) → i < length xs → IsDigit (get_or xs i 0)) → AreDigits xs
-are_digits-from [] h = tt
-are_digits-from (x ∷ xs) h = (h 0 (omega arith), are_digits-from xs (λ i k. h (suc i) (omega arith)))
-
--- the value of a word of k digits is below 10^k
-pub value_from-lt : (n : ℕ) (xs : List ℕ) → AreDigits xs → value_from n xs < (n + 1) * 10 ^ length xs
-value_from-lt n [] h = omega arith
-value_from-lt n (x ∷ xs) h =
-    let e = value_from-lt (10 * n + (x - 48)) xs h.1 in
-    let m = mul-le-mul_right (10 ^ length xs) (step_below n x h.0) in
-    rw pow-suc (omega arith)
-  where
-    step_below : (n x : ℕ) → IsDigit x → (10 * n + (x - 48)) + 1 ≤ 10 * (n + 1)
-    step_below n x d = omega arith
 
 -- what is written of a number below 10^64
 pub record IsWritten (n : ℕ) (text : List ℕ) : Type 0 where
@@ -97,11 +57,6 @@ decimal-digits n h = (decimal-is_written n h).digits
 
 pub decimal_value-decimal : (n : ℕ) → n < 10 ^ 64 → decimal_value (decimal n) ≡ n
 decimal_value-decimal n h = (decimal-is_written n h).value
-
--- two numbers with one text are one number
-pub decimal_injective : (m n : ℕ) → m < 10 ^ 64 → n < 10 ^ 64 → decimal m ≡ decimal n → m ≡ n
-decimal_injective m n h k e =
-    sym (decimal_value-decimal m h) ∙ (ap decimal_value e ∙ decimal_value-decimal n k)
 
 pub lacks-append : (byte : ℕ) (xs ys : List ℕ) → Lacks byte xs → Lacks byte ys → Lacks byte (xs ++ ys)
 lacks-append byte [] ys h k = k
@@ -138,7 +93,3 @@ signed_value-signed_decimal (pos n) h =
     signed_value-digits (decimal n) (decimal-digits n h) ∙ ap pos (decimal_value-decimal n h)
 signed_value-signed_decimal (negsuc n) h =
     ap (λ m. neg_ℤ (pos m)) (decimal_value-decimal (suc n) (omega arith))
-
-pub signed_decimal-nonempty : (z : ℤ) → IsShort z → 0 < length (signed_decimal z)
-signed_decimal-nonempty (pos n) h = decimal-nonempty n h
-signed_decimal-nonempty (negsuc n) h = omega arith

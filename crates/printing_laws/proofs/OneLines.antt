@@ -1,5 +1,5 @@
 -- A one-line form is read back as the list that it was printed of.
-use Rattle.std.proofs.Common.{◌≡◌, ℕ, suc, ◌^◌, ◌<◌, Bool, true, false, ◌&&◌, List, [], ◌∷◌, ◌++◌, length, map, cond, eqb, ℤ, pos, negsuc, nat_abs, Some, None, refl, sym, ap, ap₂, ◌∙◌, subst, append_assoc, append-nil, length-append, arith}
+use Rattle.std.proofs.Common.{◌≡◌, ℕ, ◌^◌, ◌<◌, Bool, true, false, ◌&&◌, List, [], ◌∷◌, ◌++◌, length, map, cond, eqb, ℤ, pos, negsuc, nat_abs, Some, None, refl, sym, ap, ap₂, ◌∙◌, subst, append_assoc, append-nil, length-append, arith}
 use Rattle.std.specs.Prelude.{codes}
 use Rattle.std.proofs.lemmas.Bool.{ltb-true, and_parts, and_from, cond-true, cond-false, ne_eqb}
 use Rattle.sym_model.specs.Polynomial.{same}
@@ -77,9 +77,6 @@ pieces-line basis t terms r h = by (is_negative t.1.0)
         (λ rest l. pieces-later basis rest terms l h)
 
 -- ---- the terms of the pieces
-
-with_minus : (label : List ℕ) (n den : ℕ) → negated (label, (pos (suc n), den)) ≡ (label, (negsuc n, den))
-with_minus label n den = refl
 
 later-term : (basis : Basis) (t : List ℕ × Fraction) → IsReadable t → term_of_piece (later_piece basis t) ≡ t
 later-term basis (label, (pos n, den)) r = unsigned_term-text basis (label, (pos n, den)) r

@@ -6,7 +6,7 @@ use Rattle.std.proofs.Math.Nat.{mul-suc}
 use Rattle.sym_model.specs.Sum.{each, Among, Once}
 use Rattle.sym_model.specs.Polynomial.{Term, same, coefficient, scale}
 use Rattle.sym_model.specs.WholeTerms.{WholeTerms}
-use Rattle.sym_model.proofs.Sums.{total_none, Among-map, Among_from_append, Among_from_map, Among_from_each}
+use Rattle.sym_model.proofs.Sums.{total_none, Among-map, Among_from_map, Among_from_each}
 use Rattle.sym_model.proofs.Exponents.{same_refl, same_from, same_apart, same_or_not}
 use Rattle.sym_model.proofs.Polynomials.{coefficient_plus}
 use Rattle.product_laws.specs.CountedProducts.{AreCounts}
@@ -37,9 +37,6 @@ counts-coefficient (t ∷ terms) α h =
     let r = counts-coefficient terms α (λ u m. h u (inr m)) in
     let c = chosen (same t.0 α) t.1 (h t (inl refl)) in
     omega (arith, ints)
-
-pub counts-append : (xs ys : WholeTerms) → AreCounts xs → AreCounts ys → AreCounts (xs ++ ys)
-counts-append xs ys h k t m = elim (Among_from_append t xs ys m) [ inl a ↦ h t a | inr b ↦ k t b ]
 
 pub counts-scale : (c : ℤ) (terms : WholeTerms) → pos 0 ≤ℤ c → AreCounts terms → AreCounts (scale c terms)
 counts-scale c terms h k t m =

@@ -4,7 +4,7 @@
 --     reflected_early       a label may be reflected before it is multiplied
 --     fusion_step           so reflecting after each factor gives what reflecting once gives
 use Rattle.std.proofs.Common.{◌≡◌, ◌⊎◌, ℕ, zero, suc, ◌+◌, ◌%◌, ◌<◌, ◌≤◌, ◌==◌, ◌||◌, Bool, true, false, cond, List, [], ◌∷◌, ◌++◌, map, length, drop, refl, sym, ◌∙◌, ap, ap₂, subst, inl, inr, arith, ℤ, pos, neg_ℤ, ◌*ℤ◌, Option, Some, None}
-use Rattle.std.proofs.lemmas.Bool.{cases_eq, eq-eqb, eqb-true, le-leb, or_right}
+use Rattle.std.proofs.lemmas.Bool.{cases_eq, eq-eqb, eqb-true, le-leb, or_right, or_cases}
 use Rattle.std.proofs.lemmas.List.{length-map}
 use Rattle.std.proofs.Math.Nat.{mod-mod, mod-add-mod}
 use Rattle.std.proofs.Math.IntN.{*ℤ-zero, +ℤ_idr}
@@ -245,10 +245,6 @@ multiplied-periodic k n next label b c h q l m e s =
     ∙ sym (multiplied_windows k n next label c h q m)
 
 -- ---- two entries with one remainder
-
-pub or_cases : (x y : Bool) → (x || y) ≡ true → (x ≡ true) ⊎ (y ≡ true)
-or_cases true y e = inl refl
-or_cases false y e = inr e
 
 -- where an entry with the remainder r stands
 place_of : (n r : ℕ) (b : List ℕ) → has r (remainders n b) ≡ true → (middle : List ℕ) × (y : ℕ) × (right : List ℕ) × (b ≡ middle ++ (y ∷ right)) × (y % n ≡ r)

@@ -50,10 +50,6 @@ sums-one k = record {
       ∙ sym (pair_one k (λ α. pair (alternant (join β α)) φ));
 }
 
--- multiplied by a further polynomial
-pub pair-then : (β : List ℕ) (f g : Poly) (φ : List ℕ → ℤ) → pair (times (times (alternant β) f) g) φ ≡ pair (times (alternant β) f) (λ γ. pair g (λ δ. φ (join γ δ)))
-pair-then β f g φ = pair_times (times (alternant β) f) g φ
-
 sums-times : (k : ℕ) (f g : Poly) → SumsAlternants k f → SumsAlternants k g → SumsAlternants k (times f g)
 sums-times k f g p q = record {
   within = In_times k f g p.within q.within;

@@ -1,7 +1,7 @@
 -- Exponents that do not add a strip cancel: in pairs, or as alternants with two equal exponents.
 use Rattle.std.proofs.Common.{◌≡◌, ◌⊎◌, ℕ, zero, suc, ◌+◌, ◌-◌, ◌<◌, ◌≤◌, Bool, true, false, ◌&&◌, ◌||◌, not, cond, nat_le, List, [], ◌∷◌, ◌++◌, map, length, drop, refl, sym, ◌∙◌, ap, ap₂, subst, inl, inr, arith, ℤ, pos, ◌+ℤ◌, neg_ℤ}
 use Rattle.std.proofs.lemmas.Int.{ints}
-use Rattle.std.proofs.lemmas.Bool.{cases_lt, and_parts, le-leb, leb-true, lt-leb}
+use Rattle.std.proofs.lemmas.Bool.{cases_lt, and_parts, le-leb, leb-true, lt-leb, or_right}
 use Rattle.sym_model.specs.Sum.{total, select, Among}
 use Rattle.sym_model.specs.Partition.{Falls, size}
 use Rattle.sym_model.specs.Polynomial.{join, pair, negate}
@@ -200,10 +200,6 @@ strips_remain (suc (suc n)) (a ∷ b ∷ m) U l f t d =
 
 -- ---- at most one cell in each row
 
-or_second : (p q : Bool) → q ≡ true → (p || q) ≡ true
-or_second true q e = refl
-or_second false q e = e
-
 pub equal_found : (n : ℕ) (m α : List ℕ) → length m ≡ n → length α ≡ n → Falls m → at_most_one α ≡ true → is_falling (join m α) ≡ false
     → has_equal_entries (join (join m (staircase n)) α) ≡ true
 equal_found n [] [] l k f o e = absurd (cc)
@@ -231,5 +227,5 @@ equal_found (suc (suc n)) (a ∷ b ∷ m) (x ∷ y ∷ α) l k f o e =
         let g = f.0 in
         ap (λ (t : Bool). t || has_equal_entries ((b + n + y) ∷ rest)) (has_here (a + suc n + x) (b + n + y) rest (omega arith))
     by c (inr h) r =
-        or_second (has (a + suc n + x) ((b + n + y) ∷ rest)) (has_equal_entries ((b + n + y) ∷ rest))
+        or_right (has (a + suc n + x) ((b + n + y) ∷ rest)) (has_equal_entries ((b + n + y) ∷ rest))
         (r (falls_on (nat_le (b + y) (a + x)) (is_falling (join (b ∷ m) (y ∷ α))) (le-leb (b + y) (a + x) h) e))

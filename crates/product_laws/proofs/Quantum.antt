@@ -3,8 +3,8 @@
 --     ends_unique       it is an alternating sum, so it can be multiplied by a Schur polynomial
 --     lowered_early     a label may be reduced before it is multiplied
 --     quantum_step      reducing after each factor gives what reducing once gives
-use Rattle.std.proofs.Common.{◌≡◌, ◌⊎◌, ℕ, zero, suc, ◌+◌, ◌-◌, ◌*◌, ◌%◌, ◌<◌, ◌≤◌, ◌==◌, ◌||◌, ◌&&◌, nat_le, Bool, true, false, cond, List, [], ◌∷◌, ◌++◌, map, length, refl, sym, ◌∙◌, ap, ap₂, subst, inl, inr, arith, ℤ, pos, neg_ℤ, ◌+ℤ◌, ◌*ℤ◌, Some, None}
-use Rattle.std.proofs.lemmas.Bool.{cases_eq, cases_lt, eq-eqb}
+use Rattle.std.proofs.Common.{◌≡◌, ◌⊎◌, ℕ, zero, suc, ◌+◌, ◌-◌, ◌*◌, ◌%◌, ◌<◌, ◌≤◌, ◌==◌, ◌&&◌, nat_le, Bool, true, false, cond, List, [], ◌∷◌, ◌++◌, map, length, refl, sym, ◌∙◌, ap, ap₂, subst, inl, inr, arith, ℤ, pos, neg_ℤ, ◌+ℤ◌, ◌*ℤ◌, Some, None}
+use Rattle.std.proofs.lemmas.Bool.{cases_eq, cases_lt, eq-eqb, or_cases, or_parts}
 use Rattle.std.proofs.lemmas.Bool.Decides.{nat_tests}
 use Rattle.std.proofs.lemmas.List.{length-map}
 use Rattle.std.proofs.Math.Nat.{mod-le, mod-lt, mod-mod, mul-le-mul_left}
@@ -42,18 +42,14 @@ use Rattle.beta_list_laws.specs.ReductionLists.{reductions_of}
 use Rattle.product_laws.specs.FactorSteps.{ArePartitions, reduced_product, raised, quantized}
 use Rattle.product_laws.proofs.Straightened.{IsShape, at_shape, on_strict, pair-value, at_strict, shape_of_strict}
 use Rattle.product_laws.proofs.ManyFactors.{sums-schur, added, join-beta, pair_shapes, two_value, step_value}
-use Rattle.product_laws.proofs.Fusion.{or_cases, repeated, equal_here, remainders-join, exchanged_remainders, exchanged_size, exchanged_length}
+use Rattle.product_laws.proofs.Fusion.{repeated, equal_here, remainders-join, exchanged_remainders, exchanged_size, exchanged_length}
 
 -- ---- lists with no two entries of one remainder
-
-not_equal_parts : (x y : Bool) → (x || y) ≡ false → (x ≡ false) × (y ≡ false)
-not_equal_parts true y e = absurd (cc)
-not_equal_parts false y e = (refl, e)
 
 lowest-distinct : (n : ℕ) (b : List ℕ) → has_equal_entries (remainders n b) ≡ false → lowest n b ≡ remainders n b
 lowest-distinct n [] d = refl
 lowest-distinct n (x ∷ b) d =
-    let p = not_equal_parts (has (x % n) (remainders n b)) (has_equal_entries (remainders n b)) d in
+    let p = or_parts (has (x % n) (remainders n b)) (has_equal_entries (remainders n b)) d in
     ap₂ ◌∷◌ (none (alike n x b) refl p.0) (lowest-distinct n b p.1)
   where
     none : (m : ℕ) → alike n x b ≡ m → has (x % n) (remainders n b) ≡ false → x % n + alike n x b * n ≡ x % n

@@ -2,7 +2,7 @@
 -- the list is the beta list of a greater partition.
 use Rattle.std.proofs.Common.{◌≡◌, ◌⊎◌, ℕ, zero, suc, ◌+◌, ◌<◌, ◌≤◌, Bool, true, false, ◌||◌, ◌==◌, List, [], ◌∷◌, ◌++◌, map, length, replicate, drop, get_or, refl, sym, ◌∙◌, ap, ap₂, subst, inl, inr, arith, ℤ, pos, neg_ℤ, ◌*ℤ◌, append_assoc}
 use Rattle.std.proofs.lemmas.Int.{ints}
-use Rattle.std.proofs.lemmas.Bool.{cases_lt, cases_eq, both_ways, eq-eqb}
+use Rattle.std.proofs.lemmas.Bool.{cases_lt, cases_eq, both_ways, eq-eqb, or_parts, or_right}
 use Rattle.sym_model.specs.Sum.{Among, Once}
 use Rattle.sym_model.specs.Polynomial.{join}
 use Rattle.sym_model.specs.Bases.{has}
@@ -59,14 +59,6 @@ sign_twice k x = elim (parity_of k) [ inl e ↦ ap (λ s. s *ℤ (s *ℤ x)) e.1
 
 -- ---- entries of strict lists
 
-or_false : (a b : Bool) → (a || b) ≡ false → (a ≡ false) × (b ≡ false)
-or_false true b e = absurd (cc)
-or_false false b e = (refl, e)
-
-or_second : (p q : Bool) → q ≡ true → (p || q) ≡ true
-or_second true q e = refl
-or_second false q e = e
-
 -- an entry of a list whose first entry is smaller does not stand in it
 not_below : (y z : ℕ) (b : List ℕ) → FallsStrictly (y ∷ b) → y ≤ z → has z b ≡ false
 not_below y z [] f l = refl
@@ -84,12 +76,12 @@ strict_without (a ∷ b ∷ front) x rest f = (f.0, strict_without (b ∷ front)
 
 stands : (front : List ℕ) (z : ℕ) (rest : List ℕ) (a : ℕ) → z ≡ a → has a (front ++ (z ∷ rest)) ≡ true
 stands [] z rest a e = has_here a z rest e
-stands (c ∷ front) z rest a e = or_second (c == a) (has a (front ++ (z ∷ rest))) (stands front z rest a e)
+stands (c ∷ front) z rest a e = or_right (c == a) (has a (front ++ (z ∷ rest))) (stands front z rest a e)
 
 first_apart : (z : ℕ) (front rest : List ℕ) → has_equal_entries (front ++ (z ∷ rest)) ≡ false → has z front ≡ false
 first_apart z [] rest h = refl
 first_apart z (a ∷ front) rest h =
-    let p = or_false (has a (front ++ (z ∷ rest))) (has_equal_entries (front ++ (z ∷ rest))) h in
+    let p = or_parts (has a (front ++ (z ∷ rest))) (has_equal_entries (front ++ (z ∷ rest))) h in
     by p.0 (cases_eq a z) (first_apart z front rest p.1)
   where
     by : has a (front ++ (z ∷ rest)) ≡ false → (a ≡ z) ⊎ (a ≡ z → ⊥) → has z front ≡ false → has z (a ∷ front) ≡ false
@@ -123,7 +115,7 @@ split [] z x rest l f h = ([], [], refl, heads rest f)
     heads [] f = tt
     heads (c ∷ rest) f = let g = f.0 in (omega (arith, g, l), f.1)
 split (a ∷ front) z x rest l f h =
-    let p = or_false (a == z) (has z front) h in
+    let p = or_parts (a == z) (has z front) h in
     by p.0 (cases_lt a z) (cases_eq a z) (split front z x rest l (strict_tail a (front ++ (x ∷ rest)) f) p.1)
   where
     first : (c : ℕ) (t : List ℕ) → FallsStrictly (a ∷ c ∷ t) → c < a
@@ -208,8 +200,8 @@ same_place k (suc n) (c ∷ b) α β h l f (inr m) (inl i) d e same =
 same_place k (suc n) (c ∷ b) α β h l f (inr m) (inr i) d e same =
     let r = Among_from_map (λ (α : List ℕ). 0 ∷ α) α (one_place k n) m in
     let s = Among_from_map (λ (α : List ℕ). 0 ∷ α) β (one_place k n) i in
-    let p = or_false (has (c + 0) (join b r.0)) (has_equal_entries (join b r.0)) (subst (λ t. has_equal_entries (join (c ∷ b) t) ≡ false) r.2 d) in
-    let q = or_false (has (c + 0) (join b s.0)) (has_equal_entries (join b s.0)) (subst (λ t. has_equal_entries (join (c ∷ b) t) ≡ false) s.2 e) in
+    let p = or_parts (has (c + 0) (join b r.0)) (has_equal_entries (join b r.0)) (subst (λ t. has_equal_entries (join (c ∷ b) t) ≡ false) r.2 d) in
+    let q = or_parts (has (c + 0) (join b s.0)) (has_equal_entries (join b s.0)) (subst (λ t. has_equal_entries (join (c ∷ b) t) ≡ false) s.2 e) in
     r.2
     ∙ ap (λ t. 0 ∷ t) (same_place k n b r.0 s.0 h (omega arith) (strict_tail c b f) r.1 s.1 p.1 q.1
     (λ x. under (c + 0) x (join b r.0) (join b s.0) p.0 q.0 (ap (λ t. has x (join (c ∷ b) t)) (sym r.2) ∙ same x ∙ ap (λ t. has x (join (c ∷ b) t)) s.2)))

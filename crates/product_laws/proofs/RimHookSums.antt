@@ -1,7 +1,7 @@
 -- The rule of Murnaghan and Nakayama: p_k times an alternant raises one exponent by k; where none are then equal, a rim hook
 -- of k cells is added.
 use Rattle.std.proofs.Common.{◌≡◌, ℕ, ◌+◌, ◌-◌, ◌≤◌, Bool, true, false, not, cond, nat_le, List, ◌∷◌, ◌++◌, map, length, refl, sym, ◌∙◌, ap, ap₂, subst, arith, ℤ, pos, ◌*ℤ◌, append_assoc}
-use Rattle.std.proofs.lemmas.Bool.{leb-true, le-leb}
+use Rattle.std.proofs.lemmas.Bool.{leb-true, le-leb, not-true}
 use Rattle.sym_model.specs.Sum.{total, each, select, Among, Within}
 use Rattle.sym_model.specs.Partition.{IsPartition, rows}
 use Rattle.sym_model.specs.Polynomial.{Same, join, pair, times, scale}
@@ -43,10 +43,6 @@ apart b α = not (has_equal_entries (join b α))
 -- the partition of the raised list
 abbrev pub raised_shape : List ℕ → List ℕ → List ℕ
 raised_shape b α = from_beta (sorted_falling (join b α))
-
-apart_tells : (t : Bool) → not t ≡ true → t ≡ false
-apart_tells true e = absurd (cc)
-apart_tells false e = refl
 
 -- what a raised entry with no equal entries shows
 record Shows (n k : ℕ) (parts α : List ℕ) (φ : List ℕ → ℤ) : Type 0 where
@@ -160,7 +156,7 @@ hooks_total n k parts list φ h p few l =
     equal_or α false e = sym (ap (λ (s : Bool). cond (not s) (F α) (pos 0)) e)
 
     members : (α : List ℕ) → Among α xs → Among α (one_place k n) × (has_equal_entries (join (beta n parts) α) ≡ false)
-    members α m = let s = Among_from_select (apart (beta n parts)) α (one_place k n) m in (s.0, apart_tells (has_equal_entries (join (beta n parts) α)) s.1)
+    members α m = let s = Among_from_select (apart (beta n parts)) α (one_place k n) m in (s.0, not-true (has_equal_entries (join (beta n parts) α)) s.1)
 
     seen : (α : List ℕ) → Among α xs → Shows n k parts α φ
     seen α m = let s = members α m in shows n k parts α φ h p few s.0 s.1

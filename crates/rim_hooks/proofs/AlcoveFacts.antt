@@ -4,6 +4,7 @@ use Rattle.std.proofs.lemmas.Bool.{cases_lt}
 use Rattle.std.proofs.lemmas.Bool.Decides.{nat_tests}
 use Rattle.std.proofs.lemmas.List.{length-map}
 use Rattle.std.proofs.Math.Nat.{div-add-mod, div-le_self, mul-le-mul_left, mul-le-mul_right, mod-lt, mod-mod, mod-add-div', add-mul-mod_self_right}
+use Rattle.std.proofs.Math.Bool.{or-true}
 use Rattle.sym_model.specs.Partition.{size, rows}
 use Rattle.sym_model.specs.Alternant.{staircase}
 use Rattle.sym_model.specs.Bases.{has}
@@ -58,16 +59,12 @@ turned_step n entries counts at place turns h m p l f e z w =
     subst (λ b. AreTurned n (set counts place (get_or counts place 0 + 1)) b (turns + get_or entries (at - 1) 0 / n)) (sym d)
     (turned_more n (drop at entries) counts (get_or entries (at - 1) 0) place turns h m f e z w)
 
-or_right : (a : Bool) → (a || true) ≡ true
-or_right true = refl
-or_right false = refl
-
 equal_before : (n : ℕ) (xs : List ℕ) (i : ℕ) → has_equal_entries (remainders n (drop i xs)) ≡ true → has_equal_entries (remainders n xs) ≡ true
 equal_before n [] zero e = e
 equal_before n [] (suc i) e = e
 equal_before n (x ∷ xs) zero e = e
 equal_before n (x ∷ xs) (suc i) e =
-    ap (λ t. has (x % n) (remainders n xs) || t) (equal_before n xs i e) ∙ or_right (has (x % n) (remainders n xs))
+    ap (λ t. has (x % n) (remainders n xs) || t) (equal_before n xs i e) ∙ or-true (has (x % n) (remainders n xs))
 
 pub turned_equal : (n : ℕ) (entries counts : List ℕ) (at place turns : ℕ) → 1 ≤ n → 0 < at → at ≤ length entries
     → place ≡ get_or entries (at - 1) 0 % n → 0 < get_or counts place 0 → AreTurned n counts (drop at entries) turns → has_equal_entries (remainders n entries) ≡ true
@@ -152,9 +149,6 @@ window_low n entries start left h l v =
 pub size_fits : (b : List ℕ) → ((i : ℕ) → Fits w16 (get_or b i 0)) → size b ≤ 65535 * length b
 size_fits [] f = omega arith
 size_fits (x ∷ b) f = let h = f 0 in let r = size_fits b (λ i. f (suc i)) in omega arith
-
-pub window_end : (n : ℕ) (entries : List ℕ) (start left : ℕ) → left ≡ 0 → Window n entries start left → size (map (up n start) entries) ≡ size entries
-window_end n entries start left e v = let t = v.sum in let z = ap (λ m. n * m) e in omega arith
 
 -- ---- an entry in the window
 

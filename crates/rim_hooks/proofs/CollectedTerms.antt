@@ -3,7 +3,7 @@
 --     refused_product     a sign times a coefficient that does not fit
 --     refused_sum         a sum that does not fit
 use Rattle.std.proofs.Common.{◌≡◌, ◌+◌, ◌^◌, ◌≤◌, inl, inr, Bool, true, false, cond, [], ◌∷◌, ◌++◌, refl, sym, ◌∙◌, ap, subst, arith, ℤ, pos, negsuc, ◌+ℤ◌, ◌*ℤ◌, Some, None, FitsSigned, to_z, of_z, w8}
-use Rattle.std.specs.Prelude.{nat_abs, Result, Ok, Err, OnOk}
+use Rattle.std.specs.Prelude.{nat_abs}
 use Rattle.std.specs.Int.{w128}
 use Rattle.std.proofs.lemmas.Bool.Decides.{nat_tests}
 use Rattle.std.proofs.lemmas.Int.{ints}
@@ -50,19 +50,12 @@ unanswered z e = by (fits_128_bits z) refl e
     by true d h = absurd (cc)
     by false d h = past_bound z d
 
-pub refused_product : (c sign : ℤ) → IsSign sign → checked_i128 (c *ℤ sign) ≡ None → 2 ^ 127 ≤ nat_abs c
-refused_product c sign s e = subst (λ n. 2 ^ 127 ≤ n) (nat_abs-signed c sign s) (unanswered (c *ℤ sign) e)
-
 module _ {L : Type 0} (eq : L → L → Bool) where
   coefficient-push : (before : WholeTermsOf L) (label : L) (z : ℤ) (other : L)
       → coefficient_by eq (before ++ (label, z) ∷ []) other ≡ coefficient_by eq before other +ℤ cond (eq label other) z (pos 0)
   coefficient-push before label z other =
       total_append (λ (t : L × ℤ). cond (eq t.0 other) t.1 (pos 0)) before ((label, z) ∷ [])
       ∙ ap (λ s. coefficient_by eq before other +ℤ s) (+ℤ_idr (cond (eq label other) z (pos 0)))
-
-  pub absolute-push : (before : WholeTermsOf L) (label : L) (z : ℤ) → absolute_total (before ++ (label, z) ∷ []) ≡ absolute_total before + nat_abs z
-  absolute-push [] label z = omega arith
-  absolute-push (t ∷ before) label z = let e = absolute-push before label z in omega arith
 
   coefficient_within : (before : WholeTermsOf L) (label : L) → nat_abs (coefficient_by eq before label) ≤ absolute_total before
   coefficient_within [] label = omega arith
@@ -131,7 +124,3 @@ kept_narrow z (inr e) = subst (λ y. to_z w8 (of_z w8 y) ≡ y) (sym e) refl
 -- a sign that passed through a narrow and a wide number
 pub kept_through : (sign narrow wide : ℤ) → IsSign sign → narrow ≡ to_z w8 (of_z w8 sign) → wide ≡ to_z w128 (of_z w128 narrow) → wide ≡ sign
 kept_through sign narrow wide s e d = d ∙ ap (λ z. to_z w128 (of_z w128 z)) (e ∙ kept_narrow sign s) ∙ kept_wide sign s
-
-pub on_ok : {T E : Type 0} {P Q : Type 0} (r : Result T E) → (P → Q) → OnOk r P → OnOk r Q
-on_ok (Ok x) f p = f p
-on_ok (Err e) f p = p

@@ -65,18 +65,8 @@ few_rest k x xs rest e f parts m = f parts (subst (Among parts) (sym e) (inr m))
 pub few_here : (k : ℕ) (x : List ℕ) (xs rest : List (List ℕ)) → xs ≡ x ∷ rest → AreFew k xs → rows x ≤ k
 few_here k x xs rest e f = f x (subst (Among x) (sym e) (inl refl))
 
-pub few_more : (k : ℕ) (x : List ℕ) (xs rest : List (List ℕ)) → xs ≡ x ∷ rest → rows x ≤ k → AreFew k rest → AreFew k xs
-few_more k x xs rest e h f = subst (AreFew k) (sym e) by
-  where
-    by : AreFew k (x ∷ rest)
-    by parts (inl d) = subst (λ p. rows p ≤ k) (sym d) h
-    by parts (inr m) = f parts m
-
 pub long_here : (k : ℕ) (x : List ℕ) (xs rest : List (List ℕ)) → xs ≡ x ∷ rest → k < rows x → HasLong k xs
 long_here k x xs rest e h = subst (HasLong k) (sym e) (x, inl refl, h)
-
-pub long_later : (k : ℕ) (x : List ℕ) (xs rest : List (List ℕ)) → xs ≡ x ∷ rest → HasLong k rest → HasLong k xs
-long_later k x xs rest e l = subst (HasLong k) (sym e) (l.0, inr l.1, l.2)
 
 -- ---- one step more in front
 

@@ -1,5 +1,5 @@
 -- Reductions of lists of terms, put together and times c with the powers of q raised.
---     reduced_one-none, reduced_one-some    the reduction of one term
+--     reduced_one-some                      the reduction of one term
 --     reduced_append, raised_append         of lists put together
 --     raised_same                           what is reduced may be replaced by a list with the same coefficients
 --     absolute-raised                       absolute values
@@ -25,9 +25,6 @@ use Rattle.rim_hooks.specs.ReducedLists.{PowerTerms, reduced_list}
 use Rattle.rim_hooks.proofs.Reducing.{IsMet, absolute-append, met_numerators, reduced_within}
 
 -- ---- one term
-
-pub reduced_one-none : (k n : ℕ) (shape : List ℕ) (d : ℤ) → None ≡ reduction_by_remainders k n shape → reduced_list k n ((shape, d) ∷ []) ≡ []
-reduced_one-none k n shape d e = subst (λ (r : Reduction). reduced_terms ((shape, d) ∷ []) (r ∷ []) ≡ []) e refl
 
 pub reduced_one-some : (k n : ℕ) (shape end : List ℕ) (d sign : ℤ) (power : ℕ) → Some (end, sign, power) ≡ reduction_by_remainders k n shape
     → reduced_list k n ((shape, d) ∷ []) ≡ ((power, end), d *ℤ sign) ∷ []

@@ -1,10 +1,10 @@
 -- Reflections of lists of terms, put together and times c.
---     reflected_one-none, reflected_one-some    the reflection of one term
+--     reflected_one-some                        the reflection of one term
 --     shapes_push                               one term more
 --     scaled_same                               what is reflected may be replaced by a list with the same coefficients
 --     scaled_within                             absolute values
 --     fused_push, fused_within                  one term more of the product with a factor, and its absolute values
-use Rattle.std.proofs.Common.{◌≡◌, ℕ, ◌+◌, ◌*◌, ◌^◌, ◌≤◌, List, [], ◌∷◌, ◌++◌, refl, sym, ◌∙◌, ap, subst, arith, append-nil, append_assoc, ℤ, ◌*ℤ◌, Option, Some, None}
+use Rattle.std.proofs.Common.{◌≡◌, ℕ, ◌+◌, ◌*◌, ◌^◌, ◌≤◌, List, [], ◌∷◌, ◌++◌, refl, sym, ◌∙◌, ap, subst, arith, append-nil, append_assoc, ℤ, ◌*ℤ◌, Option, Some}
 use Rattle.std.specs.Prelude.{nat_abs, nat_eq}
 use Rattle.std.specs.Cmp.Lexicographic.{pointwise}
 use Rattle.std.proofs.Math.Nat.{mul-le-mul_left}
@@ -23,9 +23,6 @@ use Rattle.rim_hooks.proofs.Reflecting.{reflected_size}
 use Rattle.rim_hooks.proofs.RaisedTerms.{nat_abs-product, weight-append}
 
 -- ---- one term
-
-pub reflected_one-none : (k n : ℕ) (shape : List ℕ) (d : ℤ) → None ≡ alcove_reduction k n shape → reflected_terms k n ((shape, d) ∷ []) ≡ []
-reflected_one-none k n shape d e = subst (λ (r : Option (List ℕ × ℤ)). reflected_term d r ++ [] ≡ []) e refl
 
 pub reflected_one-some : (k n : ℕ) (shape end : List ℕ) (d sign : ℤ) → Some (end, sign) ≡ alcove_reduction k n shape
     → reflected_terms k n ((shape, d) ∷ []) ≡ (end, d *ℤ sign) ∷ []

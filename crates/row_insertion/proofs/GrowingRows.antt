@@ -75,9 +75,6 @@ pub record IsInserting (start : List (List ℕ)) (first i : ℕ) (rows : List (L
   pub row : grown (shape_of (inserted start (Some first))) (shape_of start)
       ≡ i + grown (shape_of (inserted (drop i rows) (Some letter))) (shape_of (drop i rows))
 
-pub inserting_start : (start : List (List ℕ)) (first : ℕ) → IsInserting start first 0 start first
-inserting_start start first = record { rest = refl; row = omega arith }
-
 split_at : (i : ℕ) (rows : List (List ℕ)) → i < length rows → drop i rows ≡ get_or rows i [] ∷ drop (i + 1) rows
 split_at i rows h = let e : i + 1 ≡ suc i = omega arith in by i rows h ∙ ap (λ n. get_or rows i [] ∷ drop n rows) (sym e)
   where

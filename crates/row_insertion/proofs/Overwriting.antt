@@ -1,8 +1,8 @@
 -- A list written over another one of its length, place by place, and fillings so.
 use Rattle.std.proofs.Common.{◌≡◌, ℕ, zero, suc, ◌+◌, ◌-◌, ◌<◌, ◌≤◌, List, [], ◌∷◌, ◌++◌, length, take, drop, get_or, ◌∙◌, ap, ap₂, sym, refl, arith}
 use Rattle.std.proofs.Math.ListN.{set}
-use Rattle.std.proofs.lemmas.List.{set-get_or, get_or-set_same, length-map}
-use Rattle.sym_model.specs.Partition.{IsCell, part, rows}
+use Rattle.std.proofs.lemmas.List.{get_or-set_same, length-map}
+use Rattle.sym_model.specs.Partition.{part, rows}
 use Rattle.sym_model.specs.Tableau.{SkewFilling, shape_of}
 use Rattle.skew_shapes.specs.CellFillings.{row_of, place_in_row, with_entry}
 use Rattle.row_insertion.specs.RowLists.{with_row, straight}
@@ -53,26 +53,6 @@ length-at (row ∷ rows) (suc i) = length-at rows i
 pub record IsWriting (old now : SkewFilling) (row : ℕ) (numbers : List ℕ) (at : ℕ) : Type 0 where
   pub filling : now ≡ with_row old row (take at numbers ++ drop at (row_of old.rows row))
 
-pub writing_starts : (old : SkewFilling) (row : ℕ) (numbers : List ℕ) → IsWriting old old row numbers 0
-writing_starts old row numbers =
-    record {
-      filling =
-          ap (λ (rows : List (List ℕ)). let t : SkewFilling = record { outer = old.outer; inner = old.inner; rows = rows } in t)
-          (sym (set-get_or old.rows (row - 1) []));
-    }
-
-pub cell_to_write :
-    (old now : SkewFilling) (row : ℕ) (numbers : List ℕ) (at : ℕ) → IsWriting old now row numbers at → old.inner ≡ [] → 1 ≤ row
-    → at < part old.outer row → IsCell now.outer now.inner row (at + 1)
-cell_to_write old now row numbers at h e r l =
-    let inner : now.inner ≡ [] = ap (λ (t : SkewFilling). t.inner) h.filling ∙ e in
-    let outer : now.outer ≡ old.outer = ap (λ (t : SkewFilling). t.outer) h.filling in
-    record {
-      row_counts = r;
-      outside = omega (arith, ap (λ i. part i row) inner, no_part row);
-      within = omega (arith, ap (λ i. part i row) outer);
-    }
-
 pub writing_more :
     (old now after : SkewFilling) (row : ℕ) (numbers : List ℕ) (at x : ℕ) → old.inner ≡ [] → 1 ≤ row → row ≤ length old.rows
     → at < length numbers → length numbers ≡ length (row_of old.rows row) → x ≡ get_or numbers at x
@@ -91,11 +71,6 @@ writing_more old now after row numbers at x e r l h same g s a =
           (ap₂ (λ w i. set w i x) (get_or-set_same old.rows (row - 1) cur [] within) (ap (λ i. place_in_row i row (at + 1)) e ∙ place)
           ∙ overwritten at numbers base x h same g));
     }
-
-pub writing_ends :
-    (old now : SkewFilling) (row : ℕ) (numbers : List ℕ) (at : ℕ) → at ≡ length numbers → length numbers ≡ length (row_of old.rows row)
-    → IsWriting old now row numbers at → now ≡ with_row old row numbers
-writing_ends old now row numbers at h l s = s.filling ∙ ap (with_row old row) (all_written at numbers (row_of old.rows row) h l)
 
 pub row_length :
     (old : SkewFilling) (row : ℕ) (numbers : List ℕ) → shape_of old.rows ≡ old.outer → length numbers ≡ part old.outer row

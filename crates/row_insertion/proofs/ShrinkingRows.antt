@@ -182,15 +182,6 @@ rising_more start now after at above letter next i new h e a f g s =
           g ∙ ap (λ b. letter_back b (row_at start i)) s.letter_is ∙ ap (λ (x : List (List ℕ) × ℕ). x.1) (sym one);
     }
 
-pub rising_ends :
-    (start now : List (List ℕ)) (at above letter : ℕ) → above ≡ 0 → IsRising start at above now letter → (now, letter) ≡ removed at start
-rising_ends start now at above letter e s =
-    let count : at - above ≡ at = omega arith in
-    let all : removed (at - above) (drop above start) ≡ removed at start = ap₂ (λ n m. removed n (drop m start)) count e in
-    ap₂ {C = List (List ℕ) × ℕ} (λ (x : List (List ℕ)) (y : ℕ). (x, y))
-    (s.rows ∙ ap (λ n. take n start ++ (removed (at - above) (drop above start)).0) e ∙ ap (λ (x : List (List ℕ) × ℕ). x.0) all)
-    (s.letter_is ∙ ap (λ (x : List (List ℕ) × ℕ). x.1) all)
-
 pub filled_row : (m i : ℕ) (rows : List (List ℕ)) → AreRows m rows → i < length rows → 0 < length (row_at rows i)
 filled_row m i [] h l = absurd (omega arith)
 filled_row m zero (row ∷ rows) h l = h.0.filled

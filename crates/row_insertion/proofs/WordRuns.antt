@@ -56,13 +56,6 @@ pub record IsRun (w : List ℕ) (at : ℕ) (p q : List (List ℕ)) : Type 0 wher
   pub pair : IsPairAt 1 at p q
   pub rest : insertion_pair w ≡ inserted_from (at + 1) (drop at w) p q
 
-pub run_starts : (w : List ℕ) → IsRun w 0 [] []
-run_starts w =
-    record {
-      pair = record { p_rows = tt; q_rows = tt; shapes = refl; below = tt; once = λ j f t. absurd (omega arith); cells = refl };
-      rest = refl;
-    }
-
 letter_at : (w : List ℕ) (i a : ℕ) → i < length w → are_letters w ≡ true → a ≡ get_or w i a → 1 ≤ a
 letter_at [] i a h l e = absurd (omega arith)
 letter_at (b ∷ w) zero a h l e = omega (arith, leb-true 1 b (and_parts (nat_le 1 b) (are_letters w) l).0)
@@ -108,16 +101,6 @@ run_more w at a i p q next after h l e s f g r =
           s.rest ∙ ap (λ v. inserted_from k v p q) (split_word w at a h e)
           ∙ ap₂ (λ (x y : List (List ℕ)). inserted_from (k + 1) (drop k w) x y) (sym f) both;
     }
-
-pub run_ends : (w : List ℕ) (at : ℕ) (p q : List (List ℕ)) → at ≡ length w → IsRun w at p q → insertion_pair w ≡ (p, q)
-run_ends w at p q h s = s.rest ∙ ap (λ v. inserted_from (at + 1) v p q) (ap (λ n. drop n w) h ∙ none w)
-  where
-    none : (w : List ℕ) → drop (length w) w ≡ []
-    none [] = refl
-    none (a ∷ w) = none w
-
-pub run_cells : (w : List ℕ) (at : ℕ) (p q : List (List ℕ)) → IsRun w at p q → (size (shape_of p) ≡ at) × (size (shape_of q) ≡ at)
-run_cells w at p q s = (ap size s.pair.shapes ∙ s.pair.cells, s.pair.cells)
 
 pub run_standard : (w : List ℕ) (at : ℕ) (p q : List (List ℕ)) → IsRun w at p q → IsStandard q
 run_standard w at p q s = standard_from 1 at p q s.pair

@@ -22,13 +22,6 @@ differences-plus k f g =
     ∙ pair_plus f g (along k φ)
     ∙ sym (pair_plus (differences_after k f) (differences_after k g) φ ∙ ap₂ ◌+ℤ◌ (pair_differences k f φ) (pair_differences k g φ)))
 
-pub differences-negate : (k : ℕ) (f : Poly) → Same (differences_after k (negate f)) (negate (differences_after k f))
-differences-negate k f =
-    same_from_pair (differences_after k (negate f)) (negate (differences_after k f)) (λ φ.
-    pair_differences k (negate f) φ
-    ∙ pair_negate f (along k φ)
-    ∙ sym (pair_negate (differences_after k f) φ ∙ ap neg_ℤ (pair_differences k f φ)))
-
 pub differences-scale : (k : ℕ) (c : ℤ) (f : Poly) → Same (differences_after k (scale c f)) (scale c (differences_after k f))
 differences-scale k c f =
     same_from_pair (differences_after k (scale c f)) (scale c (differences_after k f)) (λ φ.
@@ -91,11 +84,6 @@ exchange_variables k f = map (λ (t : Term). (exchange_at k t.0, t.1)) f
 
 pub pair_exchange_variables : (k : ℕ) (f : Poly) (φ : List ℕ → ℤ) → pair (exchange_variables k f) φ ≡ pair f (λ α. φ (exchange_at k α))
 pair_exchange_variables k f φ = total_map (λ (t : Term). t.1 *ℤ φ t.0) (λ (t : Term). (exchange_at k t.0, t.1)) f
-
-pub exchange_variables_respect : (k : ℕ) (f g : Poly) → Same f g → Same (exchange_variables k f) (exchange_variables k g)
-exchange_variables_respect k f g e =
-    same_from_pair (exchange_variables k f) (exchange_variables k g) (λ φ.
-    pair_exchange_variables k f φ ∙ pair_determined f g (λ α. φ (exchange_at k α)) e ∙ sym (pair_exchange_variables k g φ))
 
 -- ---- the rule of products
 

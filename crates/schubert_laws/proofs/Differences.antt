@@ -2,7 +2,7 @@
 --     along k φ              what φ gives on ∂ of a monomial, in the two variables after the first k
 --     pair_differences       the pairing of ∂ f is that of f with `along`
 --     along_square, along_braid, along_commute, along_product      the laws of divided differences, on test functions
-use Rattle.std.proofs.Common.{◌≡◌, ℕ, zero, suc, ◌+◌, ◌-◌, ◌≤◌, List, [], ◌∷◌, ◌++◌, length, refl, sym, ◌∙◌, ap, arith, ℤ, pos, ◌+ℤ◌, ◌*ℤ◌, neg_ℤ, inl, inr}
+use Rattle.std.proofs.Common.{◌≡◌, ℕ, zero, suc, ◌+◌, ◌-◌, ◌≤◌, List, [], ◌∷◌, ◌++◌, refl, sym, ◌∙◌, ap, arith, ℤ, pos, ◌+ℤ◌, ◌*ℤ◌, neg_ℤ, inl, inr}
 use Rattle.std.proofs.lemmas.Int.{ints}
 use Rattle.std.proofs.lemmas.Bool.{cases_lt}
 use Rattle.std.specs.List.{range_with_len}
@@ -110,13 +110,6 @@ along_ext zero φ ψ e (a ∷ []) = refl
 along_ext zero φ ψ e (a ∷ b ∷ rest) = across_ext (λ c d. φ (c ∷ d ∷ rest)) (λ c d. ψ (c ∷ d ∷ rest)) (λ c d. e (c ∷ d ∷ rest)) a b
 along_ext (suc k) φ ψ e [] = refl
 along_ext (suc k) φ ψ e (a ∷ rest) = along_ext k (λ β. φ (a ∷ β)) (λ β. ψ (a ∷ β)) (λ β. e (a ∷ β)) rest
-
-pub along_in : (k n : ℕ) (φ ψ : List ℕ → ℤ) → ((α : List ℕ) → length α ≡ n → φ α ≡ ψ α) → (α : List ℕ) → length α ≡ n → along k φ α ≡ along k ψ α
-along_in zero n φ ψ e [] l = refl
-along_in zero n φ ψ e (a ∷ []) l = refl
-along_in zero n φ ψ e (a ∷ b ∷ rest) l = across_ext (λ c d. φ (c ∷ d ∷ rest)) (λ c d. ψ (c ∷ d ∷ rest)) (λ c d. e (c ∷ d ∷ rest) l) a b
-along_in (suc k) n φ ψ e [] l = refl
-along_in (suc k) n φ ψ e (a ∷ rest) l = along_in k (length rest) (λ β. φ (a ∷ β)) (λ β. ψ (a ∷ β)) (λ β d. e (a ∷ β) (ap suc d ∙ l)) rest refl
 
 pub along_zero : (k : ℕ) (α : List ℕ) → along k (λ β. pos 0) α ≡ pos 0
 along_zero zero [] = refl

@@ -88,13 +88,6 @@ moved_after : (k : ℕ) → moved k (suc k) ≡ k
 moved_after zero = refl
 moved_after (suc k) = ap suc (moved_after k)
 
-moved_none : (k r : ℕ) → (r ≡ k → ⊥) → (r ≡ suc k → ⊥) → moved k r ≡ r
-moved_none zero zero p q = absurd (p refl)
-moved_none zero (suc zero) p q = absurd (q refl)
-moved_none zero (suc (suc r)) p q = refl
-moved_none (suc k) zero p q = refl
-moved_none (suc k) (suc r) p q = ap suc (moved_none k r (λ e. p (ap suc e)) (λ e. q (ap suc e)))
-
 -- ---- the terms
 
 -- w covers its swapped list: one pair fewer rises there

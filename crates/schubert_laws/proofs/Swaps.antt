@@ -42,13 +42,6 @@ length-swap_at (suc a) (suc b) (x ∷ w) = ap suc (length-swap_at a b w)
 
 -- ---- moved places
 
-pub moved_twice : (k a : ℕ) → moved k (moved k a) ≡ a
-moved_twice zero zero = refl
-moved_twice zero (suc zero) = refl
-moved_twice zero (suc (suc a)) = refl
-moved_twice (suc k) zero = refl
-moved_twice (suc k) (suc a) = ap suc (moved_twice k a)
-
 pub moved_within : (k a n : ℕ) → suc k < n → a < n → moved k a < n
 moved_within zero zero n h l = h
 moved_within zero (suc zero) n h l = omega arith

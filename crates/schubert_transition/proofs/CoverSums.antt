@@ -47,12 +47,6 @@ covers_next i r w h =
     ∙ covers_split (i - 1) 1 r w
     ∙ ap (λ xs. covers_before i r w ++ xs) (one_place i r w h)
 
-pub covers_first : (r : ℕ) (w : List ℕ) → covers_before 1 r w ≡ []
-covers_first r w = refl
-
-pub covers_last : (r : ℕ) (w : List ℕ) → 1 ≤ r → covers_before r r w ≡ covers_down r w
-covers_last r w h = refl
-
 pub covers_skip : (i r : ℕ) (w : List ℕ) → 1 ≤ i → (inversions (times_swap i r w) ≡ inversions w + 1 → ⊥) → covers_before (i + 1) r w ≡ covers_before i r w
 covers_skip i r w h n =
     covers_next i r w h

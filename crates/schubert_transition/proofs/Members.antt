@@ -1,5 +1,5 @@
 -- The permutations on the right side of the transition rule: they are permutations, of not more letters.
-use Rattle.std.proofs.Common.{◌≡◌, ℕ, ◌+◌, ◌-◌, ◌<◌, ◌≤◌, List, ◌==◌, map, length, sym, ap, ap₂, ◌∙◌, subst, arith, length-append, eqb-true}
+use Rattle.std.proofs.Common.{◌≡◌, ℕ, ◌+◌, ◌-◌, ◌<◌, ◌≤◌, List, ◌==◌, map, length, sym, ap, ap₂, ◌∙◌, subst, arith, length-append}
 use Rattle.sym_model.specs.Sum.{Among}
 use Rattle.sym_model.specs.Partition.{after}
 use Rattle.sym_model.specs.PlaceOrders.{inversions}
@@ -74,9 +74,3 @@ fewer_inversions w r s o t =
     let is : times_swap r s w ≡ kept (swap_at p.0 p.1 w) = ap₂ (λ i j. times_swap i j w) p.2 p.3 ∙ kept_swap w p.0 p.1 g.order g.inside in
     let same = ap inversions is in
     omega arith
-
--- and the others have as many
-pub cover_inversions : (r : ℕ) (u x : List ℕ) → Among x (covers_down r u) → inversions x ≡ inversions u + 1
-cover_inversions r u x m =
-    let a = Among_from_select (λ (v : List ℕ). inversions v == inversions u + 1) x (map (λ i. times_swap i r u) (after 0 (r - 1))) m in
-    eqb-true (inversions x) (inversions u + 1) a.1

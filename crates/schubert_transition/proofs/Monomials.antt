@@ -64,9 +64,6 @@ all_monomials n (x ∷ xs) h =
       λ φ. ap₂ ◌+ℤ◌ (here.sums φ) (rest.1 φ) ∙ sym (total_append φ (here.first ∷ here.others) rest.0),
     )
 
-Known : ℕ → ℕ → Type 0
-Known n k = (v : List ℕ) → IsShort n v → rank (suc n) v < k → HasMonomials (schubert_in v n)
-
 monomials_by : (n k : ℕ) (w : List ℕ) → ((v : List ℕ) → IsShort n v → rank (suc n) v < k → HasMonomials (schubert_in v n)) → IsShort n w → rank (suc n) w < suc k
     → (o : Option ℕ) → last_descent w ≡ o → HasMonomials (schubert_in w n)
 monomials_by n k w known short below None e = record {

@@ -1,6 +1,7 @@
 -- The coproduct of a Schur polynomial: tableaux cut at an entry, with their contents.
 use Rattle.std.proofs.Common.{◌≡◌, ℕ, zero, suc, ◌+◌, ◌-◌, ◌<◌, ◌≤◌, ◌==◌, ◌⊎◌, inl, inr, true, ◌&&◌, cond, List, [], ◌∷◌, ◌++◌, append-nil, map, length, replicate, refl, sym, ap, ap₂, ◌∙◌, arith, ℤ, pos, ◌+ℤ◌, ◌*ℤ◌}
 use Rattle.std.proofs.lemmas.Bool.{ne_eqb, eq-eqb, cases_eq, lt-ltb}
+use Rattle.std.proofs.lemmas.List.{map-append}
 use Rattle.sym_model.specs.Sum.{total, each, select}
 use Rattle.sym_model.specs.Partition.{IsPartition, columns, part, after, in_front, without_last_zeros}
 use Rattle.sym_model.specs.Polynomial.{Term, Same, pair}
@@ -112,10 +113,6 @@ times_in_high n j (v ∷ S) (w ∷ T) h l e =
     let b = times_in-append (n + j) v (raised_by n w) in
     let c = times_in-append j w (letters_of T) in
     omega arith
-
-pub map-append : {A B : Type 0} (f : A → B) (xs ys : List A) → map f (xs ++ ys) ≡ map f xs ++ map f ys
-map-append f [] ys = refl
-map-append f (x ∷ xs) ys = ap (λ l. f x ∷ l) (map-append f xs ys)
 
 pub map-map : {A B C : Type 0} (f : B → C) (g : A → B) (xs : List A) → map f (map g xs) ≡ map (λ (x : A). f (g x)) xs
 map-map f g [] = refl

@@ -6,6 +6,7 @@
 --     over_rows-no_row_above  a row of zeros above is as none
 use Rattle.std.proofs.Common.{◌≡◌, ℕ, zero, suc, Bool, true, false, cond, ◌&&◌, List, [], ◌∷◌, ◌++◌, map, length, replicate, nat_lt, sym, ◌∙◌, ap, ap₂, refl, ℤ, pos}
 use Rattle.std.proofs.lemmas.Bool.{lt-ltb, and_from}
+use Rattle.std.proofs.Math.Bool.{and-true, and_assoc}
 use Rattle.sym_model.specs.Sum.{total}
 use Rattle.sym_model.specs.Partition.{in_front, without_last_zeros}
 use Rattle.sym_model.specs.Polynomial.{pair, join}
@@ -32,17 +33,9 @@ columns_rise-none : (upper : List ℕ) → columns_rise upper [] ≡ true
 columns_rise-none [] = refl
 columns_rise-none (a ∷ upper) = refl
 
-and_true : (p : Bool) → (p && true) ≡ p
-and_true true = refl
-and_true false = refl
-
-regroup : (p q r : Bool) → (p && q && r) ≡ (p && (q && r))
-regroup true q r = refl
-regroup false q r = refl
-
 semistandard-front : (row : List ℕ) (rows : List (List ℕ)) → semistandard [] (row ∷ rows) ≡ (row_rises row && (columns_rise row (first_line rows) && semistandard [] rows))
-semistandard-front row [] = sym (ap (λ b. row_rises row && (b && true)) (columns_rise-none row) ∙ and_true (row_rises row))
-semistandard-front row (lower ∷ rows) = regroup (row_rises row) (columns_rise row lower) (semistandard [] (lower ∷ rows))
+semistandard-front row [] = sym (ap (λ b. row_rises row && (b && true)) (columns_rise-none row) ∙ and-true (row_rises row))
+semistandard-front row (lower ∷ rows) = and_assoc (row_rises row) (columns_rise row lower) (semistandard [] (lower ∷ rows))
 
 -- whether the rows of a tableau may stand below a row
 abbrev stands_below : List ℕ → List (List ℕ) → Bool

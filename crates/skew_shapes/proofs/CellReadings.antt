@@ -190,16 +190,6 @@ right-more outer inner (suc i) h l =
     ∙ each-append (column_cells outer inner) (reverse (after (suc i) k)) (suc i ∷ [])
     ∙ ap (λ l. each (column_cells outer inner) (reverse (after (suc i) k)) ++ l) (append-nil (column_cells outer inner (suc i)))
 
-pub right-none : (outer inner : List ℕ) → cells_right_of outer inner (columns outer) ≡ []
-right-none outer inner =
-    let e : columns outer - columns outer ≡ 0 = omega arith in
-    ap (λ n. each (column_cells outer inner) (reverse (after (columns outer) n))) e
-
-pub right-all : (outer inner : List ℕ) → cells_right_of outer inner 0 ≡ reading_cells outer inner
-right-all outer inner =
-    let e : columns outer - 0 ≡ columns outer = omega arith in
-    ap (λ n. each (column_cells outer inner) (reverse (after 0 n))) e
-
 pub Among-reverse : (x : ℕ) (xs : List ℕ) → Among x (reverse xs) → Among x xs
 Among-reverse x [] m = m
 Among-reverse x (y ∷ xs) m = by (Among_from_append x (reverse xs) (y ∷ []) (subst (Among x) (reverse-append (y ∷ []) xs) m)) (λ m. Among-reverse x xs m)

@@ -6,7 +6,7 @@
 --     part_within                                         no row is longer than the partition is great
 --     rows_at, rows_fall, rows_next                       a list of rows that are a function of the row
 use Rattle.std.proofs.Common.{◌≡◌, ◌⊎◌, ℕ, zero, suc, ◌+◌, ◌-◌, ◌<◌, ◌≤◌, Bool, true, false, cond, List, [], ◌∷◌, ◌++◌, map, get_or, refl, sym, ap, ap₂, ◌∙◌, subst, inl, inr, arith}
-use Rattle.std.proofs.lemmas.Bool.{cases_lt}
+use Rattle.std.proofs.lemmas.Bool.{cases_lt, false_from_ne_true as not_true}
 use Rattle.std.proofs.lemmas.Cmp.{nat_cmp_total, tied_itself}
 use Rattle.std.proofs.lemmas.List.{length-map}
 use Rattle.std.specs.Cmp.{nat_cmp_is}
@@ -31,10 +31,6 @@ pub none_fits : (test : ℕ → Bool) (shape : ℕ → List ℕ) (xs : List ℕ)
 none_fits test shape [] h = refl
 none_fits test shape (x ∷ xs) h =
     ap₂ (λ (b : Bool) l. cond b (shape x ∷ []) [] ++ l) (h x (inl refl)) (none_fits test shape xs (λ i m. h i (inr m)))
-
-not_true : (b : Bool) → (b ≡ true → ⊥) → b ≡ false
-not_true true n = absurd (n refl)
-not_true false n = refl
 
 pub one_fits : (test : ℕ → Bool) (shape : ℕ → List ℕ) (i : ℕ) (xs : List ℕ) → Once xs → Among i xs → test i ≡ true
     → ((j : ℕ) → Among j xs → test j ≡ true → j ≡ i) → fitting test shape xs ≡ shape i ∷ []

@@ -1,6 +1,7 @@
 -- A tableau by the tests of its rows.
 use Rattle.std.proofs.Common.{◌≡◌, ℕ, zero, suc, ◌+◌, ◌-◌, ◌<◌, Bool, true, false, ◌&&◌, cond, nat_le, nat_lt, List, [], ◌∷◌, ◌++◌, length, drop, get_or, slice_index_or, ◌∙◌, ap, ap₂, sym, refl, inl, inr, arith, append-nil}
 use Rattle.std.proofs.lemmas.Bool.{cases_lt, lt-ltb, le-ltb, and_parts}
+use Rattle.std.proofs.Math.Bool.{and-true}
 use Rattle.sym_model.specs.Partition.{part, after}
 use Rattle.sym_model.specs.Schur.{row_rises, columns_rise, semistandard, letters_of}
 use Rattle.sym_model.specs.GoodTableau.{every}
@@ -96,18 +97,14 @@ regroup true b true false e = never b
     never false = refl
 regroup true b true true e = refl
 
-and_true : (p : Bool) → (p && true) ≡ p
-and_true true = refl
-and_true false = refl
-
 pub tests-rows :
     (inner : List ℕ) (rows : List (List ℕ))
     → (are_letters (letters_of rows) && semistandard inner rows) ≡ every (row_passes inner rows) (after 0 (length rows))
 tests-rows inner [] = refl
 tests-rows inner (row ∷ []) =
     ap (λ l. are_letters l && row_rises row) (append-nil row)
-    ∙ ap (λ b. are_letters row && b) (sym (and_true (row_rises row)))
-    ∙ sym (and_true (are_letters row && (row_rises row && true)))
+    ∙ ap (λ b. are_letters row && b) (sym (and-true (row_rises row)))
+    ∙ sym (and-true (are_letters row && (row_rises row && true)))
 tests-rows inner (row ∷ lower ∷ rows) =
     let rest = lower ∷ rows in
     let more = tests-rows (drop 1 inner) (lower ∷ rows) in
@@ -134,6 +131,3 @@ IsTableauWithin-from t f h =
         order = tests.1;
       };
     }
-
-pub is_tableau-from : (t : SkewFilling) → IsTableauWithin t → is_tableau t ≡ true
-is_tableau-from t h = ap₂ (λ a b. a && b) h.tableau.letters h.tableau.order

@@ -63,10 +63,6 @@ pub record IsGrown (most left : ℕ) (inner outer : List ℕ) : Type 0 where
   pub cells : size outer ≡ size inner + left
   pub few : rows outer ≤ rows inner + left
 
-falls_tail : (a : ℕ) (inner : List ℕ) → Falls (a ∷ inner) → Falls inner
-falls_tail a [] f = tt
-falls_tail a (b ∷ inner) f = f.1
-
 pub strips_on-tell : (most left : ℕ) (inner outer : List ℕ) → Falls (most ∷ inner) → left ≤ most → Among outer (strips_on most left inner) → IsGrown most left inner outer
 strips_on-tell most left [] outer f h m = by (left == 0) refl m
   where
@@ -281,10 +277,6 @@ append_none (x ∷ xs) = ap (λ l. x ∷ l) (append_none xs)
 pub split_rows : (parts : List ℕ) → 1 ≤ length parts → get_or parts 0 0 ∷ take (length parts - 1) (drop 1 parts) ≡ parts
 split_rows [] h = absurd (omega arith)
 split_rows (k ∷ parts) h = ap (λ r. k ∷ r) (take_all (length (k ∷ parts) - 1) parts (omega arith))
-
-pub no_rows : (parts : List ℕ) → length parts < 1 → [] ≡ parts
-no_rows [] h = refl
-no_rows (k ∷ parts) h = absurd (omega arith)
 
 -- the shapes with one of the first rows so far
 abbrev pub grown : ℕ → ℕ → List ℕ → ℕ → List (List ℕ)

@@ -241,9 +241,6 @@ distribute x y z = simp ring (omega (arith, ints))
 pub distribute_counts : (z : ℤ) (a b c : ℕ) → c ≡ a + b → z *ℤ pos a +ℤ z *ℤ pos b ≡ z *ℤ pos c
 distribute_counts z a b c e = distribute (pos a) (pos b) z ∙ ap (λ n. z *ℤ pos n) (sym e)
 
-pub distribute_rows : (z x y w : ℤ) → w ≡ x +ℤ y → z *ℤ x +ℤ z *ℤ y ≡ z *ℤ w
-distribute_rows z x y w e = distribute x y z ∙ ap (λ n. z *ℤ n) (sym e)
-
 -- where the sum is empty
 pub times-nothing : (z w : ℤ) → w ≡ pos 0 → z *ℤ w ≡ pos 0
 times-nothing z w e = ap (λ n. z *ℤ n) e ∙ *ℤ-zero z

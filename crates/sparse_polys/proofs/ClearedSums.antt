@@ -10,6 +10,7 @@ use Rattle.std.specs.Option.{unwrap_or}
 use Rattle.std.specs.Cmp.Lexicographic.{pointwise, nat_list_eq_equiv}
 use Rattle.std.proofs.lemmas.Bool.{cases_lt}
 use Rattle.std.proofs.lemmas.Int.{ints, unsigned_abs-mul}
+use Rattle.std.proofs.Math.Nat.{zero-mul}
 use Rattle.sym_model.specs.Sum.{total}
 use Rattle.sym_model.specs.Expansion.{Fraction, Terms}
 use Rattle.sym_model.specs.LabelLimits.{is_monomial_label}
@@ -17,7 +18,7 @@ use Rattle.sym_model.specs.ListWeight.{absolute_sum}
 use Rattle.sym_model.proofs.Ring.{distributes_right}
 use Rattle.coeff_rings.specs.Fractions.{whole, scaled, InLowestTerms, fraction_sum, fraction_product}
 use Rattle.coeff_rings.specs.Room.{magnitude, HasRoomForSum}
-use Rattle.coeff_rings.specs.Answers.{AnswersSum, AnswersProduct}
+use Rattle.coeff_rings.specs.Answers.{AnswersSum}
 use Rattle.coeff_rings.specs.Proved.Cleared.{unsigned_abs-scaled, sum-cleared, product-cleared}
 use Rattle.sparse_polys.specs.Combination.{HasMoreAt, IsCombination}
 use Rattle.sparse_polys.specs.Labels.{same_partition}
@@ -60,9 +61,6 @@ found_within q (t ∷ terms) e = by (pointwise nat_eq e t.0) (found_within q ter
     by true rest = let s = size-here q t.1 in omega arith
     by false rest = omega arith
 
-nothing_here : (n : ℕ) → 0 * n ≡ 0
-nothing_here n = omega arith
-
 triangle : (x y : ℤ) → unsigned_abs (x +ℤ y) ≤ unsigned_abs x + unsigned_abs y
 triangle x y = omega (arith, ints)
 
@@ -101,7 +99,7 @@ module _ (q : ℕ) (old new : Terms (List ℕ)) (k : List ℕ) (c : Fraction) (i
 
   grows_more : absolute_sum q new ≤ absolute_sum q old + magnitude q c
   grows_more =
-      let t = total-more nat_list_eq_equiv same_partition (λ (l : List ℕ) (r : Fraction). pos (magnitude q r)) (λ l. ap pos (nothing_here (q / 1))) k old new is also c more in
+      let t = total-more nat_list_eq_equiv same_partition (λ (l : List ℕ) (r : Fraction). pos (magnitude q r)) (λ l. ap pos (zero-mul (q / 1))) k old new is also c more in
       let s = ap unsigned_abs sum_here in
       let r = triangle (scaled q (coefficient_at old k)) (scaled q c) in
       let u = unsigned_abs-scaled q (coefficient_at new k) in
@@ -146,18 +144,6 @@ refused-term is_held value checked answers q m old k c refused some small divide
     by none (inr l) = l
 
 -- ---- one product
-
--- a product is refused for its size alone
-pub refused-product : {R : Type 0} (value : R → Fraction) (x y : R) (d e : ℕ) → AnswersProduct value x y None → AreDenominators d e (value x) (value y)
-    → d * e < 2 ^ 127 → 2 ^ 127 ≤ magnitude d (value x) * magnitude e (value y)
-refused-product value x y d e answers h small = by (cases_lt (magnitude d (value x) * magnitude e (value y)) (2 ^ 127))
-  where
-    by : (magnitude d (value x) * magnitude e (value y) < 2 ^ 127) ⊎ (2 ^ 127 ≤ magnitude d (value x) * magnitude e (value y))
-        → 2 ^ 127 ≤ magnitude d (value x) * magnitude e (value y)
-    by (inl l) =
-        let some = answers.room d e (record { left_positive = h.left_positive; right_positive = h.right_positive; small = small; left = h.left; right = h.right; room = l }) in
-        cc
-    by (inr l) = l
 
 pub record IsClearedProduct (d e : ℕ) (a b c : Fraction) : Type 0 where
   pub positive : 0 < d * e

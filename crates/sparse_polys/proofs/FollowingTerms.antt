@@ -59,12 +59,6 @@ pairs-from value pairs at p below is =
 module _ {L R : Type 0} (order : L → L → Ordering) (is_label : L → Bool) (value : R → Fraction) (pairs : List (L × R)) (at : ℕ)
     (previous : Option L)
     (so_far : each_follows order is_label None (terms_of value pairs) ≡ each_follows order is_label previous (terms_of value (drop at pairs))) where
-  -- a pair that follows
-  pub follows-more : (p : L × R) → at < length pairs → p ≡ get_or pairs at p → is_next order is_label previous (p.0, value p.1) ≡ true
-      → each_follows order is_label None (terms_of value pairs) ≡ each_follows order is_label (Some p.0) (terms_of value (drop (at + 1) pairs))
-  follows-more p below is next =
-      so_far ∙ ap (each_follows order is_label previous) (pairs-from value pairs at p below is)
-      ∙ ap (λ b. b && each_follows order is_label (Some p.0) (terms_of value (drop (at + 1) pairs))) next
 
   -- a pair that does not
   pub follows-not : (p : L × R) → at < length pairs → p ≡ get_or pairs at p → is_next order is_label previous (p.0, value p.1) ≡ false

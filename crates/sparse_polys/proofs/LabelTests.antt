@@ -1,7 +1,7 @@
 -- What the types of labels hold and the tests of labels say the same.
-use Rattle.std.proofs.Common.{◌≡◌, ℕ, ◌≤◌, inl, inr, Bool, true, false, ◌&&◌, ◌||◌, List, [], ◌∷◌, length, eqb, refl, sym, ap}
+use Rattle.std.proofs.Common.{◌≡◌, ℕ, ◌≤◌, inl, inr, true, false, ◌&&◌, List, [], ◌∷◌, length, eqb, refl, sym, ap}
 use Rattle.std.specs.Prelude.{not, nat_le, nat_lt}
-use Rattle.std.proofs.lemmas.Bool.{and_from, le-leb, lt-ltb, ne_eqb}
+use Rattle.std.proofs.lemmas.Bool.{and_from, le-leb, lt-ltb, ne_eqb, or_from}
 use Rattle.sym_model.specs.Polynomial.{same}
 use Rattle.sym_model.specs.Bases.{has}
 use Rattle.sym_model.specs.BetaList.{has_equal_entries}
@@ -25,10 +25,6 @@ are_letters-from n (a ∷ w) h =
     and_from (nat_le 1 a && nat_le a n) (are_letters n w)
     (and_from (nat_le 1 a) (nat_le a n) (le-leb 1 a p.0) (le-leb a n p.1))
     (are_letters-from n w (λ b k. h b (inr k)))
-
-or_from : (a b : Bool) → a ≡ false → b ≡ false → (a || b) ≡ false
-or_from true b h k = h
-or_from false b h k = k
 
 has_not : (a : ℕ) (w : List ℕ) → (Among a w → ⊥) → has a w ≡ false
 has_not a [] h = refl

@@ -1,9 +1,7 @@
 -- The pair at the place of a label in a table.
-use Rattle.std.proofs.Common.{◌≡◌, ℕ, zero, suc, ◌+◌, ◌<◌, Bool, true, false, not, cond, List, [], ◌∷◌, length, get_or, sym, ap, ◌∙◌, subst, arith}
-use Rattle.std.specs.Prelude.{Option, Some, None, IsSome, position, slice_get}
-use Rattle.std.specs.List.{position_or_len}
+use Rattle.std.proofs.Common.{◌≡◌, ℕ, zero, suc, Bool, true, cond, List, [], ◌∷◌, get_or, sym, ap, ◌∙◌, subst}
+use Rattle.std.specs.Prelude.{Option, Some, position, slice_get}
 use Rattle.std.specs.Map.{lookup, keys_of}
-use Rattle.std.proofs.lemmas.Bool.{lt-ltb}
 use Rattle.std.proofs.lemmas.List.Quantifiers.{position-Some}
 use Rattle.std.specs.Cmp.{IsEquivalence}
 use Rattle.coeff_rings.specs.Fractions.{fraction_sum}
@@ -17,18 +15,6 @@ module _ {L X : Type 0} where
   key_at [] i p d h = cc
   key_at (e ∷ es) zero p d h = let here : e ≡ p = cc in ap (λ (x : L × X). x.0) here
   key_at (e ∷ es) (suc i) p d h = key_at es i p d h
-
-  within : (test : L → Bool) (es : List (L × X)) → IsSome (lookup test es) → position_or_len test (keys_of es) < length (keys_of es)
-  within test [] s = cc
-  within test (e ∷ es) s = by (test e.0) s (within test es)
-    where
-      by : (b : Bool) → IsSome (cond b (Some e.1) (lookup test es)) → (IsSome (lookup test es) → position_or_len test (keys_of es) < length (keys_of es)) → cond (not b) (1 + position_or_len test (keys_of es)) 0 < suc (length (keys_of es))
-      by true h rest = omega arith
-      by false h rest = let r = rest h in omega arith
-
-  -- a label that a look-up finds has a place
-  pub position_found : (test : L → Bool) (es : List (L × X)) → IsSome (lookup test es) → position test (keys_of es) ≡ Some (position_or_len test (keys_of es))
-  position_found test es s = ap (λ b. cond b (Some (position_or_len test (keys_of es))) None) (lt-ltb _ _ (within test es s))
 
 module _ {L R : Type 0} {eq : L → L → Bool} (same : (x y : L) → eq x y ≡ true → x ≡ y) (value : R → Fraction) (es : List (L × R)) (at : ℕ) (p : L × R) (here : slice_get es at ≡ Some p) where
   -- the pair at the place of a label has that label

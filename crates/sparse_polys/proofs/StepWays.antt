@@ -1,6 +1,5 @@
 -- What is left when one part of the partition is taken from both labels (specs/Ways).
 use Rattle.std.proofs.Common.{◌≡◌, ◌⊎◌, ℕ, zero, suc, ◌+◌, ◌-◌, ◌*◌, ◌<◌, ◌≤◌, Bool, true, false, ◌&&◌, ◌||◌, cond, eqb, leb, List, [], ◌∷◌, length, get_or, drop, drop-cons, add-one, not, sym, ◌∙◌, ap, ap₂, subst, refl, inl, inr, arith, ℤ, pos, ◌+ℤ◌}
-use Rattle.std.specs.Prelude.{Result, Ok, Err, OnOk}
 use Rattle.std.proofs.lemmas.Int.{ints}
 use Rattle.std.proofs.lemmas.Bool.{eq-eqb, le-leb, cases_lt, both_ways, and_parts, leb-true, or_right}
 use Rattle.sym_model.specs.Sum.{total}
@@ -96,11 +95,6 @@ first-above part (c ∷ parts) first h e t = (first, ap (λ b. b || has first pa
 -- nothing more of what is 0
 pub nothing_more : (n k t : ℕ) → t ≡ 0 → capped n ≡ capped (n + k * t)
 nothing_more n k t e = ap (λ m. capped m) (let p = ap (λ j. k * j) e in omega arith)
-
--- a fact that follows where a result is `Ok`
-pub on_ok : {A B : Type 0} {P Q : Type 0} (r : Result A B) → (P → Q) → OnOk r P → OnOk r Q
-on_ok (Ok a) f h = f h
-on_ok (Err e) f h = tt
 
 -- ---- the loop over the parts of the left label
 

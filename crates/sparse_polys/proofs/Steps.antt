@@ -7,14 +7,14 @@ use Rattle.std.specs.Map.{lookup, keys_of}
 use Rattle.std.proofs.lemmas.Map.{lookup-none}
 use Rattle.std.proofs.lemmas.Map.Keys.{IsDistinct-tail}
 use Rattle.std.proofs.lemmas.Map.Entries.{none_past_head}
-use Rattle.coeff_rings.specs.Fractions.{whole, InLowestTerms, fraction_sum, fraction_product}
+use Rattle.coeff_rings.specs.Fractions.{whole, InLowestTerms, fraction_sum}
 use Rattle.coeff_rings.specs.Answers.{AnswersSum}
-use Rattle.coeff_rings.specs.Proved.FractionLaws.{sum_comm, sum-zero}
+use Rattle.coeff_rings.specs.Proved.FractionLaws.{sum-zero}
 use Rattle.sym_model.specs.Sum.{Among}
 use Rattle.sym_model.specs.Expansion.{Fraction, Terms}
-use Rattle.sparse_polys.specs.Combination.{terms_of, coefficient, IsCombination, HasMoreAt, IsSumOf, IsMultipleOf}
+use Rattle.sparse_polys.specs.Combination.{terms_of, coefficient, IsCombination, HasMoreAt, IsSumOf}
 use Rattle.sparse_polys.specs.Refusal.{IsRefused}
-use Rattle.sparse_polys.proofs.Coefficients.{coefficient-terms_of, value_at, product-zero}
+use Rattle.sparse_polys.proofs.Coefficients.{coefficient-terms_of, value_at}
 
 module _ {L X : Type 0} where
   found_past : (test : L → Bool) (xs ys : List (L × X)) → lookup test xs ≡ None → lookup test (xs ++ ys) ≡ lookup test ys
@@ -94,21 +94,6 @@ module _ {L : Type 0} {eq : L → L → Bool} (laws : IsEquivalence eq) where
           by : (b : Bool) → eq k q ≡ b → P (coefficient eq first q) (if b then value v else coefficient eq (terms_of value done) q) → ⊥
           by true p h = here (subst (λ x. P (coefficient eq first x) (value v)) (sym (same k q p)) h)
           by false p h = before q h
-
-      -- a multiple of the pairs so far does not have the next label
-      pub multiple-before : (x : Fraction) (cur : Terms L) → InLowestTerms x → IsMultipleOf eq (terms_of value done) x cur → coefficient eq cur k ≡ whole (pos 0)
-      multiple-before x cur low multiples =
-          multiples k ∙ ap (λ (r : Fraction). fraction_product r x) absent-coefficient ∙ product-zero x low
-
-      pub IsMultipleOf-next : (x p : Fraction) (cur new : Terms L) → InLowestTerms x → InLowestTerms p → p ≡ fraction_product (value v) x → IsMultipleOf eq (terms_of value done) x cur → HasMoreAt eq cur k p new → IsMultipleOf eq (terms_of value (done ++ (k, v) ∷ [])) x new
-      IsMultipleOf-next x p cur new low lowest product multiples more q =
-          more q ∙ by (eq k q) ∙ ap (λ (r : Fraction). fraction_product r x) (sym (coefficient-push done k v none q))
-        where
-          by : (b : Bool) → (if b then fraction_sum (coefficient eq cur k) p else coefficient eq cur q) ≡ fraction_product (if b then value v else coefficient eq (terms_of value done) q) x
-          by true =
-              ap (λ (r : Fraction). fraction_sum r p) (multiple-before x cur low multiples) ∙ sum_comm (whole (pos 0)) p
-              ∙ sum-zero p lowest ∙ product
-          by false = multiples q
 
 -- the sum with 0 is not refused
 module _ {R : Type 0} {is_held : R → Type 0} {value : R → Fraction} {checked : R → R → Option R} (answers : (a b : R) → is_held a → is_held b → AnswersSum value a b (checked a b)) where

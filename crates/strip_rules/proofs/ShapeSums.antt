@@ -8,6 +8,7 @@ use Rattle.std.specs.Option.{option_to_list}
 use Rattle.std.specs.Int.{◌∣◌}
 use Rattle.std.specs.Cmp.Lexicographic.{pointwise, nat_list_eq_equiv}
 use Rattle.std.proofs.lemmas.Int.{ints, unsigned_abs-mul}
+use Rattle.std.proofs.Math.Nat.{zero-mul}
 use Rattle.sym_model.specs.Sum.{total, Among, Once}
 use Rattle.sym_model.specs.Canonical.{is_label}
 use Rattle.sym_model.specs.Expansion.{Fraction, Terms}
@@ -56,9 +57,6 @@ total_absolute : (q : ℕ) (terms : Terms (List ℕ)) → total (λ (t : List �
 total_absolute q [] = refl
 total_absolute q (t ∷ terms) = ap₂ (λ (m : ℕ) (z : ℤ). pos m +ℤ z) (sym (size-here q t.1)) (total_absolute q terms)
 
-nothing_here : (n : ℕ) → 0 * n ≡ 0
-nothing_here n = omega arith
-
 module _ (q : ℕ) (old new : Terms (List ℕ)) (k : List ℕ) (c : Fraction) (is : IsTable old) (also : IsTable new) (low : InLowestTerms c)
     (d : IsDenominator q c) (cleared : AreCleared q old) (more : HasMoreAt (pointwise nat_eq) old k c new) where
   cleared_here : (fraction_sum (coefficient_at old k) c).1 ∣ q
@@ -93,7 +91,7 @@ module _ (q : ℕ) (old new : Terms (List ℕ)) (k : List ℕ) (c : Fraction) (i
 
   pub grows_more : absolute_sum q new ≤ absolute_sum q old + magnitude q c
   grows_more =
-      let t = total-more nat_list_eq_equiv same_partition (λ (l : List ℕ) (r : Fraction). pos (magnitude q r)) (λ l. ap pos (nothing_here (q / 1))) k old new is also c more in
+      let t = total-more nat_list_eq_equiv same_partition (λ (l : List ℕ) (r : Fraction). pos (magnitude q r)) (λ l. ap pos (zero-mul (q / 1))) k old new is also c more in
       let w = within_here in
       let a = total_absolute q old in
       let b = total_absolute q new in

@@ -1,6 +1,5 @@
 -- Lists of terms in strict order, and tests of each term: from adjacent terms to all pairs, and along `++`.
-use Rattle.std.proofs.Common.{◌≡◌, ℕ, zero, suc, ◌+◌, ◌<◌, Bool, true, ◌&&◌, List, [], ◌∷◌, ◌++◌, length, get_or, map, refl, sym, ap, ◌∙◌, subst, inl, inr, arith}
-use Rattle.std.specs.List.{AllPairs}
+use Rattle.std.proofs.Common.{◌≡◌, Bool, true, [], ◌∷◌, ◌++◌, map, refl, sym, ap, ◌∙◌, subst, inl, inr}
 use Rattle.std.specs.Ordering.{is_lt}
 use Rattle.std.specs.declared.cmp.Ordering.{Ordering}
 use Rattle.std.specs.declared.cmp.Ordering.TheVariants.{Less, Equal, Greater}
@@ -9,8 +8,7 @@ use Rattle.std.proofs.lemmas.Cmp.{tied_itself}
 use Rattle.std.proofs.lemmas.Bool.{and_parts, and_from}
 use Rattle.sym_model.specs.Sum.{Among, Once}
 use Rattle.sym_model.specs.Expansion.{Fraction, Terms}
-use Rattle.sym_model.specs.Canonical.{is_ordered, each_term, is_canonical, is_reduced, is_label}
-use Rattle.sym_model.specs.PrintedOrder.{printed_order}
+use Rattle.sym_model.specs.Canonical.{is_ordered, each_term}
 
 pub is_lt-tells : (o : Ordering) → is_lt o ≡ true → o ≡ Less
 is_lt-tells Less h = refl
@@ -52,36 +50,6 @@ is_ordered-from order (t ∷ []) h = refl
 is_ordered-from order (t ∷ u ∷ terms) h =
     and_from (is_lt (order t.0 u.0)) (is_ordered order (u ∷ terms)) (ap is_lt h.0.0) (is_ordered-from order (u ∷ terms) h.1)
 
--- adjacent terms by their places are enough
-pub is_ordered-from_adjacent : {Label : Type 0} (order : Label → Label → Ordering) (terms : Terms Label) → ((i j : ℕ) (d : Label × Fraction) → j ≡ i + 1 → j < length terms → order (get_or terms i d).0 (get_or terms j d).0 ≡ Less) → is_ordered order terms ≡ true
-is_ordered-from_adjacent order [] h = refl
-is_ordered-from_adjacent order (t ∷ []) h = refl
-is_ordered-from_adjacent order (t ∷ u ∷ terms) h =
-    and_from (is_lt (order t.0 u.0)) (is_ordered order (u ∷ terms)) (ap is_lt (h 0 1 t refl (omega arith))) (is_ordered-from_adjacent order (u ∷ terms) (λ i j d e k. h (suc i) (suc j) d (omega arith) (omega arith)))
-
-stands_before-at : {Label : Type 0} (order : Label → Label → Ordering) (label : Label) (terms : Terms Label) (i : ℕ) (d : Label × Fraction) → StandsBefore order label terms → i < length terms → order label (get_or terms i d).0 ≡ Less
-stands_before-at order label [] i d h k = absurd (omega arith)
-stands_before-at order label (t ∷ terms) zero d h k = h.0
-stands_before-at order label (t ∷ terms) (suc i) d h k = stands_before-at order label terms i d h.1 (omega arith)
-
-stands_before-from : {Label : Type 0} (order : Label → Label → Ordering) (label : Label) (terms : Terms Label) → ((i : ℕ) (d : Label × Fraction) → i < length terms → order label (get_or terms i d).0 ≡ Less) → StandsBefore order label terms
-stands_before-from order label [] h = tt
-stands_before-from order label (t ∷ terms) h =
-    (h 0 t (omega arith), stands_before-from order label terms (λ i d k. h (suc i) d (omega arith)))
-
--- all pairs, by their places
-pub all_pairs-from_ordered : {Label : Type 0} (order : Label → Label → Ordering) (terms : Terms Label) → IsOrdered order terms → AllPairs (λ (t u : Label × Fraction). order t.0 u.0 ≡ Less) terms
-all_pairs-from_ordered order [] h i j d k l = absurd (omega arith)
-all_pairs-from_ordered order (t ∷ terms) h zero zero d k l = absurd (omega arith)
-all_pairs-from_ordered order (t ∷ terms) h zero (suc j) d k l = stands_before-at order t.0 terms j d h.0 (omega arith)
-all_pairs-from_ordered order (t ∷ terms) h (suc i) zero d k l = absurd (omega arith)
-all_pairs-from_ordered order (t ∷ terms) h (suc i) (suc j) d k l = all_pairs-from_ordered order terms h.1 i j d (omega arith) (omega arith)
-
-pub is_ordered-from_pairs : {Label : Type 0} (order : Label → Label → Ordering) (terms : Terms Label) → AllPairs (λ (t u : Label × Fraction). order t.0 u.0 ≡ Less) terms → IsOrdered order terms
-is_ordered-from_pairs order [] h = tt
-is_ordered-from_pairs order (t ∷ terms) h =
-    (stands_before-from order t.0 terms (λ i d k. h 0 (suc i) d (omega arith) (omega arith)), is_ordered-from_pairs order terms (λ i j d k l. h (suc i) (suc j) d (omega arith) (omega arith)))
-
 -- the label of a term among them stands after
 pub stands_before-among : {Label : Type 0} (order : Label → Label → Ordering) (label : Label) (terms : Terms Label) (t : Label × Fraction) → StandsBefore order label terms → Among t terms → order label t.0 ≡ Less
 stands_before-among order label [] t h k = absurd k
@@ -108,23 +76,7 @@ each_term-append test (x ∷ xs) ys h k =
     let p = and_parts (test x) (each_term test xs) h in
     and_from (test x) (each_term test (xs ++ ys)) p.0 (each_term-append test xs ys p.1 k)
 
-pub each_term-from : {Label : Type 0} (test : Label × Fraction → Bool) (terms : Terms Label) → ((t : Label × Fraction) → Among t terms → test t ≡ true) → each_term test terms ≡ true
-each_term-from test [] h = refl
-each_term-from test (t ∷ terms) h =
-    and_from (test t) (each_term test terms) (h t (inl refl)) (each_term-from test terms (λ u k. h u (inr k)))
-
 pub each_term-among : {Label : Type 0} (test : Label × Fraction → Bool) (terms : Terms Label) → each_term test terms ≡ true → (t : Label × Fraction) → Among t terms → test t ≡ true
 each_term-among test [] h t k = absurd k
 each_term-among test (u ∷ terms) h t (inl e) = ap test e ∙ (and_parts (test u) (each_term test terms) h).0
 each_term-among test (u ∷ terms) h t (inr k) = each_term-among test terms (and_parts (test u) (each_term test terms) h).1 t k
-
--- a test of each term by its place
-pub each_term-from_places : {Label : Type 0} (test : Label × Fraction → Bool) (terms : Terms Label) → ((i : ℕ) (d : Label × Fraction) → i < length terms → test (get_or terms i d) ≡ true) → each_term test terms ≡ true
-each_term-from_places test [] h = refl
-each_term-from_places test (t ∷ terms) h =
-    and_from (test t) (each_term test terms) (h 0 t (omega arith)) (each_term-from_places test terms (λ i d k. h (suc i) d (omega arith)))
-
--- a list is canonical by its order and by each of its terms
-pub is_canonical-from : (terms : Terms (List ℕ)) → is_ordered printed_order terms ≡ true → ((t : List ℕ × Fraction) → Among t terms → (is_reduced t.1 ≡ true) × (is_label t.0 ≡ true)) → is_canonical terms ≡ true
-is_canonical-from terms h k =
-    and_from (is_ordered printed_order terms) _ h (each_term-from (λ (t : List ℕ × Fraction). is_reduced t.1 && is_label t.0) terms (λ t m. and_from (is_reduced t.1) (is_label t.0) (k t m).0 (k t m).1))

@@ -1,6 +1,7 @@
 -- Exponent lists: `same` decides their equality, `join` is their sum, `resize` cuts and pads them.
 use Rattle.std.proofs.Common.{◌≡◌, ℕ, zero, suc, ◌+◌, ◌≤◌, max, ◌⊎◌, Bool, true, false, ◌&&◌, ◌==◌, List, [], ◌∷◌, length, replicate, sym, ◌∙◌, ap, ap₂, subst, refl, inl, inr, arith, eqb-true, eq-eqb, add-zero, add_comm, add_assoc}
 use Rattle.std.proofs.lemmas.Bool.{and_parts, and_from, cases_Bool, false_from_ne_true, both_ways}
+use Rattle.std.proofs.Math.Bool.{and-true}
 use Rattle.sym_model.specs.Polynomial.{same, join, resize, all_zero, fits_in}
 use Rattle.sym_model.specs.Partition.{size}
 
@@ -114,12 +115,6 @@ resize-join (suc n) [] (b ∷ β) = ap₂ ◌∷◌ (let e : b ≡ 0 + b = omega
 resize-join (suc n) (a ∷ α) [] = ap₂ ◌∷◌ (sym (add-zero a)) (ap (resize n) (sym (join-nil α)) ∙ resize-join n α [])
 resize-join (suc n) (a ∷ α) (b ∷ β) = ap₂ ◌∷◌ refl (resize-join n α β)
 
-pub resize-resize : (k n : ℕ) (α : List ℕ) → k ≤ n → resize k (resize n α) ≡ resize k α
-resize-resize zero n α h = refl
-resize-resize (suc k) zero α h = absurd (omega arith)
-resize-resize (suc k) (suc n) [] h = ap (λ β. 0 ∷ β) (resize-resize k n [] (omega arith))
-resize-resize (suc k) (suc n) (a ∷ α) h = ap (λ β. a ∷ β) (resize-resize k n α (omega arith))
-
 zero_sum : (a b : ℕ) → (a + b == 0) ≡ ((a == 0) && (b == 0))
 zero_sum a b =
     tests_agree
@@ -134,19 +129,15 @@ and_exchange true false true s = refl
 and_exchange true false false s = refl
 and_exchange false q r s = refl
 
-and_true : (p : Bool) → (p && true) ≡ p
-and_true true = refl
-and_true false = refl
-
 pub all_zero-join : (α β : List ℕ) → all_zero (join α β) ≡ (all_zero α && all_zero β)
 all_zero-join [] β = refl
-all_zero-join (a ∷ α) [] = sym (and_true (all_zero (a ∷ α)))
+all_zero-join (a ∷ α) [] = sym (and-true (all_zero (a ∷ α)))
 all_zero-join (a ∷ α) (b ∷ β) = ap₂ ◌&&◌ (zero_sum a b) (all_zero-join α β) ∙ and_exchange (a == 0) (b == 0) (all_zero α) (all_zero β)
 
 pub fits_in-join : (n : ℕ) (α β : List ℕ) → fits_in n (join α β) ≡ (fits_in n α && fits_in n β)
 fits_in-join zero α β = all_zero-join α β
 fits_in-join (suc n) [] β = refl
-fits_in-join (suc n) (a ∷ α) [] = sym (and_true (fits_in n α))
+fits_in-join (suc n) (a ∷ α) [] = sym (and-true (fits_in n α))
 fits_in-join (suc n) (a ∷ α) (b ∷ β) = fits_in-join n α β
 
 pub all_zero_zeros : (k : ℕ) → all_zero (replicate k 0) ≡ true
@@ -164,46 +155,3 @@ fits_in_length zero [] h = refl
 fits_in_length zero (a ∷ α) h = absurd (omega arith)
 fits_in_length (suc n) [] h = refl
 fits_in_length (suc n) (a ∷ α) h = fits_in_length n α (omega arith)
-
-and_left_comm : (p q r : Bool) → (p && (q && r)) ≡ (q && (p && r))
-and_left_comm true true r = refl
-and_left_comm true false r = refl
-and_left_comm false true r = refl
-and_left_comm false false r = refl
-
-fits_in_padded : (k n : ℕ) → fits_in k (resize n []) ≡ true
-fits_in_padded k n = ap (fits_in k) (resize-nil n) ∙ fits_in_zeros k n
-
-all_zero-resize : (n : ℕ) (α : List ℕ) → (fits_in n α && all_zero (resize n α)) ≡ all_zero α
-all_zero-resize zero α = and_true (all_zero α)
-all_zero-resize (suc n) [] = fits_in_padded 0 n
-all_zero-resize (suc n) (a ∷ α) = and_left_comm (fits_in n α) (a == 0) (all_zero (resize n α)) ∙ ap (λ b. (a == 0) && b) (all_zero-resize n α)
-
--- what fits in k places fits in n, and is seen there
-pub fits_in-resize : (k n : ℕ) (α : List ℕ) → k ≤ n → (fits_in n α && fits_in k (resize n α)) ≡ fits_in k α
-fits_in-resize zero n α h = all_zero-resize n α
-fits_in-resize (suc k) zero α h = absurd (omega arith)
-fits_in-resize (suc k) (suc n) [] h = fits_in_padded k n
-fits_in-resize (suc k) (suc n) (a ∷ α) h = fits_in-resize k n α (omega arith)
-
--- zeros alone
-pub all_zero_is : (n : ℕ) (α : List ℕ) → length α ≡ n → all_zero α ≡ true → α ≡ replicate n 0
-all_zero_is zero [] e z = refl
-all_zero_is zero (a ∷ α) e z = absurd (omega arith)
-all_zero_is (suc n) [] e z = absurd (omega arith)
-all_zero_is (suc n) (a ∷ α) e z = let p = and_parts (a == 0) (all_zero α) z in ap₂ ◌∷◌ (eqb-true a 0 p.0) (all_zero_is n α (omega arith) p.1)
-
--- what fits in k places is had back by padding
-pub resize_back : (k n : ℕ) (α : List ℕ) → k ≤ n → length α ≡ n → fits_in k α ≡ true → resize n (resize k α) ≡ α
-resize_back zero n α h e t = resize-nil n ∙ sym (all_zero_is n α e t)
-resize_back (suc k) zero α h e t = absurd (omega arith)
-resize_back (suc k) (suc n) [] h e t = absurd (omega arith)
-resize_back (suc k) (suc n) (a ∷ α) h e t = ap (λ β. a ∷ β) (resize_back k n α (omega arith) (omega arith) t)
-
--- what is padded fits
-pub fits_in_resized : (k n : ℕ) (α : List ℕ) → length α ≡ k → fits_in k (resize n α) ≡ true
-fits_in_resized zero n [] e = fits_in_padded 0 n
-fits_in_resized zero n (a ∷ α) e = absurd (omega arith)
-fits_in_resized (suc k) zero α e = refl
-fits_in_resized (suc k) (suc n) [] e = absurd (omega arith)
-fits_in_resized (suc k) (suc n) (a ∷ α) e = fits_in_resized k n α (omega arith)

@@ -81,15 +81,6 @@ falling_lexicographic-equal (a ∷ x) (b ∷ y) h k e =
     let p = then-equal (nat_cmp b a) (falling_lexicographic x y) e in
     ap (λ c. c ∷ x) (sym (nat_cmp-equal b a p.0)) ∙ ap (λ z. b ∷ z) (falling_lexicographic-equal x y h.1 k.1 p.1)
 
--- lists of one length that tie are equal
-pub falling_lexicographic-same_length : (x y : List ℕ) → length x ≡ length y → falling_lexicographic x y ≡ Equal → x ≡ y
-falling_lexicographic-same_length [] [] h e = refl
-falling_lexicographic-same_length [] (b ∷ y) h e = absurd (omega arith)
-falling_lexicographic-same_length (a ∷ x) [] h e = absurd (omega arith)
-falling_lexicographic-same_length (a ∷ x) (b ∷ y) h e =
-    let p = then-equal (nat_cmp b a) (falling_lexicographic x y) e in
-    ap (λ c. c ∷ x) (sym (nat_cmp-equal b a p.0)) ∙ ap (λ z. b ∷ z) (falling_lexicographic-same_length x y (omega arith) p.1)
-
 -- partitions that tie in the printed order are equal
 pub printed_order-equal : (x y : List ℕ) → ArePositive x → ArePositive y → printed_order x y ≡ Equal → x ≡ y
 printed_order-equal x y h k e =

@@ -1,14 +1,11 @@
 -- The laws of the ring of polynomials, and of restriction to fewer variables, by pairings.
-use Rattle.std.proofs.Common.{◌≡◌, ℕ, ◌≤◌, Bool, true, false, ◌&&◌, cond, List, sym, ◌∙◌, ap, ap₂, refl, arith, ℤ, pos, ◌+ℤ◌, ◌*ℤ◌, neg_ℤ, append_assoc}
+use Rattle.std.proofs.Common.{◌≡◌, ℕ, Bool, true, false, ◌&&◌, cond, List, sym, ◌∙◌, ap, ap₂, refl, arith, ℤ, pos, ◌+ℤ◌, ◌*ℤ◌, neg_ℤ}
 use Rattle.std.proofs.lemmas.Int.{ints}
 use Rattle.sym_model.specs.Polynomial.{Poly, Same, In, nothing, no_exponents, one, join, plus, scale, negate, times, pair, resize, fits_in, restrict}
-use Rattle.sym_model.proofs.Exponents.{join_comm, join_assoc, join_zeros, resize_zeros, resize-join, resize-resize, fits_in-join, fits_in_zeros, fits_in-resize}
-use Rattle.sym_model.proofs.Polynomials.{pair_ext, pair_in, pair_add, pair_factor, pair_opposite, pair_zero, pair_exchange, pair_plus, pair_scale, pair_negate, pair_times, pair_one, pair_restrict, same_from_pair, same_of_equal, Same_trans}
+use Rattle.sym_model.proofs.Exponents.{join_comm, join_assoc, join_zeros, resize_zeros, resize-join, fits_in-join, fits_in_zeros}
+use Rattle.sym_model.proofs.Polynomials.{pair_ext, pair_in, pair_add, pair_factor, pair_opposite, pair_zero, pair_exchange, pair_plus, pair_scale, pair_negate, pair_times, pair_one, pair_restrict, same_from_pair, Same_trans}
 
 -- ---- sums
-
-pub plus_assoc : (f g h : Poly) → Same (plus (plus f g) h) (plus f (plus g h))
-plus_assoc f g h = same_of_equal (plus (plus f g) h) (plus f (plus g h)) (append_assoc f g h)
 
 pub plus_comm : (f g : Poly) → Same (plus f g) (plus g f)
 plus_comm f g = same_from_pair (plus f g) (plus g f) (λ φ. omega (arith, ints, pair_plus f g φ, pair_plus g f φ))
@@ -54,13 +51,6 @@ times-plus f g h =
     ∙ pair_ext f (λ α. pair (plus g h) (λ β. φ (join α β))) (λ α. pair g (λ β. φ (join α β)) +ℤ pair h (λ β. φ (join α β))) (λ α. pair_plus g h (λ β. φ (join α β)))
     ∙ pair_add f (λ α. pair g (λ β. φ (join α β))) (λ α. pair h (λ β. φ (join α β)))
     ∙ sym (pair_plus (times f g) (times f h) φ ∙ ap₂ ◌+ℤ◌ (pair_times f g φ) (pair_times f h φ)))
-
-pub plus-times : (f g h : Poly) → Same (times (plus f g) h) (plus (times f h) (times g h))
-plus-times f g h =
-    same_from_pair (times (plus f g) h) (plus (times f h) (times g h)) (λ φ.
-    pair_times (plus f g) h φ
-    ∙ pair_plus f g (λ α. pair h (λ β. φ (join α β)))
-    ∙ sym (pair_plus (times f h) (times g h) φ ∙ ap₂ ◌+ℤ◌ (pair_times f h φ) (pair_times g h φ)))
 
 pub scale-times : (c : ℤ) (f g : Poly) → Same (scale c (times f g)) (times (scale c f) g)
 scale-times c f g =
@@ -132,17 +122,3 @@ pub restrict-scale : (n : ℕ) (c : ℤ) (f : Poly) → Same (restrict n (scale 
 restrict-scale n c f =
     same_from_pair (restrict n (scale c f)) (scale c (restrict n f)) (λ φ.
     pair_restrict n (scale c f) φ ∙ pair_scale c f (kept n φ) ∙ sym (pair_scale c (restrict n f) φ ∙ ap (λ m. c *ℤ m) (pair_restrict n f φ)))
-
-pub restrict-restrict : (k n : ℕ) (f : Poly) → k ≤ n → Same (restrict k (restrict n f)) (restrict k f)
-restrict-restrict k n f h =
-    same_from_pair (restrict k (restrict n f)) (restrict k f) (λ φ.
-    pair_restrict k (restrict n f) φ
-    ∙ pair_restrict n f (kept k φ)
-    ∙ pair_ext f (kept n (kept k φ)) (kept k φ) (λ α.
-    both (fits_in n α) (fits_in k (resize n α)) (φ (resize k (resize n α)))
-    ∙ ap₂ (λ b γ. cond b (φ γ) (pos 0)) (fits_in-resize k n α h) (resize-resize k n α h))
-    ∙ sym (pair_restrict k f φ))
-  where
-    both : (a b : Bool) (x : ℤ) → cond a (cond b x (pos 0)) (pos 0) ≡ cond (a && b) x (pos 0)
-    both true b x = refl
-    both false b x = refl

@@ -5,6 +5,7 @@
 use Rattle.std.proofs.Common.{◌≡◌, ℕ, zero, suc, ◌+◌, ◌-◌, ◌<◌, ◌≤◌, Bool, true, false, ◌&&◌, ◌||◌, cond, eqb, leb, List, [], ◌∷◌, ◌++◌, length, replicate, sym, ◌∙◌, ap, subst, refl, inl, inr, arith, pos, length-append}
 use Rattle.std.proofs.lemmas.List.{length-replicate}
 use Rattle.std.proofs.lemmas.Bool.{eq-eqb, ne_eqb, eqb-true}
+use Rattle.std.proofs.Math.Bool.{and-true, and-false}
 use Rattle.sym_model.specs.Sum.{Among}
 use Rattle.sym_model.specs.Polynomial.{Poly, same, coefficient, Same, In, nothing, times, pair, resize, all_zero, fits_in, restrict}
 use Rattle.sym_model.specs.Partition.{ArePositive, size, sorted_parts, rows}
@@ -30,14 +31,6 @@ all_zero-same zero (b ∷ β) l = absurd (omega arith)
 all_zero-same (suc m) [] l = absurd (omega arith)
 all_zero-same (suc m) (b ∷ β) l = ap (λ t. eqb b 0 && t) (all_zero-same m β (omega arith))
 
-and_true : (x : Bool) → (x && true) ≡ x
-and_true true = refl
-and_true false = refl
-
-and_false : (x : Bool) → (x && false) ≡ false
-and_false true = refl
-and_false false = refl
-
 and_middle : (x y z : Bool) → (x && (y && z)) ≡ (y && (x && z))
 and_middle true true z = refl
 and_middle true false z = refl
@@ -46,10 +39,10 @@ and_middle false false z = refl
 
 -- β of k + m places restricts to γ: it is γ with m zeros behind it, and γ has k places
 restricts_to : (k m : ℕ) (β γ : List ℕ) → length β ≡ k + m → (fits_in k β && same (resize k β) γ) ≡ (eqb (length γ) k && same β (γ ++ replicate m 0))
-restricts_to zero m β [] l = and_true (all_zero β) ∙ all_zero-same m β (omega arith)
-restricts_to zero m β (c ∷ γ) l = and_false (all_zero β) ∙ rw (ne_eqb (suc (length γ)) 0 (λ e. omega arith)) refl
+restricts_to zero m β [] l = and-true (all_zero β) ∙ all_zero-same m β (omega arith)
+restricts_to zero m β (c ∷ γ) l = and-false (all_zero β) ∙ rw (ne_eqb (suc (length γ)) 0 (λ e. omega arith)) refl
 restricts_to (suc k) m [] γ l = absurd (omega arith)
-restricts_to (suc k) m (b ∷ β) [] l = and_false (fits_in k β) ∙ rw (ne_eqb 0 (suc k) (λ e. omega arith)) refl
+restricts_to (suc k) m (b ∷ β) [] l = and-false (fits_in k β) ∙ rw (ne_eqb 0 (suc k) (λ e. omega arith)) refl
 restricts_to (suc k) m (b ∷ β) (c ∷ γ) l =
     and_middle (fits_in k β) (eqb b c) (same (resize k β) γ)
     ∙ ap (λ t. eqb b c && t) (restricts_to k m β γ (omega arith))

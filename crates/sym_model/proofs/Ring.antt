@@ -1,8 +1,6 @@
 -- The integers are a commutative ring: what std's laws of the sum lack about products and negations.
 --     ring      the set for `simp`: a polynomial identity over the integers is `simp ring (omega (arith, ints))`
---     diff      an integer as a difference of two naturals, for identities with casts from the naturals:
---               `simp (diff_add, diff_mul, diff_neg) (diff_same .. (omega arith))`
-use Rattle.std.proofs.Common.{◌≡◌, ℕ, ◌+◌, ◌*◌, sym, ◌∙◌, ap, arith, ℤ, pos, ◌+ℤ◌, ◌-ℤ◌, ◌*ℤ◌, neg_ℤ}
+use Rattle.std.proofs.Common.{◌≡◌, ◌*◌, sym, ◌∙◌, ap, arith, ℤ, pos, ◌+ℤ◌, ◌*ℤ◌, neg_ℤ}
 use Rattle.std.proofs.lemmas.Int.{ints}
 use borrow.Author.Differences.{up, down, sum_is_lem, product_is, neg_is}
 use lib.IntN.{*ℤ_comm, zero-*ℤ, *ℤ-zero}
@@ -49,24 +47,3 @@ one-product a = *ℤ_comm (pos 1) a ∙ product-one a
 pub ruleset ring = (distributes_left, distributes_right, product_assoc, product-negation, negation-product, product_left_comm, *ℤ_comm, zero-*ℤ, *ℤ-zero, product-one, one-product)
 
 -- ---- an integer as a difference of two naturals
-
-abbrev pub diff : ℕ → ℕ → ℤ
-diff p n = pos p -ℤ pos n
-
-pub diff_of : (z : ℤ) → z ≡ diff (up z) (down z)
-diff_of z = omega (arith, ints)
-
-pub diff_same : (a b c d : ℕ) → a + d ≡ c + b → diff a b ≡ diff c d
-diff_same a b c d e = omega (arith, ints)
-
-pub diff_pos : (n : ℕ) → pos n ≡ diff n 0
-diff_pos n = omega (arith, ints)
-
-pub diff_add : (a b c d : ℕ) → diff a b +ℤ diff c d ≡ diff (a + c) (b + d)
-diff_add a b c d = omega (arith, ints)
-
-pub diff_neg : (a b : ℕ) → neg_ℤ (diff a b) ≡ diff b a
-diff_neg a b = omega (arith, ints)
-
-pub diff_mul : (a b c d : ℕ) → diff a b *ℤ diff c d ≡ diff (a * c + b * d) (a * d + b * c)
-diff_mul a b c d = simp ring (omega (arith, ints))

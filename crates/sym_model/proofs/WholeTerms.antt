@@ -1,14 +1,13 @@
 -- Lists of terms with whole coefficients (specs/WholeTerms): what they stand for depends on the summed coefficient of
 -- each label alone. Labels of any type are told apart by a key, a list of numbers from which the label can be had back.
-use Rattle.std.proofs.Common.{◌≡◌, ℕ, Bool, cond, List, [], ◌∷◌, map, sym, ◌∙◌, ap, ap₂, subst, refl, arith, ℤ, pos, ◌+ℤ◌, ◌*ℤ◌}
-use Rattle.std.proofs.lemmas.Int.{ints}
+use Rattle.std.proofs.Common.{◌≡◌, ℕ, Bool, cond, List, [], ◌∷◌, map, sym, ◌∙◌, ap, ap₂, subst, refl, arith, ℤ, pos, ◌*ℤ◌}
 use Rattle.sym_model.specs.Sum.{total}
 use Rattle.sym_model.specs.Polynomial.{Poly, same, coefficient, Same, pair, plus, scale}
 use Rattle.sym_model.specs.Expansion.{Terms, Basis, basis_polynomial, denominators, cleared, value_by, value, Represents}
 use Rattle.sym_model.specs.WholeTerms.{WholeTermsOf, WholeTerms, coefficient_by, combined, as_fractions, AreWhole, numerators}
 use Rattle.sym_model.proofs.Ring.{product-one}
 use Rattle.sym_model.proofs.Sums.{total_ext, total_map}
-use Rattle.sym_model.proofs.Polynomials.{at_only, coefficient_pair, pair_each, pair_scale, pair_determined, coefficient_plus, scale_respects}
+use Rattle.sym_model.proofs.Polynomials.{at_only, coefficient_pair, pair_each, pair_scale, pair_determined, scale_respects}
 
 -- the pairing of a combination
 pub pair_of_combined : {Label : Type 0} (polynomial : Label → Poly) (terms : WholeTermsOf Label) (φ : List ℕ → ℤ) → pair (combined polynomial terms) φ ≡ total (λ (t : Label × ℤ). t.1 *ℤ pair (polynomial t.0) φ) terms
@@ -34,13 +33,6 @@ coefficient-combined polynomial terms α = coefficient_of_combined polynomial te
 pub combined_respects : (polynomial : List ℕ → Poly) (terms others : WholeTerms) → Same terms others → Same (combined polynomial terms) (combined polynomial others)
 combined_respects polynomial terms others e α =
     coefficient-combined polynomial terms α ∙ pair_determined terms others (λ label. coefficient (polynomial label) α) e ∙ sym (coefficient-combined polynomial others α)
-
--- only the coefficients of the polynomials of the labels count
-pub combined_same_labels : {Label : Type 0} (f g : Label → Poly) (terms : WholeTermsOf Label) → ((label : Label) → Same (f label) (g label)) → Same (combined f terms) (combined g terms)
-combined_same_labels {Label = Label} f g terms e α =
-    coefficient_of_combined f terms α
-    ∙ total_ext (λ (t : Label × ℤ). t.1 *ℤ coefficient (f t.0) α) (λ (t : Label × ℤ). t.1 *ℤ coefficient (g t.0) α) (λ t. ap (λ c. t.1 *ℤ c) (e t.0 α)) terms
-    ∙ sym (coefficient_of_combined g terms α)
 
 -- ---- labels of any type, by a key
 
@@ -86,9 +78,6 @@ pub value_by-as_fractions : {Label : Type 0} (polynomial : Label → Poly) (term
 value_by-as_fractions polynomial terms =
     ap (λ q. cleared polynomial q (as_fractions terms)) (denominators-as_fractions terms) ∙ cleared-as_fractions polynomial terms
 
-pub value-as_fractions : (basis : Basis) (terms : WholeTerms) (n : ℕ) → value basis (as_fractions terms) n ≡ combined (λ label. basis_polynomial basis label n) terms
-value-as_fractions basis terms n = value_by-as_fractions (λ label. basis_polynomial basis label n) terms
-
 pub as_fractions-numerators : {Label : Type 0} (terms : Terms Label) → AreWhole terms → as_fractions (numerators terms) ≡ terms
 as_fractions-numerators [] w = refl
 as_fractions-numerators (t ∷ terms) w = ap₂ ◌∷◌ (ap (λ (d : ℕ). (t.0, (t.1.0, d))) (sym w.0)) (as_fractions-numerators terms w.1)
@@ -102,11 +91,6 @@ value_by-whole polynomial terms w = ap (λ l. value_by polynomial l) (sym (as_fr
 pub value_of_whole : (basis : Basis) (terms : Terms (List ℕ)) (n : ℕ) → AreWhole terms → value basis terms n ≡ combined (λ label. basis_polynomial basis label n) (numerators terms)
 value_of_whole basis terms n w = value_by-whole (λ label. basis_polynomial basis label n) terms w
 
--- lists with denominators 1 in which each label has the same summed coefficient have one value
-pub value_respects : (basis : Basis) (terms others : Terms (List ℕ)) (n : ℕ) → AreWhole terms → AreWhole others → Same (numerators terms) (numerators others) → Same (value basis terms n) (value basis others n)
-value_respects basis terms others n w v e =
-    rw (value_of_whole basis terms n w, value_of_whole basis others n v) (combined_respects (λ label. basis_polynomial basis label n) (numerators terms) (numerators others) e)
-
 -- a list with denominators 1 is the polynomial that its combination is
 pub represents-whole : {Label : Type 0} (polynomial : Label → Poly) (terms : Terms Label) (f : Poly) → AreWhole terms → Same (combined polynomial (numerators terms)) f → Represents polynomial terms f 1
 represents-whole polynomial terms f w e = record {
@@ -118,10 +102,3 @@ represents-whole polynomial terms f w e = record {
 }
 
 -- ---- a table to which terms are added
-
--- with (label, c) added, what was still to come is one term less
-pub table_step : (table next rest whole : WholeTerms) (label : List ℕ) (c : ℤ)
-    → ((k : List ℕ) → coefficient next k ≡ coefficient table k +ℤ cond (same label k) c (pos 0))
-    → Same (plus table ((label, c) ∷ rest)) whole → Same (plus next rest) whole
-table_step table next rest whole label c e h k =
-    omega (arith, ints, coefficient_plus next rest k, coefficient_plus table ((label, c) ∷ rest) k, e k, h k)

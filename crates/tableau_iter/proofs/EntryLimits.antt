@@ -20,12 +20,6 @@ filling_back outer inner rows f l =
     ap (λ rs. filling_of outer inner (column_reading outer inner rs)) (rows-by_cells outer inner rows l)
     ∙ filling_of-reading (letter_of inner rows) outer inner f ∙ sym (rows-by_cells outer inner rows l)
 
--- its reading is in the list
-pub reading_listed : (outer inner : List ℕ) (rows : List (List ℕ)) → is_lattice_tableau outer inner rows ≡ true
-    → is_among (column_reading outer inner rows) (lattice_readings outer inner) ≡ true
-reading_listed outer inner rows h =
-    (and_parts (same (map length rows) (row_lengths outer inner)) (is_among (column_reading outer inner rows) (lattice_readings outer inner)) h).1
-
 pub rows_within : (outer inner : List ℕ) (rows : List (List ℕ)) → Falls outer → is_lattice_tableau outer inner rows ≡ true → RowsWithin (length outer) rows
 rows_within outer inner rows f h =
     let both = and_parts (same (map length rows) (row_lengths outer inner)) (is_among (column_reading outer inner rows) (lattice_readings outer inner)) h in

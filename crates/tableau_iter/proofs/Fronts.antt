@@ -1,6 +1,5 @@
 -- Steps of a walk over the words of a shape: the letters up to a place stay, and what is behind them changes.
-use Rattle.std.proofs.Common.{◌≡◌, ℕ, zero, suc, ◌+◌, ◌-◌, ◌<◌, ◌≤◌, Bool, true, false, List, [], ◌∷◌, ◌++◌, length, take, drop, get_or, ◌∙◌, ap, ap₂, sym, refl, subst, inl, inr, arith}
-use Rattle.std.proofs.Math.ListN.{set}
+use Rattle.std.proofs.Common.{◌≡◌, ℕ, suc, ◌+◌, ◌-◌, ◌<◌, ◌≤◌, Bool, true, false, List, [], ◌∷◌, ◌++◌, length, take, drop, get_or, ◌∙◌, ap, ap₂, sym, refl, subst, inl, inr, arith}
 use Rattle.std.proofs.Math.Seq.{drop-cons}
 use Rattle.std.proofs.lemmas.Bool.{cases_lt}
 use Rattle.std.proofs.lemmas.List.{length-drop, length-take, take_more, take-take, take_all, get_or-take}
@@ -26,12 +25,6 @@ IsSameUpTo-less i k p q h a = record {
   length = a.length;
   front = take-less i k q.word p.word h a.front;
 }
-
-pub take-set_behind : (xs : List ℕ) (i a : ℕ) → take i (set xs i a) ≡ take i xs
-take-set_behind [] zero a = refl
-take-set_behind [] (suc i) a = refl
-take-set_behind (x ∷ xs) zero a = refl
-take-set_behind (x ∷ xs) (suc i) a = ap (λ l. x ∷ l) (take-set_behind xs i a)
 
 pub passes-same : (place : ℕ) (p q : Position) → IsSameUpTo place p q → passes q ≡ passes p
 passes-same place p q s = ap (λ (t : Setting). λ (w : List ℕ). all_fit (fits_in t) [] w) s.setting
@@ -263,14 +256,6 @@ next-taken old b taken place letter h s u is none =
     ∙ ap (continued (passes taken) taken.setting.letters (length taken.word - (place + 1)) (take place taken.word)) (sym same)
 
 -- ---- facts for one answer
-
-pub on_true : (b : Bool) (P : Type 0) → (b ≡ true → P) → OnTrue b P
-on_true true P h = h refl
-on_true false P h = tt
-
-pub on_false : (b : Bool) (P : Type 0) → (b ≡ false → P) → OnFalse b P
-on_false true P h = tt
-on_false false P h = h refl
 
 pub from_true : (b : Bool) (P : Type 0) → OnTrue b P → b ≡ true → P
 from_true true P h e = h

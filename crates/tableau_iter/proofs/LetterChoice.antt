@@ -1,11 +1,12 @@
 -- The letters that fit at a place, by the neighbours of the place and by the rule.
-use Rattle.std.proofs.Common.{◌≡◌, ℕ, ◌<◌, ◌≤◌, max, Bool, true, false, ◌&&◌, nat_le, nat_lt, List, length, take, get_or, Option, Some, None, ◌∙◌, ap, ap₂, sym, refl, subst, inl, inr, arith}
+use Rattle.std.proofs.Common.{◌≡◌, ℕ, ◌<◌, ◌≤◌, max, true, false, ◌&&◌, nat_le, nat_lt, List, length, take, get_or, Option, Some, None, ◌∙◌, ap, ap₂, sym, subst, inl, inr, arith}
 use Rattle.std.proofs.lemmas.Bool.{and_parts, cases_lt, le-leb, leb-true, le-ltb, lt-ltb, ltb-true, lt-leb}
 use Rattle.sym_model.specs.Polynomial.{join}
 use Rattle.sym_model.specs.Schur.{content}
 use Rattle.tableau_iter.specs.NextLetters.{IsNextLetter}
 use Rattle.tableau_iter.specs.Fits.{allows, ceiling_at, floor_at}
 use Rattle.std.specs.Option.{MatchOption}
+use Rattle.std.proofs.Math.Bool.{and-false}
 use Rattle.tableau_iter.specs.declared.rule.Rule.{Rule}
 use Rattle.tableau_iter.specs.Positions.{Position, Setting, fits_in}
 use Rattle.tableau_iter.proofs.FittingWords.{ceiling-front, floor-front}
@@ -29,10 +30,6 @@ fits-here s word sums place least most b p =
     (ceiling-front s.near.right s.near.most word place p.within p.right_back ∙ sym p.most_is))
     (ap (λ xs. allows s.rule s.counts xs b) (sym p.sums_are))
 
-never : (b : Bool) → (b && false) ≡ false
-never true = refl
-never false = refl
-
 pub too_small :
     (s : Setting) (word sums : List ℕ) (place least most b : ℕ) → IsPlace s word sums place least most → b ≤ least → fits_in s (take place word) b ≡ false
 too_small s word sums place least most b p h =
@@ -43,7 +40,7 @@ pub too_great :
 too_great s word sums place least most b p h =
     fits-here s word sums place least most b p
     ∙ ap (λ x. (nat_lt least b && x) && allows s.rule s.counts sums b) (lt-leb b most h)
-    ∙ ap (λ x. x && allows s.rule s.counts sums b) (never (nat_lt least b))
+    ∙ ap (λ x. x && allows s.rule s.counts sums b) (and-false (nat_lt least b))
 
 pub between :
     (s : Setting) (word sums : List ℕ) (place least most b : ℕ) → IsPlace s word sums place least most → least < b → b ≤ most

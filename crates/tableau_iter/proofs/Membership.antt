@@ -1,6 +1,6 @@
 -- Which fillings are in the list of the lattice tableaux.
 use Rattle.std.proofs.Common.{◌≡◌, ℕ, suc, ◌<◌, ◌≤◌, Bool, true, false, ◌&&◌, cond, nat_le, List, [], ◌∷◌, map, length, take, get_or, ◌∙◌, ap, ap₂, sym, refl, arith}
-use Rattle.std.proofs.lemmas.Bool.{and_parts, le-leb, leb-true, true≢false}
+use Rattle.std.proofs.lemmas.Bool.{and_parts, le-leb, leb-true, true≢false, false_from_ne_true}
 use Rattle.sym_model.specs.Sum.{Among, select}
 use Rattle.sym_model.specs.Partition.{Falls, after, cells, columns}
 use Rattle.sym_model.specs.Polynomial.{join}
@@ -35,14 +35,10 @@ listed_from outer inner w m h =
     (Among-select (λ v. is_among v (map (column_reading outer inner) (good_tableaux (length outer) [] outer inner))) w
     (words (length outer) (length (cells outer inner))) m h)
 
-never : (b : Bool) → (b ≡ true → ⊥) → b ≡ false
-never true f = absurd (f refl)
-never false f = refl
-
 -- where the inner shape is not contained in the outer one there is none
 pub none_outside : (outer inner w : List ℕ) → contains outer inner ≡ false → is_among w (lattice_readings outer inner) ≡ false
 none_outside outer inner w n =
-    never (is_among w (lattice_readings outer inner))
+    false_from_ne_true (is_among w (lattice_readings outer inner))
     (λ h.
     let e : is_among w (map (column_reading outer inner) (good_tableaux (length outer) [] outer inner)) ≡ true = (listed_tells outer inner w h).1 in
     true≢false (sym e ∙ none))
@@ -72,7 +68,7 @@ listed_is outer inner w f c m = good-listed (length outer) [] outer inner w f c 
 pub none_disordered : (outer inner w : List ℕ) → Falls outer → contains outer inner ≡ true → is_tableau (filled_with outer inner w) ≡ false
     → is_among w (lattice_readings outer inner) ≡ false
 none_disordered outer inner w f c n =
-    never (is_among w (lattice_readings outer inner))
+    false_from_ne_true (is_among w (lattice_readings outer inner))
     (λ h.
     let told = listed_tells outer inner w h in
     let both = and_parts (is_tableau (filled_with outer inner w)) (is_good (length outer) [] outer inner (filling_of outer inner w))

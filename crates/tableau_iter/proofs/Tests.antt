@@ -1,6 +1,7 @@
 -- What the test of rows is made of.
 use Rattle.std.proofs.Common.{◌≡◌, ℕ, Bool, true, false, ◌&&◌, List, map, length, refl, sym, ap, ap₂, ◌∙◌}
 use Rattle.std.proofs.lemmas.List.{length-map}
+use Rattle.std.proofs.lemmas.Bool.{false_from_ne_true}
 use Rattle.strip_laws.proofs.Containment.{contains-tells}
 use Rattle.sym_model.specs.CommandOffence.{is_lattice_tableau}
 use Rattle.sym_model.specs.GoodTableau.{column_reading, is_among, lattice_readings}
@@ -18,12 +19,6 @@ pub lengths_told : (b : Bool) (lengths : List ℕ) (o i outer inner : List ℕ) 
     → lengths ≡ row_lengths outer inner
 lengths_told b lengths o i outer inner t e p q = same_true lengths (row_lengths o i) (sym t ∙ e) ∙ ap₂ row_lengths p q
 
-pub other_lengths : (b : Bool) (o i outer inner : List ℕ) (rows : List (List ℕ)) → b ≡ same (map length rows) (row_lengths o i) → b ≡ false → o ≡ outer → i ≡ inner
-    → is_lattice_tableau outer inner rows ≡ false
-other_lengths b o i outer inner rows t e p q =
-    ap (λ x. x && is_among (column_reading outer inner rows) (lattice_readings outer inner))
-    (ap (same (map length rows)) (sym (ap₂ row_lengths p q)) ∙ sym t ∙ e)
-
 pub right_lengths : (outer inner : List ℕ) (rows : List (List ℕ)) (b : Bool) → map length rows ≡ row_lengths outer inner
     → b ≡ is_among (column_reading outer inner rows) (lattice_readings outer inner) → is_lattice_tableau outer inner rows ≡ b
 right_lengths outer inner rows b l e =
@@ -31,14 +26,10 @@ right_lengths outer inner rows b l e =
     (ap (λ ls. same ls (row_lengths outer inner)) l ∙ same_refl (row_lengths outer inner))
     ∙ sym e
 
-never : (b : Bool) → (b ≡ true → ⊥) → b ≡ false
-never true f = absurd (f refl)
-never false f = refl
-
 pub not_contained : (outer inner : List ℕ) (rows : List (List ℕ)) → (Holds outer inner → ⊥) → is_lattice_tableau outer inner rows ≡ false
 not_contained outer inner rows n =
     ap (λ x. same (map length rows) (row_lengths outer inner) && x)
-    (none_outside outer inner (column_reading outer inner rows) (never (contains outer inner) (λ e. n (contains-tells outer inner e))))
+    (none_outside outer inner (column_reading outer inner rows) (false_from_ne_true (contains outer inner) (λ e. n (contains-tells outer inner e))))
     ∙ by (same (map length rows) (row_lengths outer inner))
   where
     by : (b : Bool) → (b && false) ≡ false

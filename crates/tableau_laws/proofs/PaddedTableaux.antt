@@ -1,6 +1,7 @@
 -- The padded rows of a filling are a semistandard tableau where the filling is one.
-use Rattle.std.proofs.Common.{◌≡◌, ℕ, zero, suc, ◌+◌, ◌-◌, ◌<◌, ◌≤◌, Bool, true, false, ◌&&◌, List, [], ◌∷◌, ◌++◌, drop, replicate, nat_le, nat_lt, sym, ◌∙◌, ap, ap₂, subst, refl, arith}
+use Rattle.std.proofs.Common.{◌≡◌, ℕ, zero, suc, ◌+◌, ◌-◌, ◌<◌, ◌≤◌, Bool, true, ◌&&◌, List, [], ◌∷◌, ◌++◌, drop, replicate, nat_le, nat_lt, sym, ◌∙◌, ap, ap₂, subst, refl, arith}
 use Rattle.std.proofs.lemmas.Bool.{le-leb, lt-ltb}
+use Rattle.std.proofs.Math.Bool.{and-true, and_assoc}
 use Rattle.sym_model.specs.Partition.{Falls, ArePositive, part}
 use Rattle.sym_model.specs.Schur.{row_rises, columns_rise, semistandard}
 use Rattle.tableau_laws.specs.PaddedRows.{padded}
@@ -83,23 +84,15 @@ falls_first [] f = omega arith
 falls_first (b ∷ []) f = omega arith
 falls_first (b ∷ c ∷ inner) f = f.0
 
-and_true : (p : Bool) → (p && true) ≡ p
-and_true true = refl
-and_true false = refl
-
-regroup : (p q r : Bool) → (p && (q && r)) ≡ (p && q && r)
-regroup true q r = refl
-regroup false q r = refl
-
 pub padded-semistandard : (inner : List ℕ) (rows : List (List ℕ)) → Falls inner → ArePositiveRows rows → is_padded_tableau (padded inner rows) ≡ semistandard inner rows
 padded-semistandard inner [] f p = refl
 padded-semistandard inner (row ∷ []) f p =
     ap₂ (λ (a b : Bool). a && (b && true)) (zeros_first (part inner 1) row ∙ chain_row row) (pass-nothing may_stand_above (replicate (part inner 1) 0 ++ row))
-    ∙ and_true (row_rises row)
+    ∙ and-true (row_rises row)
 padded-semistandard inner (row ∷ lower ∷ rows) f p =
     ap₂ (λ (a b : Bool). a && b) (zeros_first (part inner 1) row ∙ chain_row row)
     (ap₂ (λ (a b : Bool). a && b)
     (pass_padded (part inner 1) (part (drop 1 inner) 1) row lower (subst (λ k. k ≤ part inner 1) (second_part inner) (falls_first inner f)) p.0
     ∙ ap (λ k. columns_rise row (drop (part inner 1 - k) lower)) (sym (second_part inner)))
     (padded-semistandard (drop 1 inner) (lower ∷ rows) (falls_after inner f) p.1))
-    ∙ regroup (row_rises row) (columns_rise row (drop (part inner 1 - part inner 2) lower)) (semistandard (drop 1 inner) (lower ∷ rows))
+    ∙ and_assoc (row_rises row) (columns_rise row (drop (part inner 1 - part inner 2) lower)) (semistandard (drop 1 inner) (lower ∷ rows))

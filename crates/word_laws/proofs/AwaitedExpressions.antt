@@ -1,9 +1,9 @@
 -- Where an expression is awaited in words of a form, by the derivatives.
 use Rattle.std.proofs.Common.{◌≡◌, ℕ, Bool, true, false, ◌&&◌, cond, List, [], ◌∷◌, ◌++◌, map, append_assoc, refl, sym, ap, ◌∙◌, subst, ◌⊎◌, inl, inr}
+use Rattle.std.proofs.lemmas.Bool.{and_parts, and_from, or_cases, or_left, or_right}
 use Rattle.sym_model.specs.Sum.{Among}
 use Rattle.sym_model.proofs.Sums.{Among-append_left, Among-append_right, Among_from_append, Among-map, Among_from_map, Among-each, Among_from_each}
 use Rattle.sym_model.specs.Form.{exact, number, target, formula, Form, empty, word, sequence, either, many, SomeOf, Has, Awaits, fits, is_skippable, derivatives, after_word, after_words, awaits_next, some_awaits_next, TellsExpressions}
-use Rattle.word_laws.proofs.Classes.{and_both, and_true, or_either, or_left, or_right}
 use Rattle.word_laws.proofs.Derivatives.{sequence_parts, has_more, has_none, skipped, skippable, derivative_sound, derivative_complete, Splits, inside, behind, splits}
 use Rattle.word_laws.proofs.LongestPrefixes.{some_in, some_out}
 
@@ -19,15 +19,15 @@ next_sound (word number) h = cc
 next_sound (word (target bases)) h = cc
 next_sound (word formula) h = refl
 next_sound (sequence f g) h =
-    by (or_either (awaits_next f) (is_skippable f && awaits_next g) h) (next_sound f) (next_sound g)
+    by (or_cases (awaits_next f) (is_skippable f && awaits_next g) h) (next_sound f) (next_sound g)
   where
     by : (awaits_next f ≡ true) ⊎ ((is_skippable f && awaits_next g) ≡ true)
         → (awaits_next f ≡ true → Awaits f []) → (awaits_next g ≡ true → Awaits g []) → Awaits (sequence f g) []
     by (inl e) l r = inl (l e)
     by (inr e) l r =
-        let p = and_both (is_skippable f) (awaits_next g) e in inr ([], [], refl, skipped f p.0, r p.1)
+        let p = and_parts (is_skippable f) (awaits_next g) e in inr ([], [], refl, skipped f p.0, r p.1)
 next_sound (either f g) h =
-    by (or_either (awaits_next f) (awaits_next g) h) (next_sound f) (next_sound g)
+    by (or_cases (awaits_next f) (awaits_next g) h) (next_sound f) (next_sound g)
   where
     by : (awaits_next f ≡ true) ⊎ (awaits_next g ≡ true)
         → (awaits_next f ≡ true → Awaits f []) → (awaits_next g ≡ true → Awaits g []) → Awaits (either f g) []
@@ -49,7 +49,7 @@ next_complete (sequence f g) (inl h) = or_left (awaits_next f) (is_skippable f &
 next_complete (sequence f g) (inr h) =
     let p = no_append h.0 h.1 h.2 in
     or_right (awaits_next f) (is_skippable f && awaits_next g)
-    (and_true (is_skippable f) (awaits_next g)
+    (and_from (is_skippable f) (awaits_next g)
     (skippable f h.3.written (sym h.3.spelled ∙ p.0))
     (next_complete g (subst (Awaits g) p.1 h.4)))
 next_complete (either f g) (inl h) = or_left (awaits_next f) (awaits_next g) (next_complete f h)
@@ -207,7 +207,7 @@ AwaitsOne forms ws = SomeOf (λ f. Awaits f ws) forms
 
 nothing_sound : (forms : List Form) → some_awaits_next forms ≡ true → AwaitsOne forms []
 nothing_sound [] h = cc
-nothing_sound (f ∷ forms) h = by (or_either (awaits_next f) (some_awaits_next forms) h) (nothing_sound forms)
+nothing_sound (f ∷ forms) h = by (or_cases (awaits_next f) (some_awaits_next forms) h) (nothing_sound forms)
   where
     by : (awaits_next f ≡ true) ⊎ (some_awaits_next forms ≡ true) → (some_awaits_next forms ≡ true → AwaitsOne forms []) → AwaitsOne (f ∷ forms) []
     by (inl e) r = inl (next_sound f e)

@@ -1,7 +1,7 @@
 -- Words of a class: the test and the fact agree, and each class that has words has one.
-use Rattle.std.proofs.Common.{◌≡◌, ℕ, ◌<◌, nat_le, Bool, true, false, ◌&&◌, ◌||◌, List, [], ◌∷◌, refl, sym, subst, arith, ◌⊎◌, inl, inr}
+use Rattle.std.proofs.Common.{◌≡◌, ℕ, ◌<◌, nat_le, Bool, true, List, [], ◌∷◌, refl, sym, subst, arith, ◌⊎◌, inl, inr}
 use Rattle.std.specs.Prelude.{codes}
-use Rattle.std.proofs.lemmas.Bool.{leb-true, le-leb}
+use Rattle.std.proofs.lemmas.Bool.{leb-true, le-leb, and_parts, and_from, or_cases, or_left, or_right}
 use Rattle.sym_model.specs.Polynomial.{same}
 use Rattle.sym_model.proofs.Exponents.{same_refl, same_true}
 use Rattle.sym_model.specs.Expansion.{Basis}
@@ -9,40 +9,18 @@ use Rattle.sym_model.specs.NumberWord.{AreDigits, IsNumberWord}
 use Rattle.sym_model.specs.Phrase.{numeral, letter, spelling}
 use Rattle.sym_model.specs.Form.{Class, exact, number, target, formula, WrittenWord, word_of, SomeOf, MayBe, is_digit, are_digits, is_number_word, is_letter_of, fits, TellsExpressions, has_words}
 
-pub and_both : (x y : Bool) → (x && y) ≡ true → (x ≡ true) × (y ≡ true)
-and_both true true h = (refl, refl)
-and_both true false h = cc
-and_both false y h = cc
-
-pub and_true : (x y : Bool) → x ≡ true → y ≡ true → (x && y) ≡ true
-and_true true true h k = refl
-and_true true false h k = k
-and_true false y h k = cc
-
-pub or_either : (x y : Bool) → (x || y) ≡ true → (x ≡ true) ⊎ (y ≡ true)
-or_either true y h = inl refl
-or_either false y h = inr h
-
-pub or_left : (x y : Bool) → x ≡ true → (x || y) ≡ true
-or_left true y h = refl
-or_left false y h = cc
-
-pub or_right : (x y : Bool) → y ≡ true → (x || y) ≡ true
-or_right true y h = refl
-or_right false y h = h
-
 digits_sound : (text : List ℕ) → are_digits text ≡ true → AreDigits text
 digits_sound [] h = tt
 digits_sound (byte ∷ text) h =
-    let p = and_both (is_digit byte) (are_digits text) h in
-    let q = and_both (nat_le 48 byte) (nat_le byte 57) p.0 in
+    let p = and_parts (is_digit byte) (are_digits text) h in
+    let q = and_parts (nat_le 48 byte) (nat_le byte 57) p.0 in
     ((leb-true 48 byte q.0, leb-true byte 57 q.1), digits_sound text p.1)
 
 digits_complete : (text : List ℕ) → AreDigits text → are_digits text ≡ true
 digits_complete [] h = refl
 digits_complete (byte ∷ text) h =
-    and_true (is_digit byte) (are_digits text)
-    (and_true (nat_le 48 byte) (nat_le byte 57) (le-leb 48 byte h.0.0) (le-leb byte 57 h.0.1))
+    and_from (is_digit byte) (are_digits text)
+    (and_from (nat_le 48 byte) (nat_le byte 57) (le-leb 48 byte h.0.0) (le-leb byte 57 h.0.1))
     (digits_complete text h.1)
 
 pub number_sound : (text : List ℕ) → is_number_word text ≡ true → IsNumberWord text
@@ -56,7 +34,7 @@ number_complete (byte ∷ text) h = digits_complete (byte ∷ text) h.digits
 letter_sound : (bases : List Basis) (text : List ℕ) → is_letter_of bases text ≡ true
     → (basis : Basis) × SomeOf (λ b. basis ≡ b) bases × (text ≡ letter basis)
 letter_sound [] text h = cc
-letter_sound (b ∷ bases) text h = by (or_either (same (letter b) text) (is_letter_of bases text) h) (letter_sound bases text)
+letter_sound (b ∷ bases) text h = by (or_cases (same (letter b) text) (is_letter_of bases text) h) (letter_sound bases text)
   where
     by : (same (letter b) text ≡ true) ⊎ (is_letter_of bases text ≡ true)
         → (is_letter_of bases text ≡ true → (basis : Basis) × SomeOf (λ b. basis ≡ b) bases × (text ≡ letter basis))
@@ -87,9 +65,6 @@ fits_complete reads tells (exact w) x h = same_refl w
 fits_complete reads tells number x h = number_complete x h
 fits_complete reads tells (target bases) x h = letter_complete bases x h
 fits_complete reads tells formula x h = tells.complete (spelling x) x (record { allowed = h; spelled = refl })
-
-one : List ℕ
-one = codes "1"
 
 is_one : IsNumberWord (codes "1")
 is_one = record { nonempty = omega arith; digits = ((omega arith, omega arith), tt) }

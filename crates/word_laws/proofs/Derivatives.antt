@@ -1,10 +1,11 @@
 -- Derivatives of forms: what follows a word is of the form's derivatives by it, so that the words taken are the longest
 -- prefix that begins words of a form.
 use Rattle.std.proofs.Common.{◌≡◌, ℕ, Bool, true, false, cond, List, [], ◌∷◌, ◌++◌, map, refl, sym, ap, ◌∙◌, subst, ◌⊎◌, inl, inr}
+use Rattle.std.proofs.lemmas.Bool.{and_parts, and_from, or_cases, or_left, or_right}
 use Rattle.sym_model.specs.Sum.{each, Among}
 use Rattle.sym_model.proofs.Sums.{Among-append_left, Among-append_right, Among_from_append, Among-map, Among_from_map}
 use Rattle.sym_model.specs.Form.{Form, empty, word, sequence, either, many, Written, word_of, words_of, May, Has, fits, is_skippable, derivatives, TellsExpressions}
-use Rattle.word_laws.proofs.Classes.{and_both, and_true, or_either, or_left, or_right, fits_sound, fits_complete}
+use Rattle.word_laws.proofs.Classes.{fits_sound, fits_complete}
 
 abbrev Words : Type 0
 Words = List (List ℕ)
@@ -54,9 +55,9 @@ pub skipped : (f : Form) → is_skippable f ≡ true → Has f []
 skipped empty h = record { written = tt; allowed = tt; spelled = refl }
 skipped (word c) h = cc
 skipped (sequence f g) h =
-    let p = and_both (is_skippable f) (is_skippable g) h in
+    let p = and_parts (is_skippable f) (is_skippable g) h in
     has_sequence f g [] [] (skipped f p.0) (skipped g p.1)
-skipped (either f g) h = by (or_either (is_skippable f) (is_skippable g) h) (skipped f) (skipped g)
+skipped (either f g) h = by (or_cases (is_skippable f) (is_skippable g) h) (skipped f) (skipped g)
   where
     by : (is_skippable f ≡ true) ⊎ (is_skippable g ≡ true) → (is_skippable f ≡ true → Has f []) → (is_skippable g ≡ true → Has g [])
         → Has (either f g) []
@@ -73,7 +74,7 @@ skippable empty x h = refl
 skippable (word c) x h = cc
 skippable (sequence f g) x h =
     let p = no_append (words_of f x.0) (words_of g x.1) h in
-    and_true (is_skippable f) (is_skippable g) (skippable f x.0 p.0) (skippable g x.1 p.1)
+    and_from (is_skippable f) (is_skippable g) (skippable f x.0 p.0) (skippable g x.1 p.1)
 skippable (either f g) (inl x) h = or_left (is_skippable f) (is_skippable g) (skippable f x h)
 skippable (either f g) (inr x) h = or_right (is_skippable f) (is_skippable g) (skippable g x h)
 skippable (many f) x h = refl

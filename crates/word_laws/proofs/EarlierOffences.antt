@@ -1,6 +1,7 @@
 -- The first offence of two lists, and of lists that have the same offences as often.
 use Rattle.std.proofs.Common.{◌≡◌, ℕ, ◌+◌, ◌<◌, ◌==◌, nat_le, nat_lt, Bool, true, false, not, ◌&&◌, ◌||◌, cond, List, [], ◌∷◌, ◌++◌, refl, sym, ap, ◌∙◌, subst, arith, Option, Some, None, inl, inr}
 use Rattle.std.proofs.lemmas.Bool.Decides.{nat_tests}
+use Rattle.std.proofs.lemmas.Bool.{and_parts}
 use Rattle.sym_model.specs.Sum.{Among}
 use Rattle.sym_model.specs.ExpressionOffence.{OffenceKind, literal, range, shape, rank}
 use Rattle.sym_model.specs.CommandOffence.{Offence, is_no_later, earlier_of, first_offence}
@@ -173,16 +174,12 @@ some_at o (x ∷ os) (inl e) =
     omega (arith, k)
 some_at o (x ∷ os) (inr m) = let r = some_at o os m in omega (arith, r)
 
-and_both : (b c : Bool) → (b && c) ≡ true → (b ≡ true) × (c ≡ true)
-and_both true c h = (refl, h)
-and_both false c h = cc
-
 at_some : (o : Offence) (os : List Offence) → 0 < tally (λ p. one_if (is_at o p)) os → Among o os
 at_some o [] h = absurd (omega (arith, h))
 at_some o (x ∷ os) h = by (is_at o x) refl (λ l. at_some o os l)
   where
     by : (b : Bool) → is_at o x ≡ b → (0 < tally (λ p. one_if (is_at o p)) os → Among o os) → Among o (x ∷ os)
-    by true e again = let p = and_both (is_no_later o x) (is_no_later x o) e in inl (one_place o x p.0 p.1)
+    by true e again = let p = and_parts (is_no_later o x) (is_no_later x o) e in inl (one_place o x p.0 p.1)
     by false e again =
         let k : one_if (is_at o x) ≡ 0 = ap one_if e in
         inr (again (omega (arith, h, k)))

@@ -1,7 +1,7 @@
 -- What is proved of forms, said of lists of commands: where words go wrong, and that they spell one command.
 use Rattle.std.proofs.Common.{◌≡◌, ℕ, ◌<◌, nat_lt, Bool, true, false, not, ◌&&◌, cond, List, [], ◌∷◌, ◌++◌, length, take, refl, sym, ap, ◌∙◌, subst, arith, inl, inr, Option, Some, None}
 use Rattle.std.specs.Prelude.{slice_index_or}
-use Rattle.std.proofs.lemmas.Bool.{ltb-true, lt-ltb}
+use Rattle.std.proofs.lemmas.Bool.{ltb-true, lt-ltb, and_parts}
 use Rattle.sym_model.specs.LongestPrefix.{IsLongestPrefix}
 use Rattle.sym_model.specs.Phrase.{BeginsExpression}
 use Rattle.expression_laws.specs.LeftToRight.{start}
@@ -12,7 +12,6 @@ use Rattle.sym_model.specs.Entry.{Entry, SpellsCommand, HasFirstOffence, BeginsC
 use Rattle.sym_model.specs.SyntaxPlace.{IsSyntaxByte, IsSyntaxPlace}
 use Rattle.word_laws.specs.OneReading.{are_apart, firsts, is_unambiguous, is_told_from, are_unambiguous}
 use Rattle.word_laws.specs.Reading.{is_expression, bytes_taken, forms_of, is_command, syntax_word, syntax_byte, syntax_place}
-use Rattle.word_laws.proofs.Classes.{and_both}
 use Rattle.word_laws.proofs.LongestPrefixes.{CanBe, HasOne, BeginsOne, taken_longest, whole_sound, whole_complete}
 use Rattle.word_laws.proofs.AwaitedExpressions.{awaits_sound, awaits_complete}
 use Rattle.word_laws.proofs.Readings.{OnePhrase, told_apart, one_written}
@@ -152,8 +151,8 @@ told_one : (f : Form) (entries : List Entry) (words : Words) → is_told_from f 
     → HasOne (forms_of entries) words → ⊥
 told_one f [] words h k m = m
 told_one f (e ∷ entries) words h k (inl m) =
-    let p = and_both (not (is_skippable e.form)) (are_apart (firsts f) (firsts e.form) && is_told_from f (forms_of entries)) h in
-    let q = and_both (are_apart (firsts f) (firsts e.form)) (is_told_from f (forms_of entries)) p.1 in
+    let p = and_parts (not (is_skippable e.form)) (are_apart (firsts f) (firsts e.form) && is_told_from f (forms_of entries)) h in
+    let q = and_parts (are_apart (firsts f) (firsts e.form)) (is_told_from f (forms_of entries)) p.1 in
     told_apart f e.form k.written m.written k.allowed m.allowed [] []
     (ap (λ us. us ++ []) (sym k.spelled ∙ m.spelled))
     q.0
@@ -161,8 +160,8 @@ told_one f (e ∷ entries) words h k (inl m) =
     (λ i. tt)
     (λ i. tt)
 told_one f (e ∷ entries) words h k (inr m) =
-    let p = and_both (not (is_skippable e.form)) (are_apart (firsts f) (firsts e.form) && is_told_from f (forms_of entries)) h in
-    let q = and_both (are_apart (firsts f) (firsts e.form)) (is_told_from f (forms_of entries)) p.1 in
+    let p = and_parts (not (is_skippable e.form)) (are_apart (firsts f) (firsts e.form) && is_told_from f (forms_of entries)) h in
+    let q = and_parts (are_apart (firsts f) (firsts e.form)) (is_told_from f (forms_of entries)) p.1 in
     told_one f entries words q.1 k m
 
 pub record Told (e : Entry) (entries : List Entry) : Type 0 where
@@ -172,9 +171,9 @@ pub record Told (e : Entry) (entries : List Entry) : Type 0 where
 
 told : (e : Entry) (entries : List Entry) → are_unambiguous (forms_of (e ∷ entries)) ≡ true → Told e entries
 told e entries h =
-    let p = and_both (is_unambiguous e.form) (not (is_skippable e.form) && (is_told_from e.form (forms_of entries) && are_unambiguous (forms_of entries))) h in
-    let q = and_both (not (is_skippable e.form)) (is_told_from e.form (forms_of entries) && are_unambiguous (forms_of entries)) p.1 in
-    let r = and_both (is_told_from e.form (forms_of entries)) (are_unambiguous (forms_of entries)) q.1 in
+    let p = and_parts (is_unambiguous e.form) (not (is_skippable e.form) && (is_told_from e.form (forms_of entries) && are_unambiguous (forms_of entries))) h in
+    let q = and_parts (not (is_skippable e.form)) (is_told_from e.form (forms_of entries) && are_unambiguous (forms_of entries)) p.1 in
+    let r = and_parts (is_told_from e.form (forms_of entries)) (are_unambiguous (forms_of entries)) q.1 in
     record { clear = p.0; apart = r.0; others = r.1 }
 
 -- what is said of the captures of an entry that has the words, is said of them in one way

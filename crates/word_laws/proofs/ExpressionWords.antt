@@ -1,6 +1,7 @@
 -- Words of expressions, read from the left: which they are, and their longest prefix that begins one.
 use Rattle.std.proofs.Common.{◌≡◌, ℕ, zero, suc, ◌+◌, ◌≤◌, Bool, true, false, cond, List, [], ◌∷◌, length, take, refl, sym, ap, ◌∙◌, subst, arith, Option, Some, None}
 use Rattle.std.specs.Prelude.{is_some}
+use Rattle.std.proofs.Math.Numerals.{suc-eq-add-one}
 use Rattle.sym_model.specs.LongestPrefix.{IsLongestPrefix}
 use Rattle.sym_model.specs.Phrase.{Phrase, SpellsPhrase, BeginsExpression}
 use Rattle.expression_laws.specs.LeftToRight.{State, dead, at, step, symbol, run, start, phrases, is_live, found}
@@ -33,9 +34,6 @@ live_before : (text : List ℕ) (state : State Phrase (List ℕ)) → Live state
 live_before text dead h = sym (ap is_live (dead_run text)) ∙ h
 live_before text (at p t f o) h = refl
 
-suc_is : (m : ℕ) → suc m ≡ m + 1
-suc_is m = omega arith
-
 -- the bytes taken are the longest prefix that is read without a fault
 live_longest : (text : List ℕ) (state : State Phrase (List ℕ)) → is_live state ≡ true
     → IsLongestPrefix (Live state) text (bytes_taken state text)
@@ -59,7 +57,7 @@ live_longest (byte ∷ text) state h =
         let a = again e in
         record {
           within = let w = a.within in omega arith;
-          begins = subst (λ m. Live state (take m (byte ∷ text))) (suc_is (bytes_taken (step phrases state (symbol byte)) text)) a.begins;
+          begins = subst (λ m. Live state (take m (byte ∷ text))) (suc-eq-add-one (bytes_taken (step phrases state (symbol byte)) text)) a.begins;
           longest = longest a;
         }
       where

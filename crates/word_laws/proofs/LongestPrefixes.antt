@@ -1,10 +1,12 @@
 -- The words taken are the longest prefix that begins words of one of the forms, and where an expression is awaited.
 use Rattle.std.proofs.Common.{◌≡◌, ℕ, zero, suc, ◌+◌, ◌<◌, ◌≤◌, Bool, true, false, cond, List, [], ◌∷◌, ◌++◌, map, length, take, refl, sym, ap, ◌∙◌, subst, arith, ◌⊎◌, inl, inr}
+use Rattle.std.proofs.lemmas.Bool.{and_parts, and_from, or_cases, or_left, or_right}
+use Rattle.std.proofs.Math.Numerals.{suc-eq-add-one}
 use Rattle.sym_model.specs.Sum.{Among}
 use Rattle.sym_model.proofs.Sums.{Among_from_append, Among_from_map, Among-each, Among_from_each}
 use Rattle.sym_model.specs.LongestPrefix.{IsLongestPrefix}
 use Rattle.sym_model.specs.Form.{Form, empty, word, sequence, either, many, word_of, SomeOf, EachOf, Has, Begins, fits, is_skippable, derivatives, after_word, one_more, taken, has_skippable, after_words, TellsExpressions, can_be}
-use Rattle.word_laws.proofs.Classes.{and_both, and_true, or_either, or_left, or_right, some_word}
+use Rattle.word_laws.proofs.Classes.{some_word}
 use Rattle.word_laws.proofs.Derivatives.{has_sequence, has_left, has_none, skipped, skippable, derivative_sound, derivative_complete}
 
 abbrev Words : Type 0
@@ -17,11 +19,11 @@ some_words empty h = ([], record { written = tt; allowed = tt; spelled = refl })
 some_words (word c) h =
     let x = some_word c h in (word_of c x.0 ∷ [], record { written = x.0; allowed = x.1; spelled = refl })
 some_words (sequence f g) h =
-    let p = and_both (can_be f) (can_be g) h in
+    let p = and_parts (can_be f) (can_be g) h in
     let l = some_words f p.0 in
     let r = some_words g p.1 in (l.0 ++ r.0, has_sequence f g l.0 r.0 l.1 r.1)
 some_words (either f g) h =
-    let p = and_both (can_be f) (can_be g) h in let l = some_words f p.0 in (l.0, has_left f g l.0 l.1)
+    let p = and_parts (can_be f) (can_be g) h in let l = some_words f p.0 in (l.0, has_left f g l.0 l.1)
 some_words (many f) h = ([], has_none f)
 
 among_cond : {A : Type 0} (b : Bool) (x : A) (xs : List A) → Among x (cond b xs []) → Among x xs
@@ -37,7 +39,7 @@ pub derivative_can_be : (reads : List ℕ → Bool) (f h : Form) (text : List �
 derivative_can_be reads empty h text c m = absurd m
 derivative_can_be reads (word k) h text c m = ap can_be (is_empty (fits reads k text) h m)
 derivative_can_be reads (sequence f g) h text c m =
-    let p = and_both (can_be f) (can_be g) c in
+    let p = and_parts (can_be f) (can_be g) c in
     by p.1
     (Among_from_append h (map (λ h. sequence h g) (derivatives reads f text)) (cond (is_skippable f) (derivatives reads g text) []) m)
     (λ k. derivative_can_be reads f k text p.0)
@@ -49,17 +51,17 @@ derivative_can_be reads (sequence f g) h text c m =
         → can_be h ≡ true
     by e (inl a) l r =
         let b = Among_from_map (λ h. sequence h g) h (derivatives reads f text) a in
-        ap can_be b.2 ∙ and_true (can_be b.0) (can_be g) (l b.0 b.1) e
+        ap can_be b.2 ∙ and_from (can_be b.0) (can_be g) (l b.0 b.1) e
     by e (inr a) l r = r (among_cond (is_skippable f) h (derivatives reads g text) a)
 derivative_can_be reads (either f g) h text c m =
-    let p = and_both (can_be f) (can_be g) c in
+    let p = and_parts (can_be f) (can_be g) c in
     elim (Among_from_append h (derivatives reads f text) (derivatives reads g text) m) [
       | inl a ↦ derivative_can_be reads f h text p.0 a
       | inr a ↦ derivative_can_be reads g h text p.1 a
     ]
 derivative_can_be reads (many f) h text c m =
     let b = Among_from_map (λ h. sequence h (many f)) h (derivatives reads f text) m in
-    ap can_be b.2 ∙ and_true (can_be b.0) (can_be f) (derivative_can_be reads f b.0 text c b.1) c
+    ap can_be b.2 ∙ and_from (can_be b.0) (can_be f) (derivative_can_be reads f b.0 text c b.1) c
 
 -- ---- one of several forms
 
@@ -134,9 +136,6 @@ more_than_none reads tells forms text ws e h =
     let b = begins_has forms (text ∷ ws) h in
     subst (λ fs. HasOne fs (ws ++ b.0)) e (has_after reads tells forms text (ws ++ b.0) b.1)
 
-suc_is : (m : ℕ) → suc m ≡ m + 1
-suc_is m = omega arith
-
 -- the words taken are the longest prefix that begins words of one of the forms
 pub taken_longest : (reads : List ℕ → Bool) → TellsExpressions reads → (forms : List Form) → CanBe forms → 0 < length forms
     → (ws : Words) → IsLongestPrefix (BeginsOne forms) ws (taken reads forms ws)
@@ -164,7 +163,7 @@ taken_longest reads tells forms c n (text ∷ ws) =
           within = let w = a.within in omega arith;
           begins =
               subst (λ m. BeginsOne forms (take m (text ∷ ws)))
-              (suc_is (taken reads (after_word reads forms text) ws))
+              (suc-eq-add-one (taken reads (after_word reads forms text) ws))
               (has_begins forms (text ∷ take (taken reads (after_word reads forms text) ws) ws) b.0
               (has_before reads tells forms text (take (taken reads (after_word reads forms text) ws) ws ++ b.0) b.1));
           longest = longest a;
@@ -183,7 +182,7 @@ taken_longest reads tells forms c n (text ∷ ws) =
 
 skippable_some : (forms : List Form) → has_skippable forms ≡ true → HasOne forms []
 skippable_some [] h = cc
-skippable_some (f ∷ forms) h = by (or_either (is_skippable f) (has_skippable forms) h) (skippable_some forms)
+skippable_some (f ∷ forms) h = by (or_cases (is_skippable f) (has_skippable forms) h) (skippable_some forms)
   where
     by : (is_skippable f ≡ true) ⊎ (has_skippable forms ≡ true) → (has_skippable forms ≡ true → HasOne forms []) → HasOne (f ∷ forms) []
     by (inl e) r = inl (skipped f e)

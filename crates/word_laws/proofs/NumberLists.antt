@@ -1,11 +1,9 @@
 -- Where a reader stands in a list of numbers, and behind it.
-use Rattle.std.proofs.Common.{◌≡◌, ℕ, Bool, true, false, cond, List, [], ◌∷◌, ◌++◌, map, append_assoc, refl, sym, ap, ◌∙◌}
+use Rattle.std.proofs.Common.{◌≡◌, ℕ, Bool, true, false, cond, List, [], ◌∷◌, ◌++◌, map, ap, ◌∙◌}
 use Rattle.std.proofs.lemmas.List.{append-nil}
-use Rattle.sym_model.specs.Form.{Form, empty, sequence, EachOf, is_number_word, derivatives, after_word, after_words}
-use Rattle.sym_model.specs.Entry.{Entry}
+use Rattle.sym_model.specs.Form.{Form, empty, sequence, is_number_word, derivatives, after_word}
 use Rattle.sym_model.specs.WordForms.{partition_words}
 use Rattle.word_laws.specs.Reading.{is_expression}
-use Rattle.word_laws.proofs.Stands.{Stands, after-append}
 
 abbrev Words : Type 0
 Words = List (List ℕ)
@@ -38,27 +36,3 @@ after_number words g text h =
 pub after_numbers : (words : Words) (g : Form) (text : List ℕ) → is_number_word text ≡ false
     → after_word is_expression (behind_numbers words g ∷ []) text ≡ derivatives is_expression g text
 after_numbers words g text h = after_one words g text false h ∙ append-nil (derivatives is_expression g text)
-
-after_list : (before words : Words) (g : Form) → EachOf (IsListed g) words
-    → after_words is_expression (behind_numbers before g ∷ []) words ≡ behind_numbers (before ++ words) g ∷ []
-after_list before [] g h = ap (λ ws. behind_numbers ws g ∷ []) (sym (append-nil before))
-after_list before (text ∷ words) g h =
-    ap (λ fs. after_words is_expression fs words) (after_number before g text h.0)
-    ∙ after_list (text ∷ []) words g h.1
-    ∙ ap (λ f. f ∷ []) (same before)
-  where
-    same : (us : Words) → behind_numbers (text ∷ words) g ≡ behind_numbers (us ++ (text ∷ words)) g
-    same [] = refl
-    same (u ∷ us) = refl
-
--- a reader that stands before a list of numbers stands behind it when it has read them
-pub stands_behind : (entries : List Entry) (all before words rest : Words) (g : Form)
-    → Stands entries all before (words ++ rest) (sequence partition_words g) [] → EachOf (IsListed g) words
-    → Stands entries all (before ++ words) rest (behind_numbers words g) []
-stands_behind entries all before words rest g s h = record {
-  words_are = s.words_are ∙ sym (append_assoc before words rest);
-  still =
-      after-append _ before words
-      ∙ ap (λ fs. after_words is_expression fs words) s.still
-      ∙ after_list [] words g h;
-}

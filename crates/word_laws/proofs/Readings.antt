@@ -1,6 +1,7 @@
 -- Words of an unambiguous form are read in one way.
 use Rattle.std.proofs.Common.{◌≡◌, ℕ, Bool, true, false, not, ◌&&◌, cond, List, [], ◌∷◌, ◌++◌, append_assoc, refl, sym, ap, ◌∙◌, subst, inl, inr}
 use Rattle.std.specs.Prelude.{codes}
+use Rattle.std.proofs.lemmas.Bool.{and_parts}
 use Rattle.sym_model.specs.Sum.{each, Among}
 use Rattle.sym_model.specs.Polynomial.{same}
 use Rattle.sym_model.proofs.Exponents.{same_from}
@@ -10,7 +11,7 @@ use Rattle.sym_model.specs.Phrase.{Phrase, letter, SpellsPhrase}
 use Rattle.sym_model.specs.NumberWord.{IsNumberWord}
 use Rattle.sym_model.specs.Form.{Class, exact, number, target, formula, WrittenWord, word_of, MayBe, Form, empty, word, sequence, either, many, Written, words_of, May, Has, is_number_word, is_letter_of, is_skippable}
 use Rattle.word_laws.specs.OneReading.{is_apart, is_apart_from, are_apart, firsts, continuing, is_unambiguous}
-use Rattle.word_laws.proofs.Classes.{and_both, number_complete, letter_complete}
+use Rattle.word_laws.proofs.Classes.{number_complete, letter_complete}
 use Rattle.word_laws.proofs.Derivatives.{skippable}
 
 abbrev Words : Type 0
@@ -48,15 +49,15 @@ apart_sound formula d h x y m n e = cc
 apart_from : (c d : Class) (ds : List Class) → is_apart_from c ds ≡ true → Among d ds → is_apart c d ≡ true
 apart_from c d [] h m = absurd m
 apart_from c d (k ∷ ds) h (inl e) =
-    subst (λ j. is_apart c j ≡ true) (sym e) (and_both (is_apart c k) (is_apart_from c ds) h).0
-apart_from c d (k ∷ ds) h (inr m) = apart_from c d ds (and_both (is_apart c k) (is_apart_from c ds) h).1 m
+    subst (λ j. is_apart c j ≡ true) (sym e) (and_parts (is_apart c k) (is_apart_from c ds) h).0
+apart_from c d (k ∷ ds) h (inr m) = apart_from c d ds (and_parts (is_apart c k) (is_apart_from c ds) h).1 m
 
 apart_each : (c d : Class) (cs ds : List Class) → are_apart cs ds ≡ true → Among c cs → Among d ds → is_apart c d ≡ true
 apart_each c d [] ds h m n = absurd m
 apart_each c d (k ∷ cs) ds h (inl e) n =
-    subst (λ j. is_apart j d ≡ true) (sym e) (apart_from k d ds (and_both (is_apart_from k ds) (are_apart cs ds) h).0 n)
+    subst (λ j. is_apart j d ≡ true) (sym e) (apart_from k d ds (and_parts (is_apart_from k ds) (are_apart cs ds) h).0 n)
 apart_each c d (k ∷ cs) ds h (inr m) n =
-    apart_each c d cs ds (and_both (is_apart_from k ds) (are_apart cs ds) h).1 m n
+    apart_each c d cs ds (and_parts (is_apart_from k ds) (are_apart cs ds) h).1 m n
 
 -- the word is of one of the classes
 pub record OfOne (cs : List Class) (text : List ℕ) : Type 0 where
@@ -335,17 +336,17 @@ pub reads_once : OnePhrase → (f : Form) → is_unambiguous f ≡ true → Read
 reads_once one empty h = λ x y a b r s e u v. (refl, e)
 reads_once one (word c) h = word_once one c
 reads_once one (sequence f g) h =
-    let p = and_both (is_unambiguous f) (is_unambiguous g && are_apart (continuing f) (firsts g)) h in
-    let q = and_both (is_unambiguous g) (are_apart (continuing f) (firsts g)) p.1 in
+    let p = and_parts (is_unambiguous f) (is_unambiguous g && are_apart (continuing f) (firsts g)) h in
+    let q = and_parts (is_unambiguous g) (are_apart (continuing f) (firsts g)) p.1 in
     sequence_once f g (reads_once one f p.0) (reads_once one g q.0) q.1
 reads_once one (either f g) h =
-    let p = and_both (is_unambiguous f) (is_unambiguous g && (are_apart (firsts f) (firsts g) && not (is_skippable f && is_skippable g))) h in
-    let q = and_both (is_unambiguous g) (are_apart (firsts f) (firsts g) && not (is_skippable f && is_skippable g)) p.1 in
-    let k = and_both (are_apart (firsts f) (firsts g)) (not (is_skippable f && is_skippable g)) q.1 in
+    let p = and_parts (is_unambiguous f) (is_unambiguous g && (are_apart (firsts f) (firsts g) && not (is_skippable f && is_skippable g))) h in
+    let q = and_parts (is_unambiguous g) (are_apart (firsts f) (firsts g) && not (is_skippable f && is_skippable g)) p.1 in
+    let k = and_parts (are_apart (firsts f) (firsts g)) (not (is_skippable f && is_skippable g)) q.1 in
     either_once f g (reads_once one f p.0) (reads_once one g q.0) k.0 k.1
 reads_once one (many f) h =
-    let p = and_both (is_unambiguous f) (not (is_skippable f) && are_apart (continuing f) (firsts f)) h in
-    let q = and_both (not (is_skippable f)) (are_apart (continuing f) (firsts f)) p.1 in
+    let p = and_parts (is_unambiguous f) (not (is_skippable f) && are_apart (continuing f) (firsts f)) h in
+    let q = and_parts (not (is_skippable f)) (are_apart (continuing f) (firsts f)) p.1 in
     many_once f (reads_once one f p.0) q.0 q.1
 
 -- the words of an unambiguous form are written in one way

@@ -2,6 +2,7 @@
 use Rattle.std.proofs.Common.{◌≡◌, ℕ, zero, suc, ◌+◌, Bool, true, false, ◌&&◌, cond, List, [], ◌∷◌, ◌++◌, map, length, take, refl, sym, ap, ◌∙◌, subst, arith, ◌⊎◌, inl, inr, ◌↔◌}
 use Rattle.std.specs.Prelude.{codes}
 use Rattle.std.proofs.lemmas.List.{append-nil}
+use Rattle.std.proofs.lemmas.Bool.{and_parts, and_from}
 use Rattle.sym_model.specs.Sum.{each, Among}
 use Rattle.sym_model.proofs.Sums.{Among_from_append, Among_from_map, Among_from_each}
 use Rattle.sym_model.specs.LongestPrefix.{IsLongestPrefix}
@@ -11,7 +12,6 @@ use Rattle.sym_model.specs.CommandOffence.{Offence, entries}
 use Rattle.sym_model.specs.WordForms.{row_words, tableau_words, row_entries, placed, tableau_rows, row_of, tableau_of, shape_offences}
 use Rattle.expression_laws.proofs.PhraseRuns.{one_phrase}
 use Rattle.word_laws.specs.Reading.{is_expression}
-use Rattle.word_laws.proofs.Classes.{and_both, and_true}
 use Rattle.word_laws.proofs.Derivatives.{has_sequence}
 use Rattle.word_laws.proofs.LongestPrefixes.{BeginsOne, taken_longest, whole_sound, whole_complete}
 use Rattle.word_laws.proofs.Readings.{one_written}
@@ -46,11 +46,11 @@ same_derivatives : (r s : Reads) (f : Form) (text : List ℕ) → is_plain f ≡
 same_derivatives r s empty text h = refl
 same_derivatives r s (word c) text h = ap (λ b. cond b (empty ∷ []) []) (same_fits r s c text h)
 same_derivatives r s (sequence f g) text h =
-    let p = and_both (is_plain f) (is_plain g) h in
+    let p = and_parts (is_plain f) (is_plain g) h in
     ap (λ hs. map (λ h. sequence h g) hs ++ cond (is_skippable f) (derivatives r g text) []) (same_derivatives r s f text p.0)
     ∙ ap (λ hs. map (λ h. sequence h g) (derivatives s f text) ++ cond (is_skippable f) hs []) (same_derivatives r s g text p.1)
 same_derivatives r s (either f g) text h =
-    let p = and_both (is_plain f) (is_plain g) h in
+    let p = and_parts (is_plain f) (is_plain g) h in
     ap (λ hs. hs ++ derivatives r g text) (same_derivatives r s f text p.0)
     ∙ ap (λ hs. derivatives s f text ++ hs) (same_derivatives r s g text p.1)
 same_derivatives r s (many f) text h = ap (map (λ h. sequence h (many f))) (same_derivatives r s f text h)
@@ -68,7 +68,7 @@ plain_derivative : (r : Reads) (f h : Form) (text : List ℕ) → is_plain f ≡
 plain_derivative r empty h text p m = absurd m
 plain_derivative r (word c) h text p m = plain_cond (fits r c text) h m
 plain_derivative r (sequence f g) h text p m =
-    let q = and_both (is_plain f) (is_plain g) p in
+    let q = and_parts (is_plain f) (is_plain g) p in
     by q.1 (Among_from_append h (map (λ h. sequence h g) (derivatives r f text)) (cond (is_skippable f) (derivatives r g text) []) m)
     (λ k. plain_derivative r f k text q.0)
     (plain_derivative r g h text q.1)
@@ -79,17 +79,17 @@ plain_derivative r (sequence f g) h text p m =
         → is_plain h ≡ true
     by e (inl a) l k =
         let b = Among_from_map (λ h. sequence h g) h (derivatives r f text) a in
-        ap is_plain b.2 ∙ and_true (is_plain b.0) (is_plain g) (l b.0 b.1) e
+        ap is_plain b.2 ∙ and_from (is_plain b.0) (is_plain g) (l b.0 b.1) e
     by e (inr a) l k = k (from_cond (is_skippable f) h (derivatives r g text) a)
 plain_derivative r (either f g) h text p m =
-    let q = and_both (is_plain f) (is_plain g) p in
+    let q = and_parts (is_plain f) (is_plain g) p in
     elim (Among_from_append h (derivatives r f text) (derivatives r g text) m) [
       | inl a ↦ plain_derivative r f h text q.0 a
       | inr a ↦ plain_derivative r g h text q.1 a
     ]
 plain_derivative r (many f) h text p m =
     let b = Among_from_map (λ h. sequence h (many f)) h (derivatives r f text) m in
-    ap is_plain b.2 ∙ and_true (is_plain b.0) (is_plain f) (plain_derivative r f b.0 text p b.1) p
+    ap is_plain b.2 ∙ and_from (is_plain b.0) (is_plain f) (plain_derivative r f b.0 text p b.1) p
 
 abbrev Plain : List Form → Type 0
 Plain forms = (f : Form) → Among f forms → is_plain f ≡ true
@@ -127,7 +127,7 @@ plain_tableau : (lengths : List ℕ) → is_plain (tableau_of lengths) ≡ true
 plain_tableau [] = refl
 plain_tableau (n ∷ []) = plain_row n
 plain_tableau (n ∷ m ∷ lengths) =
-    and_true (is_plain (row_of n)) (is_plain (tableau_of (m ∷ lengths))) (plain_row n) (plain_tableau (m ∷ lengths))
+    and_from (is_plain (row_of n)) (is_plain (tableau_of (m ∷ lengths))) (plain_row n) (plain_tableau (m ∷ lengths))
 
 can_be_row : (n : ℕ) → can_be (row_of n) ≡ true
 can_be_row zero = refl
@@ -138,7 +138,7 @@ can_be_tableau : (lengths : List ℕ) → can_be (tableau_of lengths) ≡ true
 can_be_tableau [] = refl
 can_be_tableau (n ∷ []) = can_be_row n
 can_be_tableau (n ∷ m ∷ lengths) =
-    and_true (can_be (row_of n)) (can_be (tableau_of (m ∷ lengths))) (can_be_row n) (can_be_tableau (m ∷ lengths))
+    and_from (can_be (row_of n)) (can_be (tableau_of (m ∷ lengths))) (can_be_row n) (can_be_tableau (m ∷ lengths))
 
 plain_one : (lengths : List ℕ) → Plain (tableau_of lengths ∷ [])
 plain_one lengths f (inl e) = ap is_plain e ∙ plain_tableau lengths

@@ -48,10 +48,6 @@ stands_next entries words before text rest f g forms next s h = record {
     snoc [] text vs = refl
     snoc (u ∷ us) text vs = ap (λ ws. u ∷ ws) (snoc us text vs)
 
--- some form is left
-some_left : (f : Form) (forms : List Form) (n : ℕ) → one_more (f ∷ forms) n ≡ n + 1
-some_left f forms n = refl
-
 left_of : (forms : List Form) (words : Words) (f : Form) (next : List Form) → after_words is_expression forms words ≡ f ∷ next
     → (g : Form) × (rest : List Form) × (forms ≡ g ∷ rest)
 left_of [] words f next h = let e = sym (after-none words) ∙ h in cc

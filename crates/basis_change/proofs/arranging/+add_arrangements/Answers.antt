@@ -1,5 +1,6 @@
 use Rattle.std.proofs.Common.{◌≡◌, ◌+◌, ◌-◌, ◌<◌, ◌^◌, suc, length, take, get_or, sym, ap, ◌∙◌, subst, Err, arith, rules, length-append}
 use Rattle.std.proofs.lemmas.List.{take_all}
+use Rattle.std.proofs.lemmas.Result.{on_ok_weaker}
 use Rattle.sym_model.specs.Sum.{each}
 use Rattle.sym_model.specs.Partition.{size}
 use Rattle.sym_model.specs.Alternant.{staircase}
@@ -8,7 +9,7 @@ use Rattle.partitions.proofs.Parts.{size-append}
 use Rattle.sparse_polys.proofs.Steps.{error_is}
 use Rattle.basis_change.specs.Mixed.{Mixed, Added}
 use Rattle.basis_change.specs.Arranging.{straight_term, straight_terms, OverflowsSomewhere}
-use Rattle.basis_change.proofs.Tables.{Added-then, on_ok}
+use Rattle.basis_change.proofs.Tables.{Added-then}
 use Rattle.basis_change.proofs.StraightTerms.{Added-same, Added-nothing, Somewhere-same, ended_same, past_zeros_of, few_places, again_terms, terms_with, number-has, number-within, next_ready, numbers-next, numbers-all, number-past, terms_with-is}
 use Rattle.basis_change.proofs.arranging.+add_arrangements.Goals as goal
 use Rattle.basis_change.proofs.arranging.+add_arrangements.Goals.{then-greatest-zeros-via-then-greatest-zeros, then-greatest-zeros-via-else-greatest-zeros+then-from-parts}
@@ -28,7 +29,7 @@ add_straight-requires-clause-low t c =
 
 pub returns-in_default-clause-ok : goal.returns-in_default-clause-ok
 returns-in_default-clause-ok t c =
-    on_ok c.add_straight.result
+    on_ok_weaker c.add_straight.result
     (Added-same (straight_term c.args.c c.deref.result.now) (straight_terms c.args.c c.args.front.now c.args.parts.now c.args.places) c.args.sum.now.entries c.add_straight.new.sum.entries
     (ended_same c.args.c c.args.front.now c.args.parts.now c.deref.result.now c.args.places c.in_default.ensures.cases (c.deref.ensures.value ∙ c.in_ok-entries.ensures)))
     c.add_straight.ensures.ok

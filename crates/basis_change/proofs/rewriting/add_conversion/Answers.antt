@@ -1,9 +1,10 @@
 use Rattle.std.proofs.Common.{◌≡◌, ◌+◌, ◌-◌, ◌<◌, ◌∷◌, map, length, ap, ap₂, Err, sym, ◌∙◌, subst, arith, pos}
+use Rattle.std.proofs.lemmas.Result.{on_ok_weaker}
 use Rattle.sparse_polys.proofs.Steps.{error_is}
 use Rattle.coeff_rings.specs.Fractions.{whole}
 use Rattle.sym_model.specs.Partition.{size, IsPartition}
 use Rattle.basis_change.specs.Mixed.{Mixed, Added, Overflows, AreLow, mixed_at, products, raised}
-use Rattle.basis_change.proofs.Tables.{Added-then, Overflows-then, Overflows-front, on_ok}
+use Rattle.basis_change.proofs.Tables.{Added-then, Overflows-then, Overflows-front}
 use Rattle.basis_change.proofs.Walks.{AreLow-weaken, mixed_at-index, ready-first}
 use Rattle.basis_change.proofs.Conversions.{conversion_at-here}
 use Rattle.basis_change.proofs.rewriting.add_conversion.Goals as goal
@@ -74,7 +75,7 @@ returns-clause-ok c =
     let factor : c.index-factors-from.result.entries ≡ mixed_at (map (λ m. m.entries) c.args.factors.now) (c.in-Some.first.now - 1) = sym same ∙ ap (λ k. mixed_at (map (λ m. m.entries) c.args.factors.now) (k - 1)) from in
     let xs : products c.args.c c.index-factors-from.result.entries c.parts-2.result.now c.in-Some.rest.now ≡ products c.args.c (mixed_at (map (λ m. m.entries) c.args.factors.now) (c.in-Some.first.now - 1)) c.args.label.now.converted c.in-Some.rest.now =
     ap₂ (λ (f : Mixed) l. products c.args.c f l c.in-Some.rest.now) factor c.parts-2.ensures.value in
-    on_ok c.take_raised.result
+    on_ok_weaker c.take_raised.result
     (λ ok. subst (λ (l : Mixed). Added l c.args.next.now.entries c.take_raised.new.sum.entries) (sym here)
     (Added-then (products c.args.c (mixed_at (map (λ m. m.entries) c.args.factors.now) (c.in-Some.first.now - 1)) c.args.label.now.converted c.in-Some.rest.now)
     (raised c.args.c c.args.label.now.converted c.in-Some.first.now c.in-Some.rest.now c.in-Some.rest.now) c.args.next.now.entries c.add_products.new.sum.entries c.take_raised.new.sum.entries

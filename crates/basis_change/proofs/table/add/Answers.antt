@@ -1,16 +1,17 @@
 use Rattle.std.proofs.Common.{◌≡◌, ◌∷◌, [], sym, ◌∙◌, subst}
 use Rattle.indexmap.proofs.CallerLemmas.{insert_entry-new}
+use Rattle.std.proofs.lemmas.Result.{on_ok_weaker}
 use Rattle.basis_change.specs.declared.mixed.MixedLabel.{MixedLabel}
 use Rattle.basis_change.specs.Mixed.{Added, Overflows}
 use Rattle.basis_change.specs.Arranging.{OverflowsAt}
-use Rattle.basis_change.proofs.Tables.{added_new, entry_found, none_found, same_label, on_ok}
+use Rattle.basis_change.proofs.Tables.{added_new, entry_found, none_found, same_label}
 use Rattle.basis_change.proofs.table.add.Goals as goal
 
 pub returns-in-Some-clause-ok : goal.returns-in-Some-clause-ok
 returns-in-Some-clause-ok c =
     let e = entry_found c.args.sum.now.entries _ c.in-Some.at c.in-Some.ensures.within (sym c.in-Some.ensures.index) in
     let same : c.args.label ≡ e.0.0 = same_label c.args.label e.0.0 e.2 in
-    on_ok c.add_at.result
+    on_ok_weaker c.add_at.result
     (λ h. subst (λ (l : MixedLabel). Added ((l, c.args.c) ∷ []) c.args.sum.now.entries c.add_at.new.sum.entries) (sym same) (h e.0.0 e.0.1 e.1))
     c.add_at.ensures.ok
 

@@ -1,10 +1,9 @@
 use Rattle.std.proofs.Common.{◌&&◌, sym, subst}
-use Rattle.std.proofs.lemmas.Bool.{and_parts, and_from}
+use Rattle.std.proofs.lemmas.Bool.{and_parts, and_from, false_from_ne_true as not_true}
 use Rattle.sym_model.specs.Canonical.{is_ordered}
 use Rattle.sym_model.specs.PrintedBlock.{terms_of as block_terms}
 use Rattle.sparse_polys.specs.Combination.{IsCanonicalList, are_terms}
 use Rattle.block_reader.specs.Fitting.{all_fit}
-use Rattle.block_reader.proofs.LabelCauses.{not_true}
 use Rattle.block_reader.proofs.FittingTerms.{fit-terms}
 use Rattle.block_reader.proofs.lines.read_terms.Goals as goal
 

@@ -3,6 +3,7 @@ use Rattle.std.specs.Prelude.{FitsSigned}
 use Rattle.std.specs.Int.{w128}
 use Rattle.std.specs.Vec.Iter.{into_iter_items}
 use Rattle.std.proofs.lemmas.Grind.{common_steps}
+use Rattle.std.proofs.lemmas.Result.{on_ok_weaker}
 use Rattle.coeff_rings.specs.Fractions.{scaled, whole, fraction_product}
 use Rattle.sym_model.specs.Polynomial.{pair, times}
 use Rattle.sym_model.specs.Schur.{schur}
@@ -10,7 +11,6 @@ use Rattle.sym_model.specs.WholeTerms.{WholeTerms, AreWhole, numerators}
 use Rattle.sparse_polys.specs.Combination.{terms_of}
 use Rattle.basis_expand.proofs.Quotients.{numerators-whole}
 use Rattle.basis_expand.proofs.WholeLists.{AreWhole-terms_of}
-use Rattle.sparse_polys.proofs.StepWays.{on_ok}
 use Rattle.direct_schurs.specs.SchurLists.{product_at}
 use Rattle.direct_schurs.proofs.ListProducts.{counted, listed_next, listed_product, nothing_left, nothing_right}
 use Rattle.direct_schurs.proofs.Tables.{Adds-none, Adds-term, Adds-then, Adds-same}
@@ -64,7 +64,7 @@ returns c q some cd cleared =
 pub returns-then-rows-eq0 : goal.returns-then-rows-eq0
 returns-then-rows-eq0 c =
     let none : length c.args.left.now ≡ 0 = let r = c.rows.ensures.value in let z = c.if-rows-eq0.true in omega arith in
-    on_ok c.add_multiple.result
+    on_ok_weaker c.add_multiple.result
     (λ h q some cd cleared.
     Adds-same q c.args.sum.now c.add_multiple.new.sum (λ n φ. scaled q c.args.c *ℤ pair (schur c.args.right.now n) φ) (λ n φ. scaled q c.args.c *ℤ product_at c.args.left.now c.args.right.now n φ)
     (λ n φ. ap (λ z. scaled q c.args.c *ℤ z) (nothing_left c.args.left.now c.args.right.now none n φ)) (h q some cd cleared))
@@ -73,7 +73,7 @@ returns-then-rows-eq0 c =
 pub returns-then-rows-eq0-2 : goal.returns-then-rows-eq0-2
 returns-then-rows-eq0-2 c =
     let none : length c.args.right.now ≡ 0 = let r = c.rows-2.ensures.value in let z = c.if-rows-eq0-2.true in omega arith in
-    on_ok c.add_multiple-then-rows-eq0-2.result
+    on_ok_weaker c.add_multiple-then-rows-eq0-2.result
     (λ h q some cd cleared.
     Adds-same q c.args.sum.now c.add_multiple-then-rows-eq0-2.new.sum (λ n φ. scaled q c.args.c *ℤ pair (schur c.args.left.now n) φ) (λ n φ. scaled q c.args.c *ℤ product_at c.args.left.now c.args.right.now n φ)
     (λ n φ. ap (λ z. scaled q c.args.c *ℤ z) (nothing_right c.args.left.now c.args.right.now none n φ)) (h q some cd cleared))

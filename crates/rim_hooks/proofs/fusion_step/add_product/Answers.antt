@@ -4,9 +4,10 @@ use Rattle.sym_model.specs.ReductionSteps.{classical_weight}
 use Rattle.sym_model.specs.Target.{classical_product, reflected_terms}
 use Rattle.sym_model.specs.WholeTerms.{absolute_total, numerators}
 use Rattle.std.specs.Cmp.Lexicographic.{pointwise}
+use Rattle.std.proofs.lemmas.Result.{on_ok_weaker}
 use Rattle.sym_model.specs.Polynomial.{scale}
 use Rattle.sparse_polys.proofs.Steps.{error_is}
-use Rattle.rim_hooks.proofs.CollectedTerms.{collects_same, on_ok}
+use Rattle.rim_hooks.proofs.CollectedTerms.{collects_same}
 use Rattle.rim_hooks.proofs.ClassicalLists.{weight_within}
 use Rattle.rim_hooks.proofs.RaisedTerms.{taken_large, wider_large}
 use Rattle.rim_hooks.proofs.ScaledTerms.{scaled_same}
@@ -25,7 +26,7 @@ pub returns-clause-ok : goal.returns-clause-ok
 returns-clause-ok c = λ before was.
     let classical = numerators c.in-Ok.classical in
     let product = classical_product c.args.k (c.args.shape.now ∷ c.args.factor.now ∷ []) in
-    on_ok c.add_reflections.result
+    on_ok_weaker c.add_reflections.result
     (collects_same (pointwise nat_eq) (before ++ scale c.args.c (reflected_terms c.args.k c.args.n classical))
     (before ++ scale c.args.c (reflected_terms c.args.k c.args.n product)) c.add_reflections.new.sums
     (λ label. scaled_same before c.args.c c.args.k c.args.n classical product label c.in-Ok.ensures.classical))

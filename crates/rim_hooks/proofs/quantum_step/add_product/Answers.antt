@@ -1,12 +1,13 @@
 use Rattle.std.proofs.Common.{[], ◌∷◌, ◌++◌, refl, ap}
 use Rattle.std.specs.Prelude.{Err, nat_abs}
+use Rattle.std.proofs.lemmas.Result.{on_ok_weaker}
 use Rattle.sym_model.specs.ReductionSteps.{classical_weight}
 use Rattle.sym_model.specs.Target.{classical_product}
 use Rattle.sym_model.specs.WholeTerms.{absolute_total, numerators}
 use Rattle.product_laws.specs.FactorSteps.{raised}
 use Rattle.sparse_polys.proofs.Steps.{error_is}
 use Rattle.rim_hooks.specs.ReducedLists.{reduced_list, same_power_label}
-use Rattle.rim_hooks.proofs.CollectedTerms.{collects_same, on_ok}
+use Rattle.rim_hooks.proofs.CollectedTerms.{collects_same}
 use Rattle.rim_hooks.proofs.ClassicalLists.{weight_within}
 use Rattle.rim_hooks.proofs.RaisedTerms.{raised_same, taken_large, wider_large}
 use Rattle.rim_hooks.proofs.quantum_step.add_product.Goals as goal
@@ -24,7 +25,7 @@ pub returns-clause-ok : goal.returns-clause-ok
 returns-clause-ok c = λ before was.
     let classical = numerators c.in-Ok.classical in
     let product = classical_product c.args.k (c.args.shape.now ∷ c.args.factor.now ∷ []) in
-    on_ok c.add_reductions.result
+    on_ok_weaker c.add_reductions.result
     (collects_same same_power_label (before ++ raised c.args.power c.args.c (reduced_list c.args.k c.args.n classical))
     (before ++ raised c.args.power c.args.c (reduced_list c.args.k c.args.n product)) c.add_reductions.new.sums
     (λ label. raised_same same_power_label before c.args.power c.args.c c.args.k c.args.n classical product label c.in-Ok.ensures.classical))

@@ -1,12 +1,12 @@
 use Rattle.std.proofs.Common.{◌≡◌, ◌*◌, ◌∙◌, subst, arith, ◌*ℤ◌}
 use Rattle.std.specs.Prelude.{nat_eq}
 use Rattle.std.specs.Cmp.Lexicographic.{pointwise}
+use Rattle.std.proofs.lemmas.Result.{on_ok_weaker}
 use Rattle.coeff_rings.specs.Fractions.{scaled}
 use Rattle.coeff_rings.specs.Room.{magnitude}
 use Rattle.sparse_polys.specs.Combination.{coefficient, HasMoreAt}
 use Rattle.sparse_polys.specs.Refusal.{IsRefused}
 use native.Mathlib.Nat.{mul-pos}
-use Rattle.sparse_polys.proofs.StepWays.{on_ok}
 use Rattle.sparse_polys.proofs.Accumulating.{Adds-term, Adds-nothing, Overflows-at, Overflows-term, product-size}
 use Rattle.sparse_polys.proofs.expansion_products.add_count.Goals as goal
 
@@ -27,7 +27,7 @@ returns-clause-ok g c =
     let old = c.args.sum.now in
     let label = c.args.term.now.parts.items in
     let is : c.in_ok-label.label ≡ label = c.in_ok-label.ensures.ok ∙ c.as_slice.ensures.value in
-    on_ok c.add_term.result
+    on_ok_weaker c.add_term.result
     (λ more d e h cleared.
     let v = c.in-Some.ensures.value d e h in
     Adds-term (d * e) c.args.term.now.count (scaled d (value c.args.left) *ℤ scaled e (value c.args.right)) old c.add_term.new.self label (value c.in-Some.product)

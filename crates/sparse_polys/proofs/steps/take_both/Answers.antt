@@ -1,8 +1,9 @@
 use Rattle.std.proofs.Common.{◌≡◌, ◌+◌, ◌∷◌, true, ap, ◌∙◌, sym, subst}
+use Rattle.std.proofs.lemmas.Result.{on_ok_weaker}
 use Rattle.sym_model.specs.Bases.{has}
 use Rattle.sym_model.specs.RaisedPart.{without_one}
 use Rattle.sparse_polys.specs.Ways.{ways, taken, IsRest, HasPartAbove}
-use Rattle.sparse_polys.proofs.StepWays.{taken-above_left, taken-above_right, IsRest-taken, on_ok, nothing_more}
+use Rattle.sparse_polys.proofs.StepWays.{taken-above_left, taken-above_right, IsRest-taken, nothing_more}
 use Rattle.sparse_polys.proofs.steps.take_both.Goals as goal
 
 pub returns-then-not-is_within-clause-ways : goal.returns-then-not-is_within-clause-ways
@@ -27,7 +28,7 @@ pub returns-clause-states : goal.returns-clause-states
 returns-clause-states c =
     let given : has c.args.b (0 ∷ c.args.state.now.right.items) ≡ true =
     ap (λ l. has c.args.b (0 ∷ l)) (sym c.as_slice.ensures.value) ∙ sym c.can_give.ensures ∙ c.if-not-can_give.false in
-    on_ok c.add_state.result
+    on_ok_weaker c.add_state.result
     (λ h size rest part states.
     h size states
     (subst (λ l. IsRest size l c.in_ok-right.right.items) (sym (c.in_ok-left.ensures ∙ ap (without_one c.args.a) c.as_slice-2.ensures.value))

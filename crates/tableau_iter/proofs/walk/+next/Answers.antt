@@ -1,5 +1,6 @@
 use Rattle.std.proofs.Common.{◌+◌, ◌<◌, length, ◌∙◌, arith}
-use Rattle.tableau_iter.proofs.Fronts.{IsSameUpTo-less, next-end, next-inside, next-taken, on_true, on_false, from_true, from_false}
+use Rattle.std.proofs.lemmas.Bool.{OnTrue_from, OnFalse_from}
+use Rattle.tableau_iter.proofs.Fronts.{IsSameUpTo-less, next-end, next-inside, next-taken, from_true, from_false}
 use Rattle.tableau_iter.proofs.walk.+next.Goals as goal
 
 pub returns-then-place-len-clause-none : goal.returns-then-place-len-clause-none
@@ -17,7 +18,7 @@ returns-then-next-clause-same t c =
 pub returns-clause-found : goal.returns-clause-found
 returns-clause-found t c =
     let inside : c.args.place < length c.args.board.now.word = omega (arith, c.requires.place, c.if-place-len.false, c.len.ensures) in
-    on_true c.first_after.result _
+    OnTrue_from c.first_after.result _
     (λ e.
     next-taken c.args.board.now c.next.new.board c.take_off-letter.new.self c.args.place c.take_off-letter.result inside c.if-next.ensures.same
     c.take_off-letter.ensures.same c.take_off-letter.ensures.letter c.if-next.ensures.none
@@ -26,7 +27,7 @@ returns-clause-found t c =
 pub returns-clause-none : goal.returns-clause-none
 returns-clause-none t c =
     let inside : c.args.place < length c.args.board.now.word = omega (arith, c.requires.place, c.if-place-len.false, c.len.ensures) in
-    on_false c.first_after.result _
+    OnFalse_from c.first_after.result _
     (λ e.
     next-taken c.args.board.now c.next.new.board c.take_off-letter.new.self c.args.place c.take_off-letter.result inside c.if-next.ensures.same
     c.take_off-letter.ensures.same c.take_off-letter.ensures.letter c.if-next.ensures.none

@@ -1,7 +1,8 @@
 use Rattle.std.proofs.Common.{◌+◌, ◌<◌, length, refl, sym, ap, ap₂, ◌∙◌, arith}
 use Rattle.std.proofs.lemmas.List.{take_all}
+use Rattle.std.proofs.lemmas.Bool.{OnTrue_from, OnFalse_from}
 use Rattle.tableau_iter.specs.Positions.{Setting, fits_in, passes}
-use Rattle.tableau_iter.proofs.Fronts.{IsSameUpTo-then, IsSameUpTo-less, end-found, more-letters, tried-all, tried-found, tried-none, on_true, on_false, from_true, from_false}
+use Rattle.tableau_iter.proofs.Fronts.{IsSameUpTo-then, IsSameUpTo-less, end-found, more-letters, tried-all, tried-found, tried-none, from_true, from_false}
 use Rattle.tableau_iter.proofs.walk.+walk.Goals as goal
 
 pub first-returns-then-place-len-clause-found : goal.first-returns-then-place-len-clause-found
@@ -14,13 +15,13 @@ first-returns-then-place-len-clause-found t c =
 pub first-returns-clause-found : goal.first-returns-clause-found
 first-returns-clause-found t c =
     let inside : c.args.place < length c.args.board.now.word = omega (arith, c.requires.place, c.if-place-len.false, c.len.ensures) in
-    on_true c.first_after.result _
+    OnTrue_from c.first_after.result _
     (λ e. more-letters c.args.board.now c.args.place inside ∙ from_true c.first_after.result _ c.first_after.ensures.found e)
 
 pub first-returns-clause-none : goal.first-returns-clause-none
 first-returns-clause-none t c =
     let inside : c.args.place < length c.args.board.now.word = omega (arith, c.requires.place, c.if-place-len.false, c.len.ensures) in
-    on_false c.first_after.result _
+    OnFalse_from c.first_after.result _
     (λ e. more-letters c.args.board.now c.args.place inside ∙ from_false c.first_after.result _ c.first_after.ensures.none e)
 
 pub first_after-returns-then-first-clause-found : goal.first_after-returns-then-first-clause-found
