@@ -9,5 +9,5 @@ mod monomial_products;
 mod power_sum_products;
 
 pub use bounds::expression_bound_law;
-pub use sparse_polys::monomial_product_law;
+pub use monomial_products::monomial_product_law;
 pub use power_sum_products::power_sum_product_law;

@@ -16,6 +16,7 @@ mod lin;
 mod monomial;
 mod monomial_label;
 mod pair;
+mod part_steps;
 mod parts;
 mod permutation;
 mod poly;
@@ -23,7 +24,6 @@ mod power;
 mod products;
 mod search;
 mod states;
-mod steps;
 mod terms;
 
 pub use expansion_products::{times_in_m, times_whole_in_m};

@@ -7,7 +7,7 @@ ghost use Rattle.sparse_polys.specs.Search.{count_at, found, AreCounted, IsChose
 
 use crate::parts::size_of;
 use crate::states::State;
-use crate::steps::step;
+use crate::part_steps::step;
 use std::alloc::{AllocError, Global};
 
 /// A partition with a number of ways, which stands at 2^128 - 1 where there are more.

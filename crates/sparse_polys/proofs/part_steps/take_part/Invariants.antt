@@ -3,7 +3,7 @@ use Rattle.sym_model.specs.RaisedPart.{distinct}
 use Rattle.monomial_laws.specs.MonomialProduct.{arrangements, AreBelow}
 use Rattle.sparse_polys.specs.Ways.{capped, ways, IsRest, AreStates}
 use Rattle.sparse_polys.proofs.StepWays.{taken_over}
-use Rattle.sparse_polys.proofs.steps.take_part.Given as goal
+use Rattle.sparse_polys.proofs.part_steps.take_part.Given as goal
 
 abbrev pub invariant-loop-i : goal.invariant-loop-i
 invariant-loop-i l = record {

@@ -1,7 +1,7 @@
 use Rattle.std.proofs.Common.{◌≡◌, ℕ, ◌+◌, ◌∷◌, List, drop}
 use Rattle.monomial_laws.specs.MonomialProduct.{AreBelow}
 use Rattle.sparse_polys.specs.Ways.{capped, ways, AreStates}
-use Rattle.sparse_polys.proofs.steps.step.Given as goal
+use Rattle.sparse_polys.proofs.part_steps.step.Given as goal
 
 abbrev pub invariant-loop-state : goal.invariant-loop-state
 invariant-loop-state l = record {

@@ -3,7 +3,7 @@ use Rattle.sym_model.specs.Bases.{has}
 use Rattle.sym_model.specs.RaisedPart.{without_one}
 use Rattle.sparse_polys.specs.Ways.{ways, taken, IsRest, HasPartAbove}
 use Rattle.sparse_polys.proofs.StepWays.{taken-above_left, taken-above_right, IsRest-taken, on_ok, nothing_more}
-use Rattle.sparse_polys.proofs.steps.take_both.Goals as goal
+use Rattle.sparse_polys.proofs.part_steps.take_both.Goals as goal
 
 pub returns-then-not-is_within-clause-ways : goal.returns-then-not-is_within-clause-ways
 returns-then-not-is_within-clause-ways c ν left below rest =

@@ -4,7 +4,7 @@ use Rattle.sparse_polys.specs.declared.states.State.{State}
 use Rattle.sparse_polys.specs.Ways.{capped, ways, IsRest, AreStates}
 use Rattle.sparse_polys.proofs.StateWays.{ways_of}
 use Rattle.sparse_polys.proofs.StepWays.{next_state}
-use Rattle.sparse_polys.proofs.steps.step.Goals as goal
+use Rattle.sparse_polys.proofs.part_steps.step.Goals as goal
 
 pub loop-state-preserved : goal.loop-state-preserved
 loop-state-preserved c =

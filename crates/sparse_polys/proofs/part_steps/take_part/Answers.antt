@@ -5,8 +5,8 @@ use Rattle.sym_model.specs.RaisedPart.{distinct}
 use Rattle.monomial_laws.specs.MonomialProduct.{arrangements}
 use Rattle.sparse_polys.specs.Ways.{capped, ways, taken, is_choice_at, AreStates}
 use Rattle.sparse_polys.proofs.StepWays.{first_way, next_way, arrangements-first, taken_over, taken_over-choice, taken_over-passed, rest_at, below_at, choice-within, has_at}
-use Rattle.sparse_polys.proofs.steps.take_part.Goals as goal
-use Rattle.sparse_polys.proofs.steps.take_part.Goals.{then-is_choice+in_ok-take_both-2, else-is_choice}
+use Rattle.sparse_polys.proofs.part_steps.take_part.Goals as goal
+use Rattle.sparse_polys.proofs.part_steps.take_part.Goals.{then-is_choice+in_ok-take_both-2, else-is_choice}
 
 pub loop-i-init : goal.loop-i-init
 loop-i-init c =
