@@ -3,13 +3,14 @@
 
 For expressions made with a fixed seed it evaluates the atoms by listing exponents in as many variables as the degree,
 multiplies the polynomials out, and reads the coefficient of each partition off the monomial with these exponents.
-It knows nothing of products in the monomial basis. Prints a line for each mismatch; the status is 0 where there is none."""
+It knows nothing of products in the monomial basis."""
 import itertools
 import random
-import subprocess
 import sys
 from collections import Counter
 from fractions import Fraction
+
+from common import Differences, atom, partitions, printed
 
 
 def exponents(degree, n):
@@ -27,26 +28,21 @@ def times(f, g):
     return product
 
 
-def part(letter, k, n):
+def factor(letter, k, n):
     """e_k, h_k or p_k in n variables."""
     keeps = {"e": lambda a: max(a, default=0) <= 1, "h": lambda a: True, "p": lambda a: k in a}[letter]
     return Counter({a: 1 for a in exponents(k, n) if keeps(a)})
 
 
-def atom(letter, parts, n):
+def polynomial(letter, parts, n):
+    """The polynomial of an atom in n variables."""
     if letter == "m":
-        wanted = tuple(parts) + (0,) * (n - len(parts))
+        wanted = parts + (0,) * (n - len(parts))
         return Counter({a: 1 for a in set(itertools.permutations(wanted))}) if len(parts) <= n else Counter()
     f = Counter({(0,) * n: 1})
     for k in parts:
-        f = times(f, part(letter, k, n))
+        f = times(f, factor(letter, k, n))
     return f
-
-
-def partitions(d, greatest):
-    if d == 0:
-        return [()]
-    return [(a, *rest) for a in range(min(d, greatest), 0, -1) for rest in partitions(d - a, a)]
 
 
 def random_expression(rng, degree, depth, n):
@@ -59,9 +55,9 @@ def random_expression(rng, degree, depth, n):
         a, b = rng.randint(0, 20), rng.randint(1, 9)
         return f"{a}/{b}", Counter({(0,) * n: Fraction(a, b)})
     if kind == "atom":
-        parts = rng.choice(partitions(rng.randint(0, degree), degree))
+        parts = rng.choice(partitions(rng.randint(0, degree)))
         letter = rng.choice("mehp")
-        return f"{letter}[{','.join(map(str, parts))}]", atom(letter, parts, n)
+        return atom(letter, parts), polynomial(letter, parts, n)
     if kind == "negation":
         word, f = random_expression(rng, degree, depth - 1, n)
         return f"(-({word}))", Counter({a: -c for a, c in f.items()})
@@ -81,7 +77,7 @@ def text(f, degree, n):
     """The lines that the expansion in m must have."""
     lines = []
     for d in range(degree, -1, -1):
-        for parts in partitions(d, d):
+        for parts in partitions(d):
             c = Fraction(f.get(parts + (0,) * (n - len(parts)), 0))
             if c:
                 lines.append(f"{c}  ({','.join(map(str, parts))})\n")
@@ -89,16 +85,12 @@ def text(f, degree, n):
 
 
 def main():
-    rng, failed, count = random.Random(20), 0, 300
-    for _ in range(count):
+    program, rng, differences = sys.argv[1], random.Random(20), Differences()
+    for _ in range(300):
         degree = rng.randint(0, 5)
         word, f = random_expression(rng, degree, 3, degree)
-        run = subprocess.run([sys.argv[1], "expand", "m", word], capture_output=True, timeout=60)
-        if run.stdout.decode() != text(f, degree, degree) or run.returncode:
-            failed += 1
-            print(f"FAILED expand m {word}: status {run.returncode}, {run.stdout[:200]!r}")
-    print(f"expand m, {count} expressions against polynomials multiplied out: {failed} differ")
-    return bool(failed)
+        differences.compare(f"expand m {word}", printed(program, "expand", "m", word), text(f, degree, degree))
+    return differences.status("expand m against polynomials multiplied out")
 
 
 if __name__ == "__main__":

@@ -2,18 +2,12 @@
 """Compares `expand s` of each monomial symmetric polynomial of degree up to 7 with its Schur coefficients: `expand_s.py PROGRAM`.
 
 The Schur coefficient of f at a partition is the coefficient of x^(partition + rho) in a_rho·f, in as many variables as the
-degree; it is added up over all orders of rho, with their signs. Nothing is straightened. Prints a line for each mismatch; the
-status is 0 where there is none."""
+degree; it is added up over all orders of rho, with their signs. Nothing is straightened."""
 import itertools
-import subprocess
 import sys
 from collections import Counter
 
-
-def partitions(d, greatest):
-    if d == 0:
-        return [()]
-    return [(a, *rest) for a in range(min(d, greatest), 0, -1) for rest in partitions(d - a, a)]
+from common import Differences, atom, partitions, printed
 
 
 def sign(order):
@@ -24,7 +18,7 @@ def schur_coefficients(d):
     """For each partition of d the Schur coefficients of its monomial symmetric polynomial."""
     rho = tuple(range(d - 1, -1, -1))
     orders = [(sign(order), [rho[i] for i in order]) for order in itertools.permutations(range(d))]
-    found = {parts: Counter() for parts in partitions(d, d)}
+    found = {parts: Counter() for parts in partitions(d)}
     for label in found:
         padded = [a + b for a, b in zip(label + (0,) * (d - len(label)), rho)]
         for s, order in orders:
@@ -41,15 +35,12 @@ def block(coefficients):
 
 
 def main():
-    calc, wrong = sys.argv[1], 0
+    program, differences = sys.argv[1], Differences()
     for d in range(8):
         for parts, coefficients in schur_coefficients(d).items():
-            word = f"m[{','.join(map(str, parts))}]"
-            printed = subprocess.run([calc, "expand", "s", word], capture_output=True, text=True, check=False).stdout
-            if printed != block(coefficients):
-                print(f"expand s {word}: {printed!r}, wanted {block(coefficients)!r}")
-                wrong = 1
-    return wrong
+            word = atom("m", parts)
+            differences.compare(f"expand s {word}", printed(program, "expand", "s", word), block(coefficients))
+    return differences.status("expand s against Schur coefficients")
 
 
 if __name__ == "__main__":

@@ -5,11 +5,11 @@ For words made with a fixed seed it finds the insertion tableau by slides alone:
 shape, each row's letter right of and above that of the row below, and every inner corner is slid away. The recording tableau is the
 same for the inverse of the word's standardization (Schuetzenberger). The length of the first row and the number of rows
 are compared with the longest weakly rising and the longest strictly falling subsequence (Schensted). `unrsk` of the pair must give
-the word back. Nothing is inserted here. Prints a line for each mismatch; the status is 0 where there is none, and 77
-where the program has no command `rsk`."""
+the word back. Nothing is inserted here."""
 import random
-import subprocess
 import sys
+
+from common import Differences, printed, tableau
 
 
 def rectified(word):
@@ -52,47 +52,29 @@ def longest(word, goes_on):
     return max(lengths, default=0)
 
 
-def text(rows):
-    return " / ".join(" ".join(map(str, row)) for row in rows) or "."
-
-
-def run(program, words):
-    return subprocess.run([program, *words], capture_output=True, text=True, timeout=60).stdout
-
-
 def words_to_try():
-    dice = random.Random(1961)
+    rng = random.Random(1961)
     yield []
     yield [7] * 20
     yield list(range(1, 41))
     yield list(range(40, 0, -1))
     yield [65535, 1, 65535, 1]
     for _ in range(295):
-        greatest = dice.choice([2, 3, 5, 9, 20, 60, 1000, 65535])
-        yield [dice.randint(1, greatest) for _ in range(dice.randint(0, 60))]
+        greatest = rng.choice([2, 3, 5, 9, 20, 60, 1000, 65535])
+        yield [rng.randint(1, greatest) for _ in range(rng.randint(0, 60))]
 
 
 def main():
-    program = sys.argv[1]
-    if run(program, ["rsk"]).startswith("! Syntax 0"):
-        return 77
-    wrong = 0
+    program, differences = sys.argv[1], Differences()
     for word in words_to_try():
         p, q = rectified(word), rectified(inverse_of_standard(word))
-        first = [longest(word, lambda a, b: a <= b), longest(word, lambda a, b: a > b)]
-        if first != [len(p[0]) if p else 0, len(p)]:
-            print(f"slides of {word} disagree with its subsequences")
-            wrong += 1
-        letters = [str(letter) for letter in word]
-        given = run(program, ["rsk", *letters])
-        if given != f"P {text(p)}\nQ {text(q)}\n":
-            print(f"rsk {' '.join(letters)}: {given!r}, and by slides P {text(p)}, Q {text(q)}")
-            wrong += 1
-        back = run(program, ["unrsk", *text(p).split(), "-", *text(q).split()])
-        if back != " ".join(letters) + "\n":
-            print(f"unrsk of the pair of {' '.join(letters)}: {back!r}")
-            wrong += 1
-    return 1 if wrong else 0
+        subsequences = [longest(word, lambda a, b: a <= b), longest(word, lambda a, b: a > b)]
+        differences.compare(f"the shape by slides of {word}", [len(p[0]) if p else 0, len(p)], subsequences)
+        differences.compare(f"rsk {word}", printed(program, "rsk", *word), f"P {tableau(p)}\nQ {tableau(q)}\n")
+        pair = [*tableau(p).split(), "-", *tableau(q).split()]
+        differences.compare(f"unrsk {pair}", printed(program, "unrsk", *pair), " ".join(map(str, word)) + "\n")
+    return differences.status("row insertion against slides")
 
 
-sys.exit(main())
+if __name__ == "__main__":
+    sys.exit(main())

@@ -3,7 +3,7 @@
 
 For expressions with a fixed seed and each basis the line of `expand -m`, with its atoms read as Sage's symmetric functions, must be
 the sum of the terms of the block. Python itself has no empty index, so that `s[]` is pasted as `s[[]]`, and a fraction as one
-of Sage. Prints a line for each mismatch; the status is 0 where there is none, and 77 where this is no Sage."""
+of Sage. The status is 77 too where this is no Sage."""
 import random
 import re
 import sys
@@ -13,14 +13,15 @@ try:
 except ImportError:
     sys.exit(77)
 
-from one_line import expression, printed
+from common import Differences, numbers, printed
+from one_line import expression
 
 
 def main():
-    calc, rng, wrong, count = sys.argv[1], random.Random(18), 0, 60
+    calc, rng, differences = sys.argv[1], random.Random(18), Differences()
     functions = SymmetricFunctions(QQ)
     bases = {letter: getattr(functions, letter)() for letter in "mehps"}
-    for _ in range(count):
+    for _ in range(60):
         word = expression(rng, rng.randint(0, 6), 3)
         for letter, basis in bases.items():
             line = printed(calc, "expand", "-m", letter, word).strip().replace("[]", "[[]]")
@@ -30,12 +31,9 @@ def main():
             for row in printed(calc, "expand", letter, word).splitlines():
                 if row != "0":
                     coefficient, label = row.split("  ")
-                    listed += QQ(coefficient) * basis([int(a) for a in re.findall(r"\d+", label)])
-            if pasted != listed:
-                print(f"expand -m {letter} {word}: {line} is another function in Sage")
-                wrong += 1
-    print(f"{count} expressions, their lines pasted into Sage in five bases: {wrong} differ")
-    return bool(wrong)
+                    listed += QQ(coefficient) * basis(list(numbers(label)))
+            differences.compare(f"expand -m {letter} {word}", pasted, listed)
+    return differences.status("one-line forms pasted into Sage")
 
 
 if __name__ == "__main__":

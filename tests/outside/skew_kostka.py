@@ -4,7 +4,8 @@
 A skew Schur polynomial is expanded in Schur polynomials by `lrcalc skew`, and the coefficient of each in the product of
 the rows of the content is counted by `lrcalc mult`. The order of the content does not count. Each line is one of those that
 `library_rows` prints for `Fillings::with_content`."""
-from kostka import rows_of, terms
+from common import printed, terms
+from kostka import rows_of
 
 CASES = [
     ((3, 2, 1), (1,), (2, 2, 1)),
@@ -17,8 +18,8 @@ CASES = [
 
 
 def number(outer, inner, content):
-    schur = terms(["lrcalc", "skew", *map(str, outer), "/", *map(str, inner or (0,))])
-    if not sum(outer) - sum(inner):
+    schur = terms(printed("lrcalc", "skew", *outer, "/", *(inner or (0,))))
+    if sum(outer) == sum(inner):
         schur = {(): 1}
     rows = rows_of(tuple(sorted((a for a in content if a), reverse=True)))
     return sum(ways * rows[label] for label, ways in schur.items())

@@ -2,16 +2,12 @@
 """Compares `rect` with row insertion: `slides.py PROGRAM`.
 
 For skew tableaux made with a fixed seed it inserts the letters of the reading word, the rows from the bottom up and each
-from left to right, into an empty tableau: that is the tableau which slides end in. It does no slides itself. Prints a line
-for each mismatch; the status is 0 where there is none."""
+from left to right, into an empty tableau: that is the tableau which slides end in. It does no slides itself."""
 import bisect
 import random
-import subprocess
 import sys
 
-
-def without_zeros(parts):
-    return [a for a in parts if a]
+from common import Differences, printed, tableau
 
 
 def skew_tableau(rng):
@@ -28,39 +24,31 @@ def skew_tableau(rng):
             above = rows[i - 1][j - inner[i - 1]] + 1 if i and inner[i - 1] <= j < outer[i - 1] else least
             row.append(max(left, above) + rng.choice([0, 0, 0, 1, 2]))
         rows.append(row)
-    return outer, without_zeros(inner), rows
+    return outer, [a for a in inner if a], rows
 
 
-def insert(tableau, letter):
+def insert(rows, letter):
     """Row insertion, with bumped letters going on into the next row."""
-    for row in tableau:
+    for row in rows:
         at = bisect.bisect_right(row, letter)
         if at == len(row):
             row.append(letter)
             return
         row[at], letter = letter, row[at]
-    tableau.append([letter])
-
-
-def text(rows):
-    return " / ".join(" ".join(map(str, row)) or "." for row in rows) or "."
+    rows.append([letter])
 
 
 def main():
-    rng, failed, count = random.Random(10), 0, 100
-    for _ in range(count):
+    program, rng, differences = sys.argv[1], random.Random(10), Differences()
+    for _ in range(100):
         outer, inner, rows = skew_tableau(rng)
-        tableau = []
+        inserted = []
         for row in reversed(rows):
             for letter in row:
-                insert(tableau, letter)
-        words = f"rect {' '.join(map(str, outer))} / {' '.join(map(str, inner))} - {text(rows)}".split()
-        run = subprocess.run([sys.argv[1], *words], capture_output=True, timeout=60)
-        if run.stdout.decode() != text(tableau) + "\n" or run.returncode:
-            failed += 1
-            print(f"FAILED {' '.join(words)}: status {run.returncode}, {run.stdout[:200]!r}, wanted {text(tableau)}")
-    print(f"rect, {count} skew tableaux against row insertion: {failed} differ")
-    return bool(failed)
+                insert(inserted, letter)
+        words = ["rect", *outer, "/", *inner, "-", *tableau(rows).split()]
+        differences.compare(words, printed(program, *words), tableau(inserted) + "\n")
+    return differences.status("rect against row insertion")
 
 
 if __name__ == "__main__":

@@ -1,49 +1,38 @@
 #!/usr/bin/env python3
 """Compares Schubert polynomials with Symmetrica (Debian's libsymmetrica2-dev): `symmetrica.py PROGRAM`.
 
-It builds the driver beside it and asks both for 200 permutations of up to 9 letters, made with a fixed seed. Prints a line
-for each mismatch; the status is 0 where there is none, and 77 where the driver can't be built."""
+It builds the driver beside it and asks both for 200 permutations of up to 9 letters, made with a fixed seed."""
 import os
 import random
 import re
-import subprocess
 import sys
 import tempfile
 
+from common import Differences, printed, random_permutation, run, terms
 
-def polynomial(lines):
-    """Coefficients by exponents without zeros at the end."""
-    found = {}
-    for line in lines:
-        coefficient, exponents = line.split("  ", 1)
-        exponents = [int(a) for a in re.findall(r"\d+", exponents)]
-        while exponents and exponents[-1] == 0:
-            exponents.pop()
-        found[tuple(exponents)] = int(coefficient)
-    return found
+
+def exponents(label):
+    """The exponents of a monomial, without zeros at the end."""
+    found = [int(a) for a in re.findall(r"\d+", label)]
+    while found and found[-1] == 0:
+        found.pop()
+    return tuple(found)
 
 
 def main():
-    calc = sys.argv[1]
-    here = os.path.dirname(os.path.abspath(__file__))
+    calc, rng, differences = sys.argv[1], random.Random(8), Differences()
+    source = os.path.join(os.path.dirname(os.path.abspath(__file__)), "symmetrica.c")
+    permutations = [random_permutation(rng, 9) for _ in range(200)]
+    asked = "".join("schubert " + " ".join(map(str, w)) + "\n" for w in permutations)
     with tempfile.TemporaryDirectory() as folder:
         driver = os.path.join(folder, "symmetrica")
-        built = subprocess.run(["cc", "-O1", "-w", "-o", driver, os.path.join(here, "symmetrica.c"), "-lsymmetrica"],
-                               capture_output=True, check=False)
-        if built.returncode:
+        if run("cc", "-O1", "-w", "-o", driver, source, "-lsymmetrica").returncode:
             return 77
-        rng = random.Random(8)
-        permutations = [rng.sample(range(1, n + 1), n) for n in (rng.randint(1, 9) for _ in range(200))]
-        asked = "".join("schubert " + " ".join(map(str, w)) + "\n" for w in permutations)
-        answers = subprocess.run([driver], input=asked, text=True, capture_output=True, check=True).stdout.split("--\n")
-    wrong = 0
+        answers = printed(driver, given=asked).split("--\n")
     for w, answer in zip(permutations, answers):
-        ours = subprocess.run([calc, "schubert", *map(str, w)], text=True, capture_output=True, check=True).stdout
-        if polynomial(ours.splitlines()) != polynomial(answer.splitlines()):
-            wrong += 1
-            print(f"MISMATCH schubert {w}")
-    print(f"{len(permutations)} Schubert polynomials compared with Symmetrica, {wrong} differ")
-    return 1 if wrong else 0
+        ours = terms(printed(calc, "schubert", *w), exponents)
+        differences.compare(f"schubert {w}", ours, terms(answer, exponents))
+    return differences.status("Schubert polynomials of Symmetrica")
 
 
 if __name__ == "__main__":

@@ -2,14 +2,10 @@
 """Compares `work` with a generator of its own: `workload.py PROGRAM`.
 
 It makes the lines of the generator by itself, runs them as one `batch`, adds up lines, terms and bytes of the blocks, and
-compares these with what `work` prints. `work` is run twice, and must write the same. Prints a line for each mismatch; the
-status is 0 where there is none."""
-import subprocess
+compares these with what `work` prints. `work` is run twice, and must write the same."""
 import sys
 
-
-def drawn(state):
-    return (75 * state + 74) % 65537
+from common import Differences, printed
 
 
 class Generator:
@@ -17,7 +13,7 @@ class Generator:
         self.state = seed
 
     def draw(self, modulus):
-        self.state = drawn(self.state)
+        self.state = (75 * self.state + 74) % 65537
         return self.state % modulus
 
     def partition(self, modulus):
@@ -44,33 +40,23 @@ class Generator:
         return " ".join(map(str, words))
 
 
-def run(program, words, text=""):
-    done = subprocess.run([program, *words], input=text.encode(), capture_output=True, check=False)
-    return done.returncode, done.stdout.decode()
-
-
 def summed(program, count, seed):
+    """The sums over the blocks of the same lines as a batch."""
     generator = Generator(seed)
-    lines = [generator.line() for _ in range(count)]
-    status, text = run(program, ["batch"], "".join(line + "\n" for line in lines))
-    if status != 0:
-        return f"the batch of seed {seed} ended with status {status}"
-    blocks = text.split("--\n")
+    lines = "".join(generator.line() + "\n" for _ in range(count))
+    blocks = printed(program, "batch", given=lines).split("--\n")
     terms = sum(0 if block == "0\n" else block.count("\n") for block in blocks)
     return f"lines {len(blocks)}\nterms {terms}\nbytes {sum(map(len, blocks))}\n"
 
 
 def main():
-    program = sys.argv[1]
-    wrong = 0
+    program, differences = sys.argv[1], Differences()
     for count, seed in [(1, 0), (2, 0), (2, 65536), (200, 1), (2000, 7)]:
-        words = ["work", str(count), str(seed)]
-        first, again, wanted = run(program, words), run(program, words), summed(program, count, seed)
-        if first != (0, wanted) or again != first:
-            wrong += 1
-            print(f"work {count} {seed}: {first}, then {again}, and not {wanted!r}")
-    sys.exit(wrong > 0)
+        wanted = summed(program, count, seed)
+        for _ in range(2):
+            differences.compare(f"work {count} {seed}", printed(program, "work", count, seed), wanted)
+    return differences.status("the sums of work against a batch")
 
 
 if __name__ == "__main__":
-    main()
+    sys.exit(main())

@@ -1,0 +1,85 @@
+"""What the scripts beside this file share: runs of the program, its lines as Python's values, partitions.
+
+Each script is called with the path of the program, prints a line for each mismatch, and ends with status 0 where there is none,
+1 where there is one, and 77 where what it compares with can't be had."""
+import re
+import subprocess
+from collections import Counter
+
+SECONDS = 120
+
+
+def printed(*words, given=""):
+    """What a program writes for these words and this standard input; it must end with status 0."""
+    return run(*words, given=given, check=True).stdout
+
+
+def run(*words, given="", check=False):
+    """A run of a program that has ended: its status and its texts."""
+    words = [str(word) for word in words]
+    return subprocess.run(words, input=given, capture_output=True, text=True, check=check, timeout=SECONDS)
+
+
+def numbers(label):
+    """The numbers of a label, without zeros."""
+    return tuple(int(a) for a in re.findall(r"\d+", label) if a != "0")
+
+
+def terms(text, label=numbers):
+    """Coefficients by label, from lines such as `2  (2,1)` of any of the programs."""
+    found = Counter()
+    for line in text.splitlines():
+        if line.strip() not in ("", "0"):
+            coefficient, rest = line.split("  ", 1)
+            found[label(rest)] += int(coefficient)
+    return found
+
+
+def partitions(size, greatest=None):
+    """The partitions of a number, the greater ones first."""
+    greatest = size if greatest is None else greatest
+    if size == 0:
+        return [()]
+    return [(a, *rest) for a in range(min(size, greatest), 0, -1) for rest in partitions(size - a, a)]
+
+
+def random_partition(rng, size):
+    parts = []
+    while size:
+        parts.append(rng.randint(1, min(size, *parts[-1:], size)))
+        size -= parts[-1]
+    return tuple(parts)
+
+
+def random_permutation(rng, greatest):
+    """A permutation of 1 to as many letters as the greatest number."""
+    letters = rng.randint(1, greatest)
+    return rng.sample(range(1, letters + 1), letters)
+
+
+def atom(letter, parts):
+    """An atom of an expression."""
+    return f"{letter}[{','.join(map(str, parts))}]"
+
+
+def tableau(rows):
+    """A tableau as the program writes it."""
+    return " / ".join(" ".join(map(str, row)) or "." for row in rows) or "."
+
+
+class Differences:
+    """Counts what is compared, and prints what differs."""
+
+    def __init__(self):
+        self.compared = self.different = 0
+
+    def compare(self, what, ours, theirs):
+        self.compared += 1
+        if ours != theirs:
+            self.different += 1
+            print(f"{what}: {ours!r}, and not {theirs!r}"[:2000], flush=True)
+
+    def status(self, what):
+        """Says how much was compared; the status to end with."""
+        print(f"{what}: {self.compared} compared, {self.different} differ")
+        return int(self.different > 0)

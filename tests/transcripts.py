@@ -1,0 +1,199 @@
+"""Transcripts of the program, and runs of it. The head of tests/run says how a transcript is written."""
+import os
+import re
+import shlex
+import subprocess
+from dataclasses import dataclass
+
+TOP = os.path.join(os.path.dirname(os.path.abspath(__file__)), "..")
+CASES = os.path.join(TOP, "tests/cases")
+SECONDS = 60
+
+
+@dataclass
+class Case:
+    """What is typed, and what must come of it."""
+
+    name: str
+    words: list  # of bytes
+    given: bytes = b""
+    written: bytes = b""
+    status: int = 0
+    output: str = "file"
+
+
+class Tally:
+    """Counts what is tried, and prints what failed."""
+
+    def __init__(self):
+        self.passed = self.failed = 0
+
+    def count(self, name, wrong):
+        if wrong:
+            self.failed += 1
+            print(f"FAILED {name}: {wrong}", flush=True)
+        else:
+            self.passed += 1
+
+    def end(self):
+        """Prints the sums; the status to end with."""
+        print(f"{self.passed} passed, {self.failed} failed", flush=True)
+        return int(self.failed > 0)
+
+
+def program():
+    """The built program: that of the environment's CALC, or the repository's own."""
+    return os.path.abspath(os.environ.get("CALC") or os.path.join(TOP, "crates/calc/out/calc"))
+
+
+def commands():
+    """The commands that have a transcript."""
+    names = {name.removesuffix(".txt") for name in os.listdir(CASES) if name.endswith(".txt")}
+    return names - {"words"}
+
+
+def expanded(line):
+    """A line with `{3:ab}` written as `ababab`, and `{4..1}` as `4 3 2 1`."""
+    def repeated(found):
+        return found[2] * int(found[1])
+
+    def counted(found):
+        first, last = int(found[1]), int(found[2])
+        step = 1 if first <= last else -1
+        return " ".join(map(str, range(first, last + step, step)))
+
+    before = None
+    while before != line:
+        before = line
+        line = re.sub(r"\{(\d+):([^{}]*)\}", repeated, line)
+        line = re.sub(r"\{(\d+)\.\.(\d+)\}", counted, line)
+    return line
+
+
+def words_of(line):
+    """The words behind `$ calc`, as a shell reads them."""
+    return [word.encode() for word in shlex.split(expanded(line))]
+
+
+def given_line(line):
+    """The bytes of a line of standard input: `\\` at its end takes the line feed away."""
+    line, feed = expanded(line), b"\n"
+    if re.search(r"(?<!\\)(\\\\)*\\$", line):
+        line, feed = line[:-1], b""
+    marks = {"t": "\t", "r": "\r", "s": " ", "\\": "\\"}
+    return re.sub(r"\\(.)", lambda found: marks[found[1]], line).encode() + feed
+
+
+def cases_of(path):
+    """The cases of a transcript."""
+    cases, case = [], None
+    with open(path, encoding="utf-8") as transcript:
+        for number, line in enumerate(transcript, 1):
+            line, place = line.rstrip("\n"), f"{os.path.relpath(path, TOP)}:{number}"
+            if case is None:
+                if line == "$ calc" or line.startswith("$ calc "):
+                    case = Case(place, words_of(line[len("$ calc"):]))
+                elif line and not line.startswith("#"):
+                    raise SystemExit(f"{place}: neither a case nor a comment: {line}")
+            elif line.startswith("=> "):
+                case.status = int(line[3:])
+                cases.append(case)
+                case = None
+            elif line == "<" or line.startswith("< "):
+                case.given += given_line(line[2:])
+            else:
+                case.written += expanded(line).encode() + b"\n"
+    if case is not None:
+        raise SystemExit(f"{case.name}: no line with its status")
+    return cases
+
+
+def case_in(folder):
+    """The case of a folder."""
+    def read(name, default=b""):
+        path = os.path.join(folder, name)
+        if not os.path.exists(path):
+            return default
+        with open(path, "rb") as file:
+            return file.read()
+
+    return Case(
+        os.path.relpath(folder, TOP),
+        read("args").split(b"\n")[:-1],
+        read("stdin"),
+        read("stdout"),
+        int(read("status", b"0")),
+        read("output", b"file").decode().strip(),
+    )
+
+
+def as_batch(path, cases):
+    """The cases of a transcript that can stand in a line of a batch, as one batch."""
+    def is_line(words):
+        line = b" ".join(words)
+        return line.split() == words and words and len(line) <= 4096 and words[0] not in (b"batch", b"work")
+
+    lines = [case for case in cases if is_line(case.words)]
+    return Case(
+        f"{os.path.relpath(path, TOP)}, its cases as the lines of one batch",
+        [b"batch"],
+        b"".join(b" ".join(case.words) + b"\n" for case in lines),
+        b"--\n".join(case.written for case in lines),
+        int(any(case.status for case in lines)),
+    )
+
+
+def outcome(case):
+    """What is wrong with a run of the case: nothing is, where this is empty."""
+    command = [program(), *case.words]
+    try:
+        status, written, told = run(command, case)
+    except subprocess.TimeoutExpired:
+        return f"no end after {SECONDS} seconds"
+    wrong = []
+    if status != case.status:
+        wrong.append(f"status {status}, wanted {case.status}")
+    if written != case.written:
+        wrong.append(f"wrong text from byte {len(os.path.commonprefix([written, case.written]))} on: {short(written)}")
+    if told:
+        wrong.append(f"standard error: {short(told)}")
+    return "; ".join(wrong)
+
+
+def short(text):
+    return repr(text if len(text) <= 300 else text[:150] + b" .. " + text[-150:])[1:]
+
+
+def run(command, case):
+    """Status, standard output and standard error of the command, with standard output where the case wants it."""
+    if case.output == "file":
+        done = subprocess.run(command, input=case.given, capture_output=True, timeout=SECONDS)
+        return done.returncode, done.stdout, done.stderr
+    # The signal for a reader that is gone is left out: the write fails.
+    if case.output == "closed":
+        done = subprocess.run(
+            command, input=case.given, stderr=subprocess.PIPE, timeout=SECONDS, preexec_fn=lambda: os.close(1)
+        )
+        return done.returncode, b"", done.stderr
+    if case.output == "full":
+        with open("/dev/full", "wb") as full:
+            done = subprocess.run(command, input=case.given, stdout=full, stderr=subprocess.PIPE, timeout=SECONDS)
+        return done.returncode, b"", done.stderr
+    count = 0 if case.output == "pipe" else int(case.output.removesuffix(" bytes"))
+    reader, writer = os.pipe()
+    if not count:
+        os.close(reader)
+    with subprocess.Popen(
+        command, stdin=subprocess.DEVNULL, stdout=writer, stderr=subprocess.PIPE, restore_signals=False
+    ) as started:
+        os.close(writer)
+        written = b""
+        if count:
+            with open(reader, "rb") as front:
+                written = front.read(count)
+        try:
+            _, told = started.communicate(timeout=SECONDS)
+        except subprocess.TimeoutExpired:
+            started.kill()
+            raise
+        return started.returncode, written, told
