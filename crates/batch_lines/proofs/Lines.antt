@@ -80,9 +80,9 @@ either_way pending all rest taken text behind a h l (inr e) =
     let x = at_end pending all rest taken text behind a e in
     ap lines_of x.0 ∙ line_last text h l ∙ ap (λ ls. text ∷ lines_of ls) (sym x.1)
 
-pub read_line : (all rest pending behind line : List ℕ) (allowance less : ℕ) → ReadsNext (Some all) (Some rest) allowance less pending behind line Line
+pub read_line : (all rest pending behind line : List ℕ) (allowance less : ℕ) (ended : Bool) → ReadsNext (Some all) (Some rest) allowance less pending behind line ended Line
     → lines_of (pending ++ all) ≡ line ∷ lines_of (behind ++ rest)
-read_line all rest pending behind line allowance less r = by r.is_next.2 ∙ ap (λ t. t ∷ lines_of (behind ++ rest)) (sym r.is_next.0)
+read_line all rest pending behind line allowance less ended r = by r.is_next.2 ∙ ap (λ t. t ∷ lines_of (behind ++ rest)) (sym r.is_next.0)
   where
     by : EndsAtFeed (pending ++ r.taken) r.text behind ⊎ (EndsAtEnd (pending ++ r.taken) r.text behind (Some rest) × (0 < length r.text))
         → lines_of (pending ++ all) ≡ r.text ∷ lines_of (behind ++ rest)
@@ -92,15 +92,15 @@ read_line all rest pending behind line allowance less r = by r.is_next.2 ∙ ap 
 long_is : (text : List ℕ) → most_bytes < length text → batch_line text ≡ too_long
 long_is text h = ap (λ t. cond t too_long (line_of_words (words_of_line (without_return text)))) (lt-ltb most_bytes (length text) h)
 
-pub read_long : (all rest pending behind line : List ℕ) (allowance less : ℕ) → ReadsNext (Some all) (Some rest) allowance less pending behind line TooLong
+pub read_long : (all rest pending behind line : List ℕ) (allowance less : ℕ) (ended : Bool) → ReadsNext (Some all) (Some rest) allowance less pending behind line ended TooLong
     → (text : List ℕ) × (batch_line text ≡ too_long) × (lines_of (pending ++ all) ≡ text ∷ lines_of (behind ++ rest))
-read_long all rest pending behind line allowance less r =
+read_long all rest pending behind line allowance less ended r =
     let l = r.is_next.0 in
     (r.text, long_is r.text l, either_way pending all rest r.taken r.text behind (told all rest r.taken r.took) r.no_feed (omega (arith, l)) r.is_next.1)
 
-pub read_end : (all rest pending behind line : List ℕ) (allowance less : ℕ) → ReadsNext (Some all) (Some rest) allowance less pending behind line End
+pub read_end : (all rest pending behind line : List ℕ) (allowance less : ℕ) (ended : Bool) → ReadsNext (Some all) (Some rest) allowance less pending behind line ended End
     → (pending ++ all ≡ []) × (behind ++ rest ≡ [])
-read_end all rest pending behind line allowance less r =
+read_end all rest pending behind line allowance less ended r =
     let x = at_end pending all rest r.taken r.text behind (told all rest r.taken r.took) r.is_next.1 in (x.0 ∙ r.is_next.0, x.1)
 
 -- ---- blocks

@@ -7,7 +7,7 @@ use Rattle.std.proofs.lemmas.List.{append-nil}
 use Rattle.sym_model.specs.BatchLine.{most_bytes}
 use Rattle.batch_lines.specs.Feeds.{HasNoFeed}
 use Rattle.batch_lines.specs.Heard.{IsHeard, IsTaken, Hears}
-use Rattle.batch_lines.specs.Reading.{Took, TookPart, EndsAtFeed, EndsAtEnd, IsNext, ReadsNext, next_at_feed, next_at_end}
+use Rattle.batch_lines.specs.Reading.{Took, TookPart, EndsAtFeed, EndsAtEnd, EndsBy, IsNext, ReadsNext, next_at_feed, next_at_end}
 use Rattle.batch_lines.specs.declared.heard.Heard.{Heard}
 use Rattle.batch_lines.specs.declared.next.Next.{Next}
 use Rattle.batch_lines.proofs.Parts.{no_feed_append}
@@ -46,7 +46,7 @@ begins told allowance faults first kept e = record {
   text = [];
   no_feed = tt;
   bytes = append-nil first;
-  heard = record { long = refl; whole = λ h. e };
+  heard = record { long = refl; whole = λ h. e; little = subst (λ xs. length xs ≤ most_bytes) (sym e) (omega arith) };
 }
 
 -- ---- a line that ends
@@ -56,10 +56,10 @@ ended_at_feed : (text line : List ℕ) (is_long : Bool) (all pending : List ℕ)
 ended_at_feed text line true all pending now h e = (ltb-true most_bytes (length text) (sym h.long), inl e)
 ended_at_feed text line false all pending now h e = (h.whole refl, ltb-false most_bytes (length text) (sym h.long), inl e)
 
-pub ends : (before now : Option (List ℕ)) (allowance less faults count : ℕ) (first pending kept behind line : List ℕ) (is_long : Bool) (heard : Heard) (next : Next)
+pub ends : (before now : Option (List ℕ)) (allowance less faults count : ℕ) (first pending kept behind line : List ℕ) (is_long : Bool) (heard : Heard) (ended : Bool) (next : Next)
     → (r : ReadsSo before now allowance less faults count first pending kept is_long) → Hears r.text pending behind line heard → heard.has_ended ≡ true
-    → next ≡ next_at_feed heard.is_long → ReadsNext before now allowance less first behind line next
-ends before now allowance less faults count first pending kept behind line is_long heard next r h e n =
+    → ended ≡ false → next ≡ next_at_feed heard.is_long → ReadsNext before now allowance less first behind line ended next
+ends before now allowance less faults count first pending kept behind line is_long heard ended next r h e going n =
     let cut : pending ≡ h.part ++ 10 ∷ behind = subst (IsTaken h.part pending behind) e h.taken in
     let all : EndsAtFeed (first ++ r.taken) (r.text ++ h.part) behind =
     r.bytes ∙ ap (λ xs. r.text ++ xs) cut ∙ sym (append_assoc r.text h.part (10 ∷ behind)) in
@@ -69,6 +69,7 @@ ends before now allowance less faults count first pending kept behind line is_lo
       spent = r.spent;
       text = r.text ++ h.part;
       no_feed = no_feed_append r.text h.part r.no_feed h.no_feed;
+      ends = subst (λ x. EndsBy x (first ++ r.taken) (r.text ++ h.part) behind now) (sym going) all;
       is_next =
           subst (λ x. IsNext x (first ++ r.taken) (r.text ++ h.part) behind now line) (sym n)
           (ended_at_feed (r.text ++ h.part) line heard.is_long (first ++ r.taken) behind now h.heard all);
@@ -131,19 +132,21 @@ at_end_is text (b ∷ line) false all pending later h e =
 pub stops : (before now later : Option (List ℕ)) (allowance less still_less faults count : ℕ) (first pending kept behind line piece : List ℕ) (is_long : Bool) (heard : Heard) (next : Next)
     → (r : ReadsSo before now allowance less faults count first pending kept is_long) → Hears r.text pending behind line heard → heard.has_ended ≡ false
     → Took now later piece → still_less + length piece ≤ less → length piece ≡ 0 → IfSome now (λ rest. rest ≡ [])
-    → next ≡ next_at_end line heard.is_long → ReadsNext before later allowance still_less first piece line next
+    → next ≡ next_at_end line heard.is_long → ReadsNext before later allowance still_less first piece line true next
 stops before now later allowance less still_less faults count first pending kept behind line piece is_long heard next r h e t s z q n =
     let cut : (pending ≡ h.part) × (behind ≡ []) = subst (IsTaken h.part pending behind) e h.taken in
     let none = no_bytes piece z in
     let text = r.text ++ h.part in
+    let at_end : EndsAtEnd (first ++ r.taken) text piece later =
+    record { whole = r.bytes ∙ ap (λ xs. r.text ++ xs) cut.0; none_pending = none; none_left = told_end now later piece none t q } in
     record {
       taken = r.taken;
       took = subst (Took before later) (ap (λ xs. r.taken ++ xs) none ∙ append-nil r.taken) (took_more before now later r.taken piece r.took t);
       spent = let x = r.spent in omega (arith, x, s);
       text = text;
       no_feed = no_feed_append r.text h.part r.no_feed h.no_feed;
+      ends = at_end;
       is_next =
           subst (λ x. IsNext x (first ++ r.taken) text piece later line) (sym n)
-          (at_end_is text line heard.is_long (first ++ r.taken) piece later h.heard
-          (record { whole = r.bytes ∙ ap (λ xs. r.text ++ xs) cut.0; none_pending = none; none_left = told_end now later piece none t q }));
+          (at_end_is text line heard.is_long (first ++ r.taken) piece later h.heard at_end);
     }

@@ -9,10 +9,15 @@ use Rattle.batch_lines.specs.declared.next.Next.TheVariants.{Line, TooLong, End}
 use Rattle.batch_lines.specs.declared.next.LineFault.{LineFault}
 use Rattle.batch_lines.specs.declared.next.LineFault.TheVariants.{SourceFault, NoMemory}
 
--- the bytes that were taken from the source and not yet read, and the last line
+-- the most bytes that are taken from the source at a time, so that no more are pending
+abbrev pub most_pending : ℕ
+most_pending = 4096
+
+-- the bytes that were taken from the source and not yet read, the last line, and whether the source was found at its end
 pub record Reading : Type 0 where
   pub pending : List ℕ
   pub line : List ℕ
+  pub has_ended : Bool
 
 -- some bytes were taken from the source, where it tells them
 abbrev pub Took : Option (List ℕ) → Option (List ℕ) → List ℕ → Type 0
@@ -28,6 +33,16 @@ pub record EndsAtEnd (all text pending : List ℕ) (left : Option (List ℕ)) : 
   pub none_pending : pending ≡ []
   pub none_left : IfSome left (λ rest. rest ≡ [])
 
+-- where the source was found at its end, nothing is left in it
+abbrev pub IsAtEnd : Bool → Option (List ℕ) → Type 0
+IsAtEnd false left = Unit {0}
+IsAtEnd true left = IfSome left (λ rest. rest ≡ [])
+
+-- how a line ends: at a line feed, or where the source was found at its end
+abbrev pub EndsBy : Bool → (all text pending : List ℕ) → Option (List ℕ) → Type 0
+EndsBy false all text pending left = EndsAtFeed all text pending
+EndsBy true all text pending left = EndsAtEnd all text pending left
+
 -- what is read next: a line of at most 4,096 bytes, one with more, or none; the last line is one only where it has a byte
 abbrev pub IsNext : Next → (all text pending : List ℕ) → Option (List ℕ) → (line : List ℕ) → Type 0
 IsNext Line all text pending left line =
@@ -36,12 +51,13 @@ IsNext TooLong all text pending left line = (most_bytes < length text) × (EndsA
 IsNext End all text pending left line = (text ≡ []) × EndsAtEnd all text pending left
 
 -- these bytes were taken, and of them and those that were pending the next line was read
-pub record ReadsNext (before now : Option (List ℕ)) (allowance less : ℕ) (pending left_pending line : List ℕ) (next : Next) : Type 0 where
+pub record ReadsNext (before now : Option (List ℕ)) (allowance less : ℕ) (pending left_pending line : List ℕ) (has_ended : Bool) (next : Next) : Type 0 where
   pub taken : List ℕ
   pub took : Took before now taken
   pub spent : less + length taken ≤ allowance
   pub text : List ℕ
   pub no_feed : HasNoFeed text
+  pub ends : EndsBy has_ended (pending ++ taken) text left_pending now
   pub is_next : IsNext next (pending ++ taken) text left_pending now line
 
 -- what is read where a line ends at a line feed
@@ -67,8 +83,8 @@ pub record TookPart (before now : Option (List ℕ)) (pending : List ℕ) : Type
   pub took : Took before now taken
   pub no_feed : HasNoFeed (pending ++ taken)
 
--- where a fault of the source came, no line ends in what was taken
-abbrev pub CutsLine : (before now : Option (List ℕ)) → List ℕ → Result Next LineFault → Type 0
-CutsLine before now pending (Ok next) = Unit {0}
-CutsLine before now pending (Err SourceFault) = TookPart before now pending
-CutsLine before now pending (Err NoMemory) = Unit {0}
+-- where a fault of the source came, it was not at its end, and no line ends in what was taken
+abbrev pub CutsLine : (before now : Option (List ℕ)) → List ℕ → (had_ended : Bool) → Result Next LineFault → Type 0
+CutsLine before now pending had_ended (Ok next) = Unit {0}
+CutsLine before now pending had_ended (Err SourceFault) = (had_ended ≡ false) × TookPart before now pending
+CutsLine before now pending had_ended (Err NoMemory) = Unit {0}

@@ -1,6 +1,7 @@
 //! What is kept of a line while it is read.
 ghost use Rattle.std.specs.Prelude.{◌≡◌, ◌≤◌, ◌++◌, false, length, List, ℕ, IfOk};
 ghost use Rattle.batch_lines.specs.Heard.{IsHeard, Hears};
+ghost use Rattle.batch_lines.specs.Reading.{most_pending};
 
 use crate::feed::first_feed;
 use crate::pieces::Pieces;
@@ -34,8 +35,9 @@ pub(crate) fn hear(
     line: &mut Vec<u8>,
     is_long: bool,
 ) -> Result<Heard, NoMemory>
-    ensures { (text : List ℕ) → IsHeard text line.old.items is_long
+    ensures heard { (text : List ℕ) → IsHeard text line.old.items is_long
         → IfOk result (λ heard. Hears text pieces.old pieces.new line.new.items heard) }
+    ensures short { IfOk result (λ _. length pieces.new ≤ most_pending) }
 {
     let Some(at) = first_feed(pieces.front()) else {
         let is_long = add(line, is_long, pieces.front())?;

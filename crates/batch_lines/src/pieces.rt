@@ -3,6 +3,7 @@ ghost use Rattle.std.specs.Prelude.{◌≡◌, ◌≤◌, ◌==◌, ◌++◌, []
 ghost use Rattle.std.specs.Option.{option_map};
 ghost use Rattle.calc_base.specs.Fault.{CountsFaults};
 ghost use Rattle.calc_base.specs.Source.{Spends};
+ghost use Rattle.batch_lines.specs.Reading.{most_pending};
 
 use calc_base::{Source, SourceFault};
 use std::marker::Model;
@@ -41,9 +42,10 @@ impl Pieces {
         }
     }
 
-    /// The bytes.
+    /// The bytes: at most 4,096.
     pub(crate) fn front(&self) -> &[u8]
-        ensures { result.now ≡ self.now }
+        ensures bytes { result.now ≡ self.now }
+        ensures short { length self.now ≤ most_pending }
     {
         &self.bytes[self.start..self.end]
     }

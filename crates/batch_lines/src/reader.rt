@@ -1,6 +1,7 @@
 //! A reader of lines.
-ghost use Rattle.std.specs.Prelude.{◌≡◌, ◌≤◌, ℕ, List, [], IfOk, vec_len};
-ghost use Rattle.batch_lines.specs.Reading.{Took, ReadsNext, CutsLine, CountsLine, next_at_feed, next_at_end};
+ghost use Rattle.std.specs.Prelude.{◌≡◌, ◌≤◌, ℕ, List, [], true, false, length, IfOk, OnErr, vec_len};
+ghost use Rattle.sym_model.specs.BatchLine.{most_bytes};
+ghost use Rattle.batch_lines.specs.Reading.{Took, IsAtEnd, ReadsNext, CutsLine, CountsLine, most_pending, next_at_feed, next_at_end};
 
 use crate::heard::hear;
 use crate::pieces::Pieces;
@@ -17,24 +18,29 @@ const MOST_BYTES: usize = 4096;
 pub struct LineReader {
     pieces: Pieces,
     line: Vec<u8>,
+    has_ended: bool,
 }
 
 impl Model for LineReader {
+    ghost use Rattle.std.specs.Prelude.{◌≡◌, [], true};
     ghost use Rattle.batch_lines.specs.Reading.{Reading};
 
     ghost Value = { Reading };
 
-    ghost view = { λ r. record { pending = r.pieces; line = r.line.items } };
+    ghost view = { λ r. record { pending = r.pieces; line = r.line.items; has_ended = r.has_ended } };
+
+    ghost invariant = { λ r. r.has_ended ≡ true → r.pieces ≡ [] };
 }
 
 impl LineReader {
     /// A reader that has taken nothing. The memory that a line wants is taken here.
     pub fn new(alloc: Global) -> Result<LineReader, NoMemory>
-        ensures { IfOk result (λ r. r ≡ record { pending = []; line = [] }) }
+        ensures { IfOk result (λ r. r ≡ record { pending = []; line = []; has_ended = false }) }
     {
         Ok(LineReader {
             pieces: Pieces::new(),
             line: Vec::with_capacity(alloc, MOST_BYTES)?,
+            has_ended: false,
         })
     }
 
@@ -47,18 +53,31 @@ impl LineReader {
 
     /// Reads the next line. Bytes behind the last line feed of the source are a line, where there are any.
     ///
-    /// A line of more than 4,096 bytes is passed over as `TooLong`. `SourceFault` comes exactly where a call of the source
+    /// A line of more than 4,096 bytes is passed over as `TooLong`, and no more bytes of it are kept. `SourceFault` comes exactly where a call of the source
     /// failed, and then no line ends among the bytes that were taken. After an error bytes may be lost, and the reader is
-    /// not to be used.
+    /// not to be used. Where the source was found at its end no call of it is made, and the answer is `End`.
     pub fn next<S: Source>(&mut self, source: &mut S) -> Result<Next, LineFault>
+        requires { IsAtEnd self.old.has_ended (S.left source.old) }
         ensures reads { IfOk result (ReadsNext (S.left source.old) (S.left source.new) (S.allowance source.old) (S.allowance source.new)
-            self.old.pending self.new.pending self.new.line) }
+            self.old.pending self.new.pending self.new.line self.new.has_ended) }
         ensures takes { (taken : List ℕ) × Took (S.left source.old) (S.left source.new) taken }
-        ensures cuts { CutsLine (S.left source.old) (S.left source.new) self.old.pending result }
+        ensures cuts { CutsLine (S.left source.old) (S.left source.new) self.old.pending self.old.has_ended result }
         ensures counts { CountsLine (S.faults source.old) (S.faults source.new) result }
         ensures later { S.faults source.old ≤ S.faults source.new }
+        ensures rests { self.old.has_ended ≡ true → source.new ≡ source.old }
+        ensures short { IfOk result (λ _. length self.new.pending ≤ most_pending) }
+        ensures little { IfOk result (λ _. length self.new.line ≤ most_bytes) }
     {
-        read_next(&mut self.pieces, &mut self.line, source)
+        if self.has_ended {
+            self.line.clear();
+            return Ok(Next::End);
+        }
+        read_next(
+            &mut self.pieces,
+            &mut self.line,
+            &mut self.has_ended,
+            source,
+        )
     }
 }
 
@@ -86,14 +105,19 @@ fn at_end(line: &[u8], is_long: bool) -> Next
 fn read_next<S: Source>(
     pieces: &mut Pieces,
     line: &mut Vec<u8>,
+    has_ended: &mut bool,
     source: &mut S,
 ) -> Result<Next, LineFault>
+    requires { has_ended.old ≡ false }
     ensures reads { IfOk result (ReadsNext (S.left source.old) (S.left source.new) (S.allowance source.old) (S.allowance source.new)
-        pieces.old pieces.new line.new.items) }
+        pieces.old pieces.new line.new.items has_ended.new) }
+    ensures goes_on { OnErr result (has_ended.new ≡ false) }
     ensures takes { (taken : List ℕ) × Took (S.left source.old) (S.left source.new) taken }
-    ensures cuts { CutsLine (S.left source.old) (S.left source.new) pieces.old result }
+    ensures cuts { CutsLine (S.left source.old) (S.left source.new) pieces.old has_ended.old result }
     ensures counts { CountsLine (S.faults source.old) (S.faults source.new) result }
     ensures later { S.faults source.old ≤ S.faults source.new }
+    ensures short { IfOk result (λ _. length pieces.new ≤ most_pending) }
+    ensures little { IfOk result (λ _. length line.new.items ≤ most_bytes) }
 {
     line.clear();
     let mut is_long = false;
@@ -109,6 +133,7 @@ fn read_next<S: Source>(
         match pieces.refill(source) {
             Ok(count) => {
                 if count == 0 {
+                    *has_ended = true;
                     return Ok(at_end(line.as_slice(), is_long));
                 }
             }

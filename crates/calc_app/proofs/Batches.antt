@@ -1,13 +1,14 @@
 -- The blocks of the lines of a batch, one after another, and how a batch ends.
-use Rattle.std.proofs.Common.{◌≡◌, ◌⊎◌, ℕ, ◌+◌, ◌≤◌, ◌<◌, Bool, true, false, ◌&&◌, cond, List, [], ◌∷◌, ◌++◌, append-nil, map, length, refl, sym, ap, ◌∙◌, subst, arith, Option, Some, None, inl, inr}
+use Rattle.std.proofs.Common.{◌≡◌, ◌⊎◌, ℕ, ◌+◌, ◌≤◌, ◌<◌, Bool, true, false, ◌&&◌, cond, List, [], ◌∷◌, ◌++◌, append_assoc, append-nil, map, length, length-append, refl, sym, ap, ◌∙◌, subst, arith, Option, Some, None, inl, inr}
 use Rattle.std.specs.Prelude.{IfSome, Ok}
 use Rattle.std.proofs.lemmas.Bool.{lt-ltb}
 use Rattle.std.proofs.lemmas.List.{map-append}
 use Rattle.batch_lines.proofs.Lines.{more_blocks, more_text, more_done}
+use Rattle.batch_lines.proofs.NextLines.{took_nothing}
 use Rattle.batch_lines.specs.declared.next.Next.{Next}
 use Rattle.batch_lines.specs.declared.next.Next.TheVariants as next
 use Rattle.batch_lines.specs.Feeds.{HasNoFeed}
-use Rattle.batch_lines.specs.Reading.{Took, EndsAtFeed, EndsAtEnd, IsNext, TookPart}
+use Rattle.batch_lines.specs.Reading.{Took, EndsAtFeed, EndsAtEnd, EndsBy, IsNext, TookPart, most_pending}
 use Rattle.calc_base.proofs.PutsLaws.{Appends-then, Appends-nothing, AppendsPrefix-then}
 use Rattle.calc_base.specs.declared.status.Status.{Status}
 use Rattle.calc_base.specs.declared.status.Status.TheVariants as status
@@ -34,8 +35,8 @@ use Rattle.calc_replies.specs.declared.outcome.Outcome.TheVariants.{Answered, Re
 use Rattle.batch_lines.specs.Ends.{separator, is_done_status, progress_after, end_status, Finishes}
 use Rattle.calc_app.specs.Batch.{RefusesLong, ComesOfLine, IsTurn, TakesTurn, EndsBatch}
 use Rattle.calc_replies.specs.Computed.{IsReplyTo, text_of, HasText, HasBlock, status_for}
-use Rattle.calc_app.specs.Top.{status_of, IsThrough, Leaves}
-use Rattle.calc_app.proofs.LinesRead.{IsEnded, ReadsTold, EndsLine, begin_read, begin_spelled, spelled_more, read_more, read_whole, Front, read_front, read_part}
+use Rattle.calc_app.specs.Top.{status_of, IsThrough, IsWholeLines, Leaves, CutsBlock, PutsBlocks}
+use Rattle.calc_app.proofs.LinesRead.{IsEnded, ReadsTold, EndsLine, begin_read, begin_spelled, spelled_more, whole_more, read_more, read_whole, Cut, read_cut, read_part}
 use Rattle.calc_app.proofs.Outcomes.{has_outcome, leaves_ending}
 use Rattle.calc_replies.proofs.Replies.{computes_reply}
 
@@ -61,7 +62,7 @@ line_reply too_long command outcome read reply = absurd read
 line_reply passed_over command outcome read reply = absurd read
 line_reply (spoken words) command outcome read reply = computes_reply batch_entries words (command_of command) (Ok outcome) read reply
 
--- the line has the block, with an ending that goes with the status
+-- the line ended the block, with an ending that goes with the status
 pub record HasBlockOf (line : BatchLine) (text : List ℕ) (answer : Status) : Type 0 where
   pub ending : Ending
   pub are : AreBlocks batch_entries (line ∷ []) ((text, ending) ∷ [])
@@ -104,11 +105,12 @@ is_none (b ∷ blocks) = false
 
 -- these lines were read, and their blocks were put
 pub record Runs {K : Type 0} (written : K → Option (List ℕ)) (count : K → Option ℕ) (faults : K → ℕ) (first now : K)
-    (left now_left : Option (List ℕ)) (source_faults now_faults : ℕ) (pending : List ℕ) (progress : Progress) : Type 0 where
+    (left now_left : Option (List ℕ)) (source_faults now_faults : ℕ) (pending : List ℕ) (has_ended : Bool) (progress : Progress) : Type 0 where
   pub lines : List (List ℕ)
   pub spelled : List ℕ
   pub is_spelled : IsEnded spelled lines
-  pub read : ReadsTold left now_left lines pending
+  pub is_whole : IsWholeLines spelled
+  pub read : ReadsTold left now_left lines pending has_ended
   pub blocks : List Block
   pub are_blocks : AreBlocks batch_entries (map batch_line lines) blocks
   pub is_first : progress.is_first ≡ is_none blocks
@@ -118,11 +120,12 @@ pub record Runs {K : Type 0} (written : K → Option (List ℕ)) (count : K → 
   pub source_still : now_faults ≡ source_faults
 
 pub begins : {K : Type 0} (written : K → Option (List ℕ)) (count : K → Option ℕ) (faults : K → ℕ) (sink : K) (left : Option (List ℕ))
-    (source_faults : ℕ) → Runs written count faults sink sink left left source_faults source_faults [] (record { is_first = true; is_done = true })
+    (source_faults : ℕ) → Runs written count faults sink sink left left source_faults source_faults [] false (record { is_first = true; is_done = true })
 begins written count faults sink left source_faults = record {
   lines = [];
   spelled = [];
   is_spelled = begin_spelled;
+  is_whole = inl refl;
   read = begin_read left;
   blocks = [];
   are_blocks = tt;
@@ -134,13 +137,13 @@ begins written count faults sink left source_faults = record {
 }
 
 -- what was read next: a line, of which this comes
-pub record TookLine (before now : Option (List ℕ)) (allowance less : ℕ) (pending behind : List ℕ) (comes : Option Outcome) : Type 0 where
+pub record TookLine (before now : Option (List ℕ)) (allowance less : ℕ) (pending behind : List ℕ) (ended : Bool) (comes : Option Outcome) : Type 0 where
   pub taken : List ℕ
   pub took : Took before now taken
   pub spent : less + length taken ≤ allowance
   pub text : List ℕ
   pub no_feed : HasNoFeed text
-  pub ends : EndsLine (pending ++ taken) text behind now
+  pub ends : EndsLine ended (pending ++ taken) text behind now
   pub is : ComesOfLine (batch_line text) comes
 
 long_is : (text : List ℕ) → most_bytes < length text → batch_line text ≡ too_long
@@ -160,25 +163,32 @@ passed_comes next.Line line text is same long = subst (λ l. ComesOfLine (batch_
 passed_comes next.TooLong line text is same long = absurd is
 passed_comes next.End line text is same long = absurd is
 
-long_ends : (all text behind : List ℕ) (now : Option (List ℕ)) → most_bytes < length text
-    → EndsAtFeed all text behind ⊎ EndsAtEnd all text behind now → EndsLine all text behind now
-long_ends all text behind now long (inl e) = inl e
-long_ends all text behind now long (inr e) = inr (e, omega (arith, long))
+long_ends : (ended : Bool) (all text behind : List ℕ) (now : Option (List ℕ)) → most_bytes < length text
+    → EndsBy ended all text behind now → EndsLine ended all text behind now
+long_ends false all text behind now long e = e
+long_ends true all text behind now long e = (e, omega (arith, long))
 
-took_line : (before now : Option (List ℕ)) (allowance less : ℕ) (pending behind : List ℕ) (turn : Turn) (comes : Option Outcome)
-    → (t : TakesTurn before now allowance less pending behind turn) → (t.read ≡ next.End → ⊥) → Comes turn comes
-    → TookLine before now allowance less pending behind comes
-took_line before now allowance less pending behind turn comes t not_end says = by t.read refl t.reads.is_next
+line_ends : (ended : Bool) (all text behind : List ℕ) (now : Option (List ℕ)) → EndsBy ended all text behind now
+    → EndsAtFeed all text behind ⊎ (EndsAtEnd all text behind now × (0 < length text)) → EndsLine ended all text behind now
+line_ends false all text behind now e is = e
+line_ends true all text behind now e (inr is) = (e, is.1)
+line_ends true all text behind now e (inl feed) =
+    let w = ap length e.whole in let l = ap length feed in let t = length-append text (10 ∷ behind) in absurd (omega (arith, w, l, t))
+
+took_line : (before now : Option (List ℕ)) (allowance less : ℕ) (pending behind : List ℕ) (ended : Bool) (turn : Turn) (comes : Option Outcome)
+    → (t : TakesTurn before now allowance less pending behind ended turn) → (t.read ≡ next.End → ⊥) → Comes turn comes
+    → TookLine before now allowance less pending behind ended comes
+took_line before now allowance less pending behind ended turn comes t not_end says = by t.read refl t.reads.is_next
   where
     by : (read : Next) → t.read ≡ read → IsNext read (pending ++ t.reads.taken) t.reads.text behind now t.line
-        → TookLine before now allowance less pending behind comes
+        → TookLine before now allowance less pending behind ended comes
     by next.Line same is = record {
       taken = t.reads.taken;
       took = t.reads.took;
       spent = t.reads.spent;
       text = t.reads.text;
       no_feed = t.reads.no_feed;
-      ends = is.2;
+      ends = line_ends ended (pending ++ t.reads.taken) t.reads.text behind now t.reads.ends is.2;
       is = says t.read t.line t.reads.text t.is (λ e. is.0) (λ e. let clash : next.Line ≡ next.TooLong = sym same ∙ e in cc);
     }
     by next.TooLong same is = record {
@@ -187,21 +197,21 @@ took_line before now allowance less pending behind turn comes t not_end says = b
       spent = t.reads.spent;
       text = t.reads.text;
       no_feed = t.reads.no_feed;
-      ends = long_ends (pending ++ t.reads.taken) t.reads.text behind now is.0 is.1;
+      ends = long_ends ended (pending ++ t.reads.taken) t.reads.text behind now is.0 t.reads.ends;
       is = says t.read t.line t.reads.text t.is (λ e. let clash : next.TooLong ≡ next.Line = sym same ∙ e in cc) (λ e. long_is t.reads.text is.0);
     }
     by next.End same is = absurd (not_end same)
 
-pub block_took : (before now : Option (List ℕ)) (allowance less : ℕ) (pending behind : List ℕ) (outcome : Outcome)
-    → TakesTurn before now allowance less pending behind (turn.Block outcome) → TookLine before now allowance less pending behind (Some outcome)
-block_took before now allowance less pending behind outcome t =
-    took_line before now allowance less pending behind (turn.Block outcome) (Some outcome) t
+pub block_took : (before now : Option (List ℕ)) (allowance less : ℕ) (pending behind : List ℕ) (ended : Bool) (outcome : Outcome)
+    → TakesTurn before now allowance less pending behind ended (turn.Block outcome) → TookLine before now allowance less pending behind ended (Some outcome)
+block_took before now allowance less pending behind ended outcome t =
+    took_line before now allowance less pending behind ended (turn.Block outcome) (Some outcome) t
     (λ e. subst (λ r. IsTurn r t.line (turn.Block outcome)) e t.is) (block_comes outcome)
 
-pub passed_took : (before now : Option (List ℕ)) (allowance less : ℕ) (pending behind : List ℕ)
-    → TakesTurn before now allowance less pending behind turn.Passed → TookLine before now allowance less pending behind None
-passed_took before now allowance less pending behind t =
-    took_line before now allowance less pending behind turn.Passed None t
+pub passed_took : (before now : Option (List ℕ)) (allowance less : ℕ) (pending behind : List ℕ) (ended : Bool)
+    → TakesTurn before now allowance less pending behind ended turn.Passed → TookLine before now allowance less pending behind ended None
+passed_took before now allowance less pending behind ended t =
+    took_line before now allowance less pending behind ended turn.Passed None t
     (λ e. subst (λ r. IsTurn r t.line turn.Passed) e t.is) passed_comes
 
 -- the end of the source was read
@@ -210,9 +220,9 @@ pub record TookEnd (before now : Option (List ℕ)) (pending behind : List ℕ) 
   pub took : Took before now taken
   pub ends : EndsAtEnd (pending ++ taken) [] behind now
 
-pub last_took : (before now : Option (List ℕ)) (allowance less : ℕ) (pending behind : List ℕ)
-    → TakesTurn before now allowance less pending behind turn.Last → TookEnd before now pending behind
-last_took before now allowance less pending behind t = by t.read t.is t.reads.is_next
+pub last_took : (before now : Option (List ℕ)) (allowance less : ℕ) (pending behind : List ℕ) (ended : Bool)
+    → TakesTurn before now allowance less pending behind ended turn.Last → TookEnd before now pending behind
+last_took before now allowance less pending behind ended t = by t.read t.is t.reads.is_next
   where
     by : (read : Next) → IsTurn read t.line turn.Last → IsNext read (pending ++ t.reads.taken) t.reads.text behind now t.line → TookEnd before now pending behind
     by next.Line is e = absurd is
@@ -250,15 +260,16 @@ is_some_block [] b = refl
 is_some_block (first ∷ blocks) b = refl
 
 pub runs_passed : {K : Type 0} (written : K → Option (List ℕ)) (count : K → Option ℕ) (faults : K → ℕ) (first sink : K)
-    (left before now : Option (List ℕ)) (source_faults faults_before faults_now allowance less : ℕ) (pending behind : List ℕ) (progress : Progress)
-    → Runs written count faults first sink left before source_faults faults_before pending progress
-    → TookLine before now allowance less pending behind None → faults_now ≡ faults_before
-    → Runs written count faults first sink left now source_faults faults_now behind progress
-runs_passed written count faults first sink left before now source_faults faults_before faults_now allowance less pending behind progress r t same = record {
+    (left before now : Option (List ℕ)) (source_faults faults_before faults_now allowance less : ℕ) (pending behind : List ℕ) (had ended : Bool) (progress : Progress)
+    → Runs written count faults first sink left before source_faults faults_before pending had progress
+    → TookLine before now allowance less pending behind ended None → faults_now ≡ faults_before
+    → Runs written count faults first sink left now source_faults faults_now behind ended progress
+runs_passed written count faults first sink left before now source_faults faults_before faults_now allowance less pending behind had ended progress r t same = record {
   lines = r.lines ++ t.text ∷ [];
   spelled = r.spelled ++ (t.text ++ 10 ∷ []);
   is_spelled = spelled_more r.spelled r.lines t.text r.is_spelled t.no_feed;
-  read = read_more left before now t.taken pending t.text behind r.lines r.read t.took t.no_feed t.ends;
+  is_whole = whole_more r.spelled t.text;
+  read = read_more left before now t.taken pending t.text behind r.lines had ended r.read t.took t.no_feed t.ends;
   blocks = r.blocks;
   are_blocks =
       subst (AreBlocks batch_entries (map batch_line (r.lines ++ t.text ∷ []))) (append-nil r.blocks)
@@ -271,19 +282,20 @@ runs_passed written count faults first sink left before now source_faults faults
 }
 
 pub runs_block : {K : Type 0} (written : K → Option (List ℕ)) (count : K → Option ℕ) (faults : K → ℕ) (first sink next_sink : K)
-    (left before now : Option (List ℕ)) (source_faults faults_before faults_now allowance less : ℕ) (pending behind : List ℕ) (progress : Progress) (outcome : Outcome)
-    → Runs written count faults first sink left before source_faults faults_before pending progress
-    → TookLine before now allowance less pending behind (Some outcome) → HasBlock outcome → faults_now ≡ faults_before
+    (left before now : Option (List ℕ)) (source_faults faults_before faults_now allowance less : ℕ) (pending behind : List ℕ) (had ended : Bool) (progress : Progress) (outcome : Outcome)
+    → Runs written count faults first sink left before source_faults faults_before pending had progress
+    → TookLine before now allowance less pending behind ended (Some outcome) → HasBlock outcome → faults_now ≡ faults_before
     → Appends written count sink next_sink (separator progress.is_first ++ text_of outcome) → faults next_sink ≡ faults sink
-    → Runs written count faults first next_sink left now source_faults faults_now behind (progress_after progress (status_for outcome))
-runs_block written count faults first sink next_sink left before now source_faults faults_before faults_now allowance less pending behind progress outcome r t block same appended still =
+    → Runs written count faults first next_sink left now source_faults faults_now behind ended (progress_after progress (status_for outcome))
+runs_block written count faults first sink next_sink left before now source_faults faults_before faults_now allowance less pending behind had ended progress outcome r t block same appended still =
     let has = comes_block (batch_line t.text) outcome t.is block in
     let b : Block = (text_of outcome, has.ending) in
     record {
       lines = r.lines ++ t.text ∷ [];
       spelled = r.spelled ++ (t.text ++ 10 ∷ []);
       is_spelled = spelled_more r.spelled r.lines t.text r.is_spelled t.no_feed;
-      read = read_more left before now t.taken pending t.text behind r.lines r.read t.took t.no_feed t.ends;
+      is_whole = whole_more r.spelled t.text;
+      read = read_more left before now t.taken pending t.text behind r.lines had ended r.read t.took t.no_feed t.ends;
       blocks = r.blocks ++ b ∷ [];
       are_blocks = blocks_more r.lines t.text r.blocks (b ∷ []) r.are_blocks has.are;
       is_first = is_some_block r.blocks b;
@@ -310,20 +322,44 @@ runs_input input lines blocks are same = record {
   ends = refl;
 }
 
+-- the block of one line more was cut off
+cuts_block : {K : Type 0} (written : K → Option (List ℕ)) (count : K → Option ℕ) (first sink next_sink : K) (lines : List (List ℕ)) (line : List ℕ)
+    (blocks : List Block) (b : Block) → AreBlocks batch_entries (map batch_line lines) blocks → AreBlocks batch_entries (batch_line line ∷ []) (b ∷ [])
+    → Appends written count first sink (batch_text blocks) → AppendsPrefix written count sink next_sink (separator (is_none blocks) ++ b.0)
+    → CutsBlock written count first next_sink (map batch_line (lines ++ line ∷ []))
+cuts_block written count first sink next_sink lines line blocks b are is_last appended cut = record {
+  earlier = map batch_line lines;
+  line = batch_line line;
+  lines_are = map_more lines line;
+  blocks = blocks;
+  last = b;
+  are_blocks = are;
+  is_last = is_last;
+  shown = cut.front;
+  is_shown = record {
+    rest = cut.is_prefix.rest;
+    joined =
+        append_assoc (batch_text blocks) cut.front cut.is_prefix.rest ∙ ap (λ xs. batch_text blocks ++ xs) cut.is_prefix.joined
+        ∙ sym (text_more blocks b);
+  };
+  appended = Appends-then appended cut.appends;
+}
+
 -- the sink failed in a block
 pub ends_cut : {K : Type 0} (written : K → Option (List ℕ)) (count : K → Option ℕ) (faults : K → ℕ) (settled : K → Bool) (first sink next_sink : K)
-    (left before now : Option (List ℕ)) (source_faults faults_before faults_now allowance less : ℕ) (pending behind : List ℕ) (progress : Progress) (outcome : Outcome)
-    → Runs written count faults first sink left before source_faults faults_before pending progress
-    → TookLine before now allowance less pending behind (Some outcome) → HasBlock outcome → faults_now ≡ faults_before
-    → Puts written count faults true sink false next_sink (separator progress.is_first ++ text_of outcome)
+    (left before now : Option (List ℕ)) (source_faults faults_before faults_now allowance less : ℕ) (pending behind : List ℕ) (had ended : Bool) (progress : Progress) (outcome : Outcome)
+    → Runs written count faults first sink left before source_faults faults_before pending had progress
+    → TookLine before now allowance less pending behind ended (Some outcome) → HasBlock outcome → faults_now ≡ faults_before
+    → length behind ≤ most_pending → Puts written count faults true sink false next_sink (separator progress.is_first ++ text_of outcome)
     → EndsBatch written count faults settled first next_sink left now source_faults faults_now status.SinkFault
-ends_cut written count faults settled first sink next_sink left before now source_faults faults_before faults_now allowance less pending behind progress outcome r t block same puts =
+ends_cut written count faults settled first sink next_sink left before now source_faults faults_before faults_now allowance less pending behind had ended progress outcome r t block same short puts =
     let has = comes_block (batch_line t.text) outcome t.is block in
     let b : Block = (text_of outcome, has.ending) in
-    let read = read_more left before now t.taken pending t.text behind r.lines r.read t.took t.no_feed t.ends in
+    let read = read_more left before now t.taken pending t.text behind r.lines had ended r.read t.took t.no_feed t.ends in
     let lines = r.lines ++ t.text ∷ [] in
     let blocks = r.blocks ++ b ∷ [] in
-    let front = read_front left now behind (r.spelled ++ (t.text ++ 10 ∷ [])) lines read (spelled_more r.spelled r.lines t.text r.is_spelled t.no_feed) in
+    let front = read_cut left now now [] behind (r.spelled ++ (t.text ++ 10 ∷ [])) lines ended read (spelled_more r.spelled r.lines t.text r.is_spelled t.no_feed)
+    (whole_more r.spelled t.text) (took_nothing now) in
     let cut = subst (λ x. AppendsPrefix written count sink next_sink (separator x ++ text_of outcome)) r.is_first (puts.cut refl refl) in
     record {
       leaves = record {
@@ -341,6 +377,16 @@ ends_cut written count faults settled first sink next_sink left before now sourc
       no_source_fault = λ n m. absurd (m refl);
       source_later = let s = same ∙ r.source_still in omega (arith, s);
       all_read = no_end;
+      cut = λ e. record {
+        front = front.front;
+        piece = behind ++ [];
+        took = front.took;
+        is_ended = front.is_ended;
+        is_short = inl (subst (λ xs. length xs ≤ most_pending) (sym (append-nil behind)) short);
+        puts =
+            inl (subst (λ ls. CutsBlock written count first next_sink (map batch_line ls)) (sym front.are)
+            (cuts_block written count first sink next_sink r.lines t.text r.blocks b r.are_blocks has.are r.appended cut));
+      };
     }
   where
     no_end : IsThrough status.SinkFault → IfSome now (λ rest. rest ≡ [])
@@ -349,16 +395,19 @@ ends_cut written count faults settled first sink next_sink left before now sourc
 
 -- memory was refused after these lines
 pub ends_full : {K : Type 0} (written : K → Option (List ℕ)) (count : K → Option ℕ) (faults : K → ℕ) (settled : K → Bool) (first sink : K)
-    (left before now : Option (List ℕ)) (source_faults faults_before faults_now : ℕ) (pending : List ℕ) (progress : Progress)
-    → Runs written count faults first sink left before source_faults faults_before pending progress → faults_now ≡ faults_before
-    → EndsBatch written count faults settled first sink left now source_faults faults_now status.NoMemory
-ends_full written count faults settled first sink left before now source_faults faults_before faults_now pending progress r same =
-    let front = read_front left before pending r.spelled r.lines r.read r.is_spelled in
+    (left before now : Option (List ℕ)) (source_faults faults_before faults_now : ℕ) (pending : List ℕ) (had : Bool) (progress : Progress)
+    → Runs written count faults first sink left before source_faults faults_before pending had progress → faults_now ≡ faults_before
+    → (taken : List ℕ) × Took before now taken → EndsBatch written count faults settled first sink left now source_faults faults_now status.NoMemory
+ends_full written count faults settled first sink left before now source_faults faults_before faults_now pending had progress r same t =
+    let front = read_cut left before now t.0 pending r.spelled r.lines had r.read r.is_spelled r.is_whole t.1 in
     record {
       leaves = inr (
         tt,
         record {
           front = front.front;
+          piece = pending ++ t.0;
+          took = front.took;
+          is_ended = front.is_ended;
           is_front = front.is_front;
           text = batch_text r.blocks;
           ending = batch_ending r.blocks;
@@ -373,6 +422,7 @@ ends_full written count faults settled first sink left before now source_faults 
       no_source_fault = λ n m. same ∙ r.source_still;
       source_later = let s = same ∙ r.source_still in omega (arith, s);
       all_read = no_end;
+      cut = λ e. let clash : status.NoMemory ≡ status.SinkFault = e in cc;
     }
   where
     no_end : IsThrough status.NoMemory → IfSome now (λ rest. rest ≡ [])
@@ -383,16 +433,27 @@ ends_full written count faults settled first sink left before now source_faults 
 pub ends_empty : {K : Type 0} (written : K → Option (List ℕ)) (count : K → Option ℕ) (faults : K → ℕ) (settled : K → Bool) (sink : K)
     (left : Option (List ℕ)) (source_faults : ℕ) → EndsBatch written count faults settled sink sink left left source_faults source_faults status.NoMemory
 ends_empty written count faults settled sink left source_faults =
-    ends_full written count faults settled sink sink left left left source_faults source_faults source_faults [] (record { is_first = true; is_done = true })
-    (begins written count faults sink left source_faults) refl
+    ends_full written count faults settled sink sink left left left source_faults source_faults source_faults [] false (record { is_first = true; is_done = true })
+    (begins written count faults sink left source_faults) refl ([], took_nothing left)
+
+no_front : (front rest : List ℕ) → front ++ rest ≡ [] → front ≡ []
+no_front [] rest h = refl
+no_front (b ∷ front) rest h = cc
+
+-- a prefix of nothing was appended
+put_nothing : {K : Type 0} (written : K → Option (List ℕ)) (count : K → Option ℕ) (first sink next_sink : K) (text : List ℕ)
+    → Appends written count first sink text → AppendsPrefix written count sink next_sink [] → Appends written count first next_sink text
+put_nothing written count first sink next_sink text appended cut =
+    subst (Appends written count first next_sink)
+    (ap (λ xs. text ++ xs) (no_front cut.front cut.is_prefix.rest cut.is_prefix.joined) ∙ append-nil text) (Appends-then appended cut.appends)
 
 -- the text of the lines so far was put, and then the finish failed
 finish_cut : {K : Type 0} (written : K → Option (List ℕ)) (count : K → Option ℕ) (faults : K → ℕ) (settled : K → Bool) (first sink next_sink : K)
-    (left now : Option (List ℕ)) (source_faults faults_now : ℕ) (lines : List (List ℕ)) (blocks : List Block)
+    (left now : Option (List ℕ)) (source_faults faults_now : ℕ) (lines : List (List ℕ)) (piece : List ℕ) (blocks : List Block)
     → AreBlocks batch_entries (map batch_line lines) blocks → Appends written count first sink (batch_text blocks) → faults sink ≡ faults first
-    → Puts written count faults true sink false next_sink [] → Front left lines → source_faults ≤ faults_now
+    → Puts written count faults true sink false next_sink [] → Cut left now lines piece → (length piece ≤ most_pending) ⊎ HasNoFeed piece → source_faults ≤ faults_now
     → EndsBatch written count faults settled first next_sink left now source_faults faults_now status.SinkFault
-finish_cut written count faults settled first sink next_sink left now source_faults faults_now lines blocks are appended still puts front later = record {
+finish_cut written count faults settled first sink next_sink left now source_faults faults_now lines piece blocks are appended still puts front short later = record {
   leaves = record {
     front = front.front;
     is_front = front.is_front;
@@ -408,6 +469,16 @@ finish_cut written count faults settled first sink next_sink left now source_fau
   no_source_fault = λ n m. absurd (m refl);
   source_later = later;
   all_read = no_end;
+  cut = λ e. record {
+    front = front.front;
+    piece = piece;
+    took = front.took;
+    is_ended = front.is_ended;
+    is_short = short;
+    puts =
+        inr (subst (λ ls. PutsBlocks written count first next_sink (map batch_line ls)) (sym front.are)
+        (record { blocks = blocks; are_blocks = are; appended = put_nothing written count first sink next_sink (batch_text blocks) appended (puts.cut refl refl) }));
+  };
 }
   where
     no_end : IsThrough status.SinkFault → IfSome now (λ rest. rest ≡ [])
@@ -443,12 +514,12 @@ not_faults past = ((λ e. cc), (λ e. cc))
 
 -- the end of the source was read, and the sink was finished
 pub ends_last : {K : Type 0} (written : K → Option (List ℕ)) (count : K → Option ℕ) (faults : K → ℕ) (settled : K → Bool) (first sink next_sink : K)
-    (left before now : Option (List ℕ)) (source_faults faults_before faults_now : ℕ) (pending behind : List ℕ) (progress : Progress) (answer result : Status)
-    → Runs written count faults first sink left before source_faults faults_before pending progress
+    (left before now : Option (List ℕ)) (source_faults faults_before faults_now : ℕ) (pending behind : List ℕ) (had : Bool) (progress : Progress) (answer result : Status)
+    → Runs written count faults first sink left before source_faults faults_before pending had progress
     → TookEnd before now pending behind → faults_now ≡ faults_before → answer ≡ end_status progress
     → Finishes written count faults settled sink next_sink answer result
     → EndsBatch written count faults settled first next_sink left now source_faults faults_now result
-ends_last {K = K} written count faults settled first sink next_sink left before now source_faults faults_before faults_now pending behind progress answer result r t same is f =
+ends_last {K = K} written count faults settled first sink next_sink left before now source_faults faults_before faults_now pending behind had progress answer result r t same is f =
     by f.well f.puts f.settles f.is
   where
     through : (ending : Ending) → (ending ≡ done) ⊎ (ending ≡ some_refused)
@@ -463,12 +534,13 @@ ends_last {K = K} written count faults settled first sink next_sink left before 
       no_source_fault = λ n m. same ∙ r.source_still;
       source_later = let s = same ∙ r.source_still in omega (arith, s);
       all_read = λ e. t.ends.none_left;
+      cut = λ e. absurd ((not_faults ending).0 e);
     }
 
     by : (well : Bool) → Puts written count faults true sink well next_sink [] → (well ≡ true → settled next_sink ≡ true)
         → result ≡ cond well answer status.SinkFault → EndsBatch written count faults settled first next_sink left now source_faults faults_now result
     by true puts settles same_status =
-        let whole = read_whole left before now t.taken pending behind r.spelled r.lines r.read r.is_spelled t.took t.ends in
+        let whole = read_whole left before now t.taken pending behind r.spelled r.lines had r.read r.is_spelled t.took t.ends in
         let ended = same_status ∙ is ∙ end_same progress r.blocks r.is_done in
         subst (EndsBatch written count faults settled first next_sink left now source_faults faults_now) (sym ended)
         (through (batch_ending r.blocks) (ending_is r.blocks)
@@ -478,13 +550,13 @@ ends_last {K = K} written count faults settled first sink next_sink left before 
         (puts.still refl ∙ r.still))
     by false puts settles same_status =
         subst (EndsBatch written count faults settled first next_sink left now source_faults faults_now) (sym same_status)
-        (finish_cut written count faults settled first sink next_sink left now source_faults faults_now r.lines r.blocks r.are_blocks r.appended r.still puts
-        (read_front left before pending r.spelled r.lines r.read r.is_spelled) (let s = same ∙ r.source_still in omega (arith, s)))
+        (finish_cut written count faults settled first sink next_sink left now source_faults faults_now r.lines (pending ++ t.taken) r.blocks r.are_blocks r.appended r.still puts
+        (read_cut left before now t.taken pending r.spelled r.lines had r.read r.is_spelled r.is_whole t.took) (inr (subst HasNoFeed (sym t.ends.whole) tt)) (let s = same ∙ r.source_still in omega (arith, s)))
 
 -- the source failed, and the sink was finished
 pub ends_source : {K : Type 0} (written : K → Option (List ℕ)) (count : K → Option ℕ) (faults : K → ℕ) (settled : K → Bool) (first sink next_sink : K)
     (left before now : Option (List ℕ)) (source_faults faults_before faults_now : ℕ) (pending : List ℕ) (progress : Progress) (result : Status)
-    → Runs written count faults first sink left before source_faults faults_before pending progress
+    → Runs written count faults first sink left before source_faults faults_before pending false progress
     → TookPart before now pending → Rose faults_before faults_now → faults_before ≤ faults_now
     → Finishes written count faults settled sink next_sink status.SourceFault result
     → EndsBatch written count faults settled first next_sink left now source_faults faults_now result
@@ -498,7 +570,7 @@ ends_source written count faults settled first sink next_sink left before now so
     by : (well : Bool) → Puts written count faults true sink well next_sink [] → (well ≡ true → settled next_sink ≡ true)
         → result ≡ cond well status.SourceFault status.SinkFault → EndsBatch written count faults settled first next_sink left now source_faults faults_now result
     by true puts settles same_status =
-        let part = read_part left before now pending r.spelled r.lines r.read r.is_spelled t in
+        let part = read_part left before now pending r.spelled r.lines r.read r.is_spelled r.is_whole t in
         subst (EndsBatch written count faults settled first next_sink left now source_faults faults_now) (sym same_status)
         (record {
           leaves = (
@@ -508,6 +580,7 @@ ends_source written count faults settled first sink next_sink left before now so
               piece = part.piece;
               took = part.took;
               no_feed = part.no_feed;
+              is_whole = part.is_whole;
               is_front = part.is_front;
               text = batch_text r.blocks;
               ending = batch_ending r.blocks;
@@ -523,8 +596,9 @@ ends_source written count faults settled first sink next_sink left before now so
           no_source_fault = λ n m. absurd (n refl);
           source_later = let s = r.source_still in omega (arith, s, later);
           all_read = no_end;
+          cut = λ e. let clash : status.SourceFault ≡ status.SinkFault = e in cc;
         })
     by false puts settles same_status =
         subst (EndsBatch written count faults settled first next_sink left now source_faults faults_now) (sym same_status)
-        (finish_cut written count faults settled first sink next_sink left now source_faults faults_now r.lines r.blocks r.are_blocks r.appended r.still puts
-        (read_front left before pending r.spelled r.lines r.read r.is_spelled) (let s = r.source_still in omega (arith, s, later)))
+        (finish_cut written count faults settled first sink next_sink left now source_faults faults_now r.lines (pending ++ t.taken) r.blocks r.are_blocks r.appended r.still puts
+        (read_cut left before now t.taken pending r.spelled r.lines false r.read r.is_spelled r.is_whole t.took) (inr t.no_feed) (let s = r.source_still in omega (arith, s, later)))

@@ -139,6 +139,7 @@ lines_leave written count settled old new left now_left words status.SourceFault
     piece = l.1.piece;
     took = l.1.took;
     no_feed = l.1.no_feed;
+    is_whole = l.1.is_whole;
     is_front = l.1.is_front;
     text = l.1.text;
     ending = l.1.ending;
@@ -149,7 +150,7 @@ lines_leave written count settled old new left now_left words status.SourceFault
 )
 lines_leave written count settled old new left now_left words status.NoMemory runs (inl same) = inl same
 lines_leave written count settled old new left now_left words status.NoMemory runs (inr l) =
-    inr (runs, record { front = l.1.front; is_front = l.1.is_front; text = l.1.text; ending = l.1.ending; outcome = runs_outcome words l.1.front l.1.text l.1.ending runs l.1.outcome; appended = l.1.appended })
+    inr (runs, record { front = l.1.front; piece = l.1.piece; took = l.1.took; is_ended = l.1.is_ended; is_front = l.1.is_front; text = l.1.text; ending = l.1.ending; outcome = runs_outcome words l.1.front l.1.text l.1.ending runs l.1.outcome; appended = l.1.appended })
 
 not_so : (blocks : List Block) (ending : Ending) → ending ≡ batch_ending blocks → (ending ≡ done) ⊎ (ending ≡ some_refused)
 not_so blocks ending is = by (are_done blocks) is
@@ -205,31 +206,30 @@ say_lines (spoken words ∷ lines) [] are = tt
 say_lines (spoken words ∷ lines) (b ∷ blocks) are =
     ((λ is. line_says words b.0 (subst (IsLineOutcome batch_entries words b.0) is are.0)), say_lines lines blocks are.1)
 
-whole_prints : {K : Type 0} (written : K → Option (List ℕ)) (count : K → Option ℕ) (old new : K) (left : Option (List ℕ)) (input told_input text before : List ℕ)
+whole_prints : {K : Type 0} (written : K → Option (List ℕ)) (count : K → Option ℕ) (old new : K) (left : Option (List ℕ)) (input text before : List ℕ)
     (ending : Ending) → IsInput left input → RunsInput batch_entries input text ending → Appends written count old new text
-    → written old ≡ Some before → left ≡ Some told_input → PrintsLines told_input before (written new)
-whole_prints written count old new left input told_input text before ending is_input runs appended told left_told =
-    let same : told_input ≡ input = subst (λ t. IfSome t (λ bytes. bytes ≡ input)) left_told is_input in
-    let are = subst (λ i. AreBlocks batch_entries (map batch_line (lines_of i)) runs.blocks) (sym same) runs.are_blocks in
-    record {
-      blocks = runs.blocks;
-      appended = appended.bytes ∙ ap (λ t. grown t text) told ∙ ap (λ t. Some (before ++ t)) runs.joined;
-      are_blocks = are;
-      say = say_lines (map batch_line (lines_of told_input)) runs.blocks are;
-    }
+    → written old ≡ Some before → PrintsLines before left (written new)
+whole_prints written count old new left input text before ending is_input runs appended told = record {
+  input = input;
+  is_input = is_input;
+  blocks = runs.blocks;
+  appended = appended.bytes ∙ ap (λ t. grown t text) told ∙ ap (λ t. Some (before ++ t)) runs.joined;
+  are_blocks = runs.are_blocks;
+  say = say_lines (map batch_line (lines_of input)) runs.blocks runs.are_blocks;
+}
 
 pub lines_print : {K : Type 0} (written : K → Option (List ℕ)) (count : K → Option ℕ) (settled : K → Bool) (old new : K)
     (left now_left : Option (List ℕ)) (result : Status)
     → Leaves written count settled old new left now_left (Unit {0}) (RunsInput batch_entries) result
-    → IsThrough result → (before input : List ℕ) → written old ≡ Some before → left ≡ Some input → PrintsLines input before (written new)
-lines_print written count settled old new left now_left result leaves (inl is) before input told left_told =
+    → IsThrough result → (before : List ℕ) → written old ≡ Some before → PrintsLines before left (written new)
+lines_print written count settled old new left now_left result leaves (inl is) before told =
     let P : Status → Type 0 = λ s. Leaves written count settled old new left now_left (Unit {0}) (RunsInput batch_entries) s in
     let l = subst P is leaves in
-    whole_prints written count old new left l.input input l.text before done l.is_input l.outcome l.appended told left_told
-lines_print written count settled old new left now_left result leaves (inr is) before input told left_told =
+    whole_prints written count old new left l.input l.text before done l.is_input l.outcome l.appended told
+lines_print written count settled old new left now_left result leaves (inr is) before told =
     let P : Status → Type 0 = λ s. Leaves written count settled old new left now_left (Unit {0}) (RunsInput batch_entries) s in
     let l = (subst P is leaves).1 in
-    whole_prints written count old new left l.input input l.text before some_refused l.is_input l.outcome l.appended told left_told
+    whole_prints written count old new left l.input l.text before some_refused l.is_input l.outcome l.appended told
 
 pub not_through : {A : Type 0} → IsThrough status.NoMemory → A
 not_through (inl is) = cc

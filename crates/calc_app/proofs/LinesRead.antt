@@ -1,31 +1,49 @@
 -- Which lines were read so far of a source that tells its bytes.
-use Rattle.std.proofs.Common.{◌≡◌, ◌⊎◌, ℕ, ◌+◌, ◌<◌, ◌≤◌, List, [], ◌∷◌, ◌++◌, append_assoc, append-nil, length, length-append, refl, sym, ap, ◌∙◌, arith, Option, Some, None, inl, inr}
+use Rattle.std.proofs.Common.{◌≡◌, ℕ, Bool, true, false, ◌+◌, ◌<◌, ◌≤◌, List, [], ◌∷◌, ◌++◌, append_assoc, append-nil, length, length-append, refl, sym, ap, ◌∙◌, arith, Option, Some, None, ◌⊎◌, inl, inr}
 use Rattle.batch_lines.proofs.Lines.{line_first, line_last}
 use Rattle.batch_lines.specs.Feeds.{HasNoFeed}
-use Rattle.batch_lines.specs.Reading.{Took, EndsAtFeed, EndsAtEnd, TookPart}
+use Rattle.batch_lines.specs.Reading.{Took, IsAtEnd, EndsAtFeed, EndsAtEnd, TookPart}
 use Rattle.sym_model.specs.BatchLine.{lines_of}
-use Rattle.calc_app.specs.Top.{IsInput, IsFrontOf}
+use Rattle.calc_app.specs.Top.{IsInput, IsFrontOf, IsEmptied, IsWholeLines}
 
 -- the text ends where a line does: its lines are these, and whatever follows has its own
 abbrev pub IsEnded : List ℕ → List (List ℕ) → Type 0
 IsEnded front lines = (text : List ℕ) → lines_of (front ++ text) ≡ lines ++ lines_of text
 
+-- the lines that were read: the last one ends at a line feed, or the source was found at its end
+abbrev Stands : Bool → (front behind : List ℕ) → List (List ℕ) → Type 0
+Stands false front behind lines = IsEnded front lines × IsWholeLines front
+Stands true front behind lines = (behind ≡ []) × (lines_of front ≡ lines)
+
 -- these lines were read of the input, and the bytes that are pending and the rest are still to be read
-pub record Reads (input rest : List ℕ) (lines : List (List ℕ)) (pending : List ℕ) : Type 0 where
+pub record Reads (input rest : List ℕ) (lines : List (List ℕ)) (pending : List ℕ) (has_ended : Bool) : Type 0 where
   pub front : List ℕ
   pub cut : input ≡ front ++ (pending ++ rest)
-  pub state : IsEnded front lines ⊎ ((pending ++ rest ≡ []) × (lines_of front ≡ lines))
+  pub state : Stands has_ended front (pending ++ rest) lines
 
 -- the same of a source that may tell its bytes, and some text that has these lines
-abbrev pub ReadsTold : Option (List ℕ) → Option (List ℕ) → List (List ℕ) → List ℕ → Type 0
-ReadsTold (Some input) (Some rest) lines pending = Reads input rest lines pending
-ReadsTold (Some input) None lines pending = ⊥
-ReadsTold None (Some rest) lines pending = ⊥
-ReadsTold None None lines pending = Unit {0}
+abbrev pub ReadsTold : Option (List ℕ) → Option (List ℕ) → List (List ℕ) → List ℕ → Bool → Type 0
+ReadsTold (Some input) (Some rest) lines pending has_ended = Reads input rest lines pending has_ended
+ReadsTold (Some input) None lines pending has_ended = ⊥
+ReadsTold None (Some rest) lines pending has_ended = ⊥
+ReadsTold None None lines pending has_ended = Unit {0}
 
-pub begin_read : (left : Option (List ℕ)) → ReadsTold left left [] []
+pub begin_read : (left : Option (List ℕ)) → ReadsTold left left [] [] false
 begin_read None = tt
-begin_read (Some input) = record { front = []; cut = refl; state = inl (λ text. refl) }
+begin_read (Some input) = record { front = []; cut = refl; state = ((λ text. refl), inl refl) }
+
+none_behind : (pending rest : List ℕ) → pending ++ rest ≡ [] → rest ≡ []
+none_behind [] rest h = h
+none_behind (b ∷ pending) rest h = cc
+
+-- nothing is left of a source that was found at its end
+pub read_end : (left now : Option (List ℕ)) (lines : List (List ℕ)) (pending : List ℕ) (has_ended : Bool) → ReadsTold left now lines pending has_ended
+    → IsAtEnd has_ended now
+read_end left now lines pending false r = tt
+read_end (Some input) (Some rest) lines pending true r = none_behind pending rest r.state.0
+read_end (Some input) None lines pending true r = tt
+read_end None (Some rest) lines pending true r = absurd r
+read_end None None lines pending true r = tt
 
 pub begin_spelled : IsEnded [] []
 begin_spelled = λ text. refl
@@ -33,8 +51,12 @@ begin_spelled = λ text. refl
 -- ---- one line more
 
 -- the bytes of a line that is read next, and what stands behind it
-abbrev pub EndsLine : (all text behind : List ℕ) → Option (List ℕ) → Type 0
-EndsLine all text behind now = EndsAtFeed all text behind ⊎ (EndsAtEnd all text behind now × (0 < length text))
+abbrev pub EndsLine : Bool → (all text behind : List ℕ) → Option (List ℕ) → Type 0
+EndsLine false all text behind now = EndsAtFeed all text behind
+EndsLine true all text behind now = EndsAtEnd all text behind now × (0 < length text)
+
+pub whole_more : (front line : List ℕ) → IsWholeLines (front ++ (line ++ 10 ∷ []))
+whole_more front line = inr (front ++ line, sym (append_assoc front line (10 ∷ [])))
 
 pub spelled_more : (spelled : List ℕ) (lines : List (List ℕ)) (line : List ℕ) → IsEnded spelled lines → HasNoFeed line
     → IsEnded (spelled ++ (line ++ 10 ∷ [])) (lines ++ line ∷ [])
@@ -48,9 +70,9 @@ not_empty : (text : List ℕ) (byte : ℕ) (more : List ℕ) → text ++ byte �
 not_empty [] byte more h = cc
 not_empty (b ∷ text) byte more h = cc
 
-at_feed : (input all rest taken pending text behind : List ℕ) (lines : List (List ℕ)) → Reads input all lines pending → all ≡ taken ++ rest
-    → HasNoFeed text → EndsAtFeed (pending ++ taken) text behind → Reads input rest (lines ++ text ∷ []) behind
-at_feed input all rest taken pending text behind lines r a n e =
+at_feed : (input all rest taken pending text behind : List ℕ) (lines : List (List ℕ)) (had : Bool) → Reads input all lines pending had → all ≡ taken ++ rest
+    → HasNoFeed text → EndsAtFeed (pending ++ taken) text behind → Reads input rest (lines ++ text ∷ []) behind false
+at_feed input all rest taken pending text behind lines had r a n e =
     let bytes : pending ++ all ≡ text ++ 10 ∷ (behind ++ rest) =
     ap (λ t. pending ++ t) a ∙ sym (append_assoc pending taken rest) ∙ ap (λ t. t ++ rest) e ∙ append_assoc text (10 ∷ behind) rest in
     record {
@@ -58,54 +80,53 @@ at_feed input all rest taken pending text behind lines r a n e =
       cut =
           r.cut ∙ ap (λ t. r.front ++ t) (bytes ∙ sym (append_assoc text (10 ∷ []) (behind ++ rest)))
           ∙ sym (append_assoc r.front (text ++ 10 ∷ []) (behind ++ rest));
-      state = by bytes r.state;
+      state = by had bytes r.state;
     }
   where
-    by : pending ++ all ≡ text ++ 10 ∷ (behind ++ rest) → IsEnded r.front lines ⊎ ((pending ++ all ≡ []) × (lines_of r.front ≡ lines))
-        → IsEnded (r.front ++ (text ++ 10 ∷ [])) (lines ++ text ∷ []) ⊎ ((behind ++ rest ≡ []) × (lines_of (r.front ++ (text ++ 10 ∷ [])) ≡ lines ++ text ∷ []))
-    by bytes (inl ended) = inl (spelled_more r.front lines text ended n)
-    by bytes (inr empty) = absurd (not_empty text 10 (behind ++ rest) (sym bytes ∙ empty.0))
+    by : (had : Bool) → pending ++ all ≡ text ++ 10 ∷ (behind ++ rest) → Stands had r.front (pending ++ all) lines
+        → Stands false (r.front ++ (text ++ 10 ∷ [])) (behind ++ rest) (lines ++ text ∷ [])
+    by false bytes s = (spelled_more r.front lines text s.0 n, whole_more r.front text)
+    by true bytes s = absurd (not_empty text 10 (behind ++ rest) (sym bytes ∙ s.0))
 
-at_end : (input all rest taken pending text behind : List ℕ) (lines : List (List ℕ)) → Reads input all lines pending → all ≡ taken ++ rest
-    → HasNoFeed text → EndsAtEnd (pending ++ taken) text behind (Some rest) → 0 < length text → Reads input rest (lines ++ text ∷ []) behind
-at_end input all rest taken pending text behind lines r a n e positive =
+at_end : (input all rest taken pending text behind : List ℕ) (lines : List (List ℕ)) (had : Bool) → Reads input all lines pending had → all ≡ taken ++ rest
+    → HasNoFeed text → EndsAtEnd (pending ++ taken) text behind (Some rest) → 0 < length text → Reads input rest (lines ++ text ∷ []) behind true
+at_end input all rest taken pending text behind lines had r a n e positive =
     let bytes : pending ++ all ≡ text =
     ap (λ t. pending ++ t) (a ∙ ap (λ t. taken ++ t) e.none_left ∙ append-nil taken) ∙ e.whole in
     let none : behind ++ rest ≡ [] = ap (λ t. t ++ rest) e.none_pending ∙ e.none_left in
     record {
       front = r.front ++ text;
       cut = r.cut ∙ ap (λ t. r.front ++ t) bytes ∙ sym (append-nil (r.front ++ text)) ∙ ap (λ t. (r.front ++ text) ++ t) (sym none);
-      state = inr (none, by bytes r.state);
+      state = (none, by had bytes r.state);
     }
   where
-    by : pending ++ all ≡ text → IsEnded r.front lines ⊎ ((pending ++ all ≡ []) × (lines_of r.front ≡ lines))
-        → lines_of (r.front ++ text) ≡ lines ++ text ∷ []
-    by bytes (inl ended) = ended text ∙ ap (λ ls. lines ++ ls) (line_last text n positive)
-    by bytes (inr empty) = let l = ap length (sym bytes ∙ empty.0) in absurd (omega (arith, l, positive))
+    by : (had : Bool) → pending ++ all ≡ text → Stands had r.front (pending ++ all) lines → lines_of (r.front ++ text) ≡ lines ++ text ∷ []
+    by false bytes s = s.0 text ∙ ap (λ ls. lines ++ ls) (line_last text n positive)
+    by true bytes s = let l = ap length (sym bytes ∙ s.0) in absurd (omega (arith, l, positive))
 
 told : (all rest taken : List ℕ) → ◌≡◌ {A = Option (List ℕ)} (Some all) (Some (taken ++ rest)) → all ≡ taken ++ rest
 told all rest taken h = cc
 
-pub read_more : (left before now : Option (List ℕ)) (taken pending text behind : List ℕ) (lines : List (List ℕ))
-    → ReadsTold left before lines pending → Took before now taken → HasNoFeed text → EndsLine (pending ++ taken) text behind now
-    → ReadsTold left now (lines ++ text ∷ []) behind
-read_more (Some input) (Some all) (Some rest) taken pending text behind lines r took n (inl e) =
-    at_feed input all rest taken pending text behind lines r (told all rest taken took) n e
-read_more (Some input) (Some all) (Some rest) taken pending text behind lines r took n (inr e) =
-    at_end input all rest taken pending text behind lines r (told all rest taken took) n e.0 e.1
-read_more (Some input) (Some all) None taken pending text behind lines r took n e = cc
-read_more (Some input) None now taken pending text behind lines r took n e = absurd r
-read_more None (Some all) now taken pending text behind lines r took n e = absurd r
-read_more None None (Some rest) taken pending text behind lines r took n e = cc
-read_more None None None taken pending text behind lines r took n e = tt
+pub read_more : (left before now : Option (List ℕ)) (taken pending text behind : List ℕ) (lines : List (List ℕ)) (had has : Bool)
+    → ReadsTold left before lines pending had → Took before now taken → HasNoFeed text → EndsLine has (pending ++ taken) text behind now
+    → ReadsTold left now (lines ++ text ∷ []) behind has
+read_more (Some input) (Some all) (Some rest) taken pending text behind lines had false r took n e =
+    at_feed input all rest taken pending text behind lines had r (told all rest taken took) n e
+read_more (Some input) (Some all) (Some rest) taken pending text behind lines had true r took n e =
+    at_end input all rest taken pending text behind lines had r (told all rest taken took) n e.0 e.1
+read_more (Some input) (Some all) None taken pending text behind lines had has r took n e = cc
+read_more (Some input) None now taken pending text behind lines had has r took n e = absurd r
+read_more None (Some all) now taken pending text behind lines had has r took n e = absurd r
+read_more None None (Some rest) taken pending text behind lines had has r took n e = cc
+read_more None None None taken pending text behind lines had has r took n e = tt
 
 -- fewer bytes are left to be read
-pub fewer_left : (allowance less : ℕ) (taken pending text behind : List ℕ) (now : Option (List ℕ)) → less + length taken ≤ allowance
-    → EndsLine (pending ++ taken) text behind now → less + length behind < allowance + length pending
-fewer_left allowance less taken pending text behind now spent (inl e) =
+pub fewer_left : (allowance less : ℕ) (taken pending text behind : List ℕ) (now : Option (List ℕ)) (has : Bool) → less + length taken ≤ allowance
+    → EndsLine has (pending ++ taken) text behind now → less + length behind < allowance + length pending
+fewer_left allowance less taken pending text behind now false spent e =
     let l = ap length e in let p = length-append pending taken in let t = length-append text (10 ∷ behind) in
     omega (arith, l, p, t, spent)
-fewer_left allowance less taken pending text behind now spent (inr e) =
+fewer_left allowance less taken pending text behind now true spent e =
     let l = ap length e.0.whole in let p = length-append pending taken in let b = ap length e.0.none_pending in let positive = e.1 in
     omega (arith, l, p, b, positive, spent)
 
@@ -120,54 +141,75 @@ pub record Whole (left : Option (List ℕ)) (lines : List (List ℕ)) : Type 0 w
   pub is_input : IsInput left input
   pub are : lines_of input ≡ lines
 
-whole_told : (input all : List ℕ) (lines : List (List ℕ)) (pending : List ℕ) → Reads input all lines pending → pending ++ all ≡ [] → lines_of input ≡ lines
-whole_told input all lines pending r none =
-    ap lines_of (r.cut ∙ ap (λ t. r.front ++ t) none ∙ append-nil r.front) ∙ by r.state
+whole_told : (input all : List ℕ) (lines : List (List ℕ)) (pending : List ℕ) (had : Bool) → Reads input all lines pending had → pending ++ all ≡ []
+    → lines_of input ≡ lines
+whole_told input all lines pending had r none =
+    ap lines_of (r.cut ∙ ap (λ t. r.front ++ t) none ∙ append-nil r.front) ∙ by had r.state
   where
-    by : IsEnded r.front lines ⊎ ((pending ++ all ≡ []) × (lines_of r.front ≡ lines)) → lines_of r.front ≡ lines
-    by (inl ended) = front_lines r.front lines ended
-    by (inr empty) = empty.1
+    by : (had : Bool) → Stands had r.front (pending ++ all) lines → lines_of r.front ≡ lines
+    by false s = front_lines r.front lines s.0
+    by true s = s.1
 
-pub read_whole : (left before now : Option (List ℕ)) (taken pending behind spelled : List ℕ) (lines : List (List ℕ))
-    → ReadsTold left before lines pending → IsEnded spelled lines → Took before now taken → EndsAtEnd (pending ++ taken) [] behind now → Whole left lines
-read_whole (Some input) (Some all) (Some rest) taken pending behind spelled lines r ended took e = record {
+pub read_whole : (left before now : Option (List ℕ)) (taken pending behind spelled : List ℕ) (lines : List (List ℕ)) (had : Bool)
+    → ReadsTold left before lines pending had → IsEnded spelled lines → Took before now taken → EndsAtEnd (pending ++ taken) [] behind now → Whole left lines
+read_whole (Some input) (Some all) (Some rest) taken pending behind spelled lines had r ended took e = record {
   input = input;
   is_input = refl;
-  are = whole_told input all lines pending r
+  are = whole_told input all lines pending had r
       (ap (λ t. pending ++ t) (told all rest taken took ∙ ap (λ t. taken ++ t) e.none_left ∙ append-nil taken) ∙ e.whole);
 }
-read_whole (Some input) (Some all) None taken pending behind spelled lines r ended took e = cc
-read_whole (Some input) None now taken pending behind spelled lines r ended took e = absurd r
-read_whole None before now taken pending behind spelled lines r ended took e =
+read_whole (Some input) (Some all) None taken pending behind spelled lines had r ended took e = cc
+read_whole (Some input) None now taken pending behind spelled lines had r ended took e = absurd r
+read_whole None before now taken pending behind spelled lines had r ended took e =
     record { input = spelled; is_input = tt; are = front_lines spelled lines ended }
 
 -- ---- the first lines
 
--- a text with these lines, which are the first ones of all that was left, where that is told
-pub record Front (left : Option (List ℕ)) (lines : List (List ℕ)) : Type 0 where
+front_told : (input rest : List ℕ) (lines : List (List ℕ)) (pending : List ℕ) (had : Bool) → (r : Reads input rest lines pending had)
+    → (lines_of r.front ≡ lines) × (more : List (List ℕ)) × (lines_of input ≡ lines_of r.front ++ more)
+front_told input rest lines pending had r = by had r.state
+  where
+    by : (had : Bool) → Stands had r.front (pending ++ rest) lines
+        → (lines_of r.front ≡ lines) × (more : List (List ℕ)) × (lines_of input ≡ lines_of r.front ++ more)
+    by false s =
+        let are = front_lines r.front lines s.0 in
+        (are, lines_of (pending ++ rest), ap lines_of r.cut ∙ s.0 (pending ++ rest) ∙ ap (λ ls. ls ++ lines_of (pending ++ rest)) (sym are))
+    by true s =
+        (s.1, [], ap lines_of (r.cut ∙ ap (λ t. r.front ++ t) s.0 ∙ append-nil r.front) ∙ sym (append-nil (lines_of r.front)))
+
+-- the first lines, each of which ends in what was read, and a piece that was read behind them
+pub record Cut (left now : Option (List ℕ)) (lines : List (List ℕ)) (piece : List ℕ) : Type 0 where
   pub front : List ℕ
+  pub took : Took left now (front ++ piece)
+  pub is_ended : IsWholeLines front ⊎ IsEmptied now
   pub is_front : IsFrontOf left front
   pub are : lines_of front ≡ lines
 
-front_told : (input rest : List ℕ) (lines : List (List ℕ)) (pending : List ℕ) → (r : Reads input rest lines pending)
-    → (lines_of r.front ≡ lines) × (more : List (List ℕ)) × (lines_of input ≡ lines_of r.front ++ more)
-front_told input rest lines pending r = by r.state
+pub read_cut : (left before now : Option (List ℕ)) (taken pending spelled : List ℕ) (lines : List (List ℕ)) (had : Bool)
+    → ReadsTold left before lines pending had → IsEnded spelled lines → IsWholeLines spelled → Took before now taken
+    → Cut left now lines (pending ++ taken)
+read_cut (Some input) (Some all) (Some rest) taken pending spelled lines had r ended whole took =
+    let f = front_told input all lines pending had r in
+    let bytes = told all rest taken took in
+    record {
+      front = r.front;
+      took =
+          ap Some (r.cut ∙ ap (λ xs. r.front ++ (pending ++ xs)) bytes
+          ∙ ap (λ xs. r.front ++ xs) (sym (append_assoc pending taken rest)) ∙ sym (append_assoc r.front (pending ++ taken) rest));
+      is_ended = by had bytes r.state;
+      is_front = (f.1, f.2);
+      are = f.0;
+    }
   where
-    by : IsEnded r.front lines ⊎ ((pending ++ rest ≡ []) × (lines_of r.front ≡ lines))
-        → (lines_of r.front ≡ lines) × (more : List (List ℕ)) × (lines_of input ≡ lines_of r.front ++ more)
-    by (inl ended) =
-        let are = front_lines r.front lines ended in
-        (are, lines_of (pending ++ rest), ap lines_of r.cut ∙ ended (pending ++ rest) ∙ ap (λ ls. ls ++ lines_of (pending ++ rest)) (sym are))
-    by (inr empty) =
-        (empty.1, [], ap lines_of (r.cut ∙ ap (λ t. r.front ++ t) empty.0 ∙ append-nil r.front) ∙ sym (append-nil (lines_of r.front)))
-
-pub read_front : (left now : Option (List ℕ)) (pending spelled : List ℕ) (lines : List (List ℕ)) → ReadsTold left now lines pending → IsEnded spelled lines
-    → Front left lines
-read_front (Some input) (Some rest) pending spelled lines r ended =
-    let f = front_told input rest lines pending r in record { front = r.front; is_front = (f.1, f.2); are = f.0 }
-read_front (Some input) None pending spelled lines r ended = absurd r
-read_front None now pending spelled lines r ended =
-    record { front = spelled; is_front = tt; are = front_lines spelled lines ended }
+    by : (had : Bool) → all ≡ taken ++ rest → Stands had r.front (pending ++ all) lines → IsWholeLines r.front ⊎ (rest ≡ [])
+    by false bytes s = inl s.1
+    by true bytes s = inr (none_behind taken rest (sym bytes ∙ none_behind pending all s.0))
+read_cut (Some input) (Some all) None taken pending spelled lines had r ended whole took = cc
+read_cut (Some input) None now taken pending spelled lines had r ended whole took = absurd r
+read_cut None (Some all) now taken pending spelled lines had r ended whole took = absurd r
+read_cut None None (Some rest) taken pending spelled lines had r ended whole took = cc
+read_cut None None None taken pending spelled lines had r ended whole took =
+    record { front = spelled; took = refl; is_ended = inl whole; is_front = tt; are = front_lines spelled lines ended }
 
 -- the first lines, and what was read behind them, in which no line ends
 pub record Part (left now : Option (List ℕ)) (lines : List (List ℕ)) : Type 0 where
@@ -175,13 +217,14 @@ pub record Part (left now : Option (List ℕ)) (lines : List (List ℕ)) : Type 
   pub piece : List ℕ
   pub took : Took left now (front ++ piece)
   pub no_feed : HasNoFeed piece
+  pub is_whole : IsWholeLines front
   pub is_front : IsFrontOf left front
   pub are : lines_of front ≡ lines
 
-pub read_part : (left before now : Option (List ℕ)) (pending spelled : List ℕ) (lines : List (List ℕ)) → ReadsTold left before lines pending → IsEnded spelled lines
-    → TookPart before now pending → Part left now lines
-read_part (Some input) (Some all) (Some rest) pending spelled lines r ended t =
-    let f = front_told input all lines pending r in
+pub read_part : (left before now : Option (List ℕ)) (pending spelled : List ℕ) (lines : List (List ℕ)) → ReadsTold left before lines pending false → IsEnded spelled lines
+    → IsWholeLines spelled → TookPart before now pending → Part left now lines
+read_part (Some input) (Some all) (Some rest) pending spelled lines r ended whole t =
+    let f = front_told input all lines pending false r in
     record {
       front = r.front;
       piece = pending ++ t.taken;
@@ -189,12 +232,13 @@ read_part (Some input) (Some all) (Some rest) pending spelled lines r ended t =
           ap Some (r.cut ∙ ap (λ xs. r.front ++ (pending ++ xs)) (told all rest t.taken t.took)
           ∙ ap (λ xs. r.front ++ xs) (sym (append_assoc pending t.taken rest)) ∙ sym (append_assoc r.front (pending ++ t.taken) rest));
       no_feed = t.no_feed;
+      is_whole = r.state.1;
       is_front = (f.1, f.2);
       are = f.0;
     }
-read_part (Some input) (Some all) None pending spelled lines r ended t = let clash = t.took in cc
-read_part (Some input) None now pending spelled lines r ended t = absurd r
-read_part None (Some all) now pending spelled lines r ended t = absurd r
-read_part None None (Some rest) pending spelled lines r ended t = let clash = t.took in cc
-read_part None None None pending spelled lines r ended t =
-    record { front = spelled; piece = []; took = refl; no_feed = tt; is_front = tt; are = front_lines spelled lines ended }
+read_part (Some input) (Some all) None pending spelled lines r ended whole t = let clash = t.took in cc
+read_part (Some input) None now pending spelled lines r ended whole t = absurd r
+read_part None (Some all) now pending spelled lines r ended whole t = absurd r
+read_part None None (Some rest) pending spelled lines r ended whole t = let clash = t.took in cc
+read_part None None None pending spelled lines r ended whole t =
+    record { front = spelled; piece = []; took = refl; no_feed = tt; is_whole = whole; is_front = tt; are = front_lines spelled lines ended }

@@ -30,7 +30,7 @@ use Rattle.sym_model.specs.Target.{Meets}
 use Rattle.calc_replies.specs.declared.outcome.Outcome.{Outcome}
 use Rattle.calc_replies.specs.declared.outcome.Outcome.TheVariants.{Answered, Refused, Large, Told}
 use Rattle.calc_replies.specs.Computed.{Computes, AreRefused, Accepts, Refuses, GoesWrong, Tells, lines_text, text_of, HasBlock, refusal_status, status_for}
-use Rattle.calc_app.specs.Top.{IsOutcome, IsInput, IsFrontOf, RunsLines, Says, status_of, PutsPrefix, Leaves, PrintsAnswerTo, WasCutOff, IsAccepted, IsRefused}
+use Rattle.calc_app.specs.Top.{IsOutcome, IsInput, IsFrontOf, RunsLines, Says, SaysOver, status_of, PutsPrefix, Leaves, PrintsAnswerTo, WasCutOff, IsAccepted, IsRefused}
 
 -- ---- what comes of a command
 
@@ -284,26 +284,26 @@ answers_say (tab outer inner last) text answers = answers
 answers_say (rsk w) text answers = answers
 answers_say (unrsk p q) text answers = answers
 answers_say (rect outer inner rows) text answers = answers
-answers_say batch text answers = absurd answers
-answers_say (work lines seed) text answers = absurd answers
+answers_say batch text answers = answers
+answers_say (work lines seed) text answers = answers
 
-answers_with_say : (input : List ℕ) (command : Command) (text : List ℕ) → AnswersWith batch_entries input command text done
-    → Says command text
-answers_with_say input (mult variables one_line factors) text answers = answers_say (mult variables one_line factors) text answers
-answers_with_say input (skew variables one_line outer inner) text answers = answers_say (skew variables one_line outer inner) text answers
-answers_with_say input (coef outer left right) text answers = answers_say (coef outer left right) text answers
-answers_with_say input (coprod shape) text answers = answers_say (coprod shape) text answers
-answers_with_say input (quantum k columns factors) text answers = answers_say (quantum k columns factors) text answers
-answers_with_say input (fusion k level factors) text answers = answers_say (fusion k level factors) text answers
-answers_with_say input (schubert w) text answers = answers_say (schubert w) text answers
-answers_with_say input (schubmult u v) text answers = answers_say (schubmult u v) text answers
-answers_with_say input (expand target one_line e) text answers = answers_say (expand target one_line e) text answers
-answers_with_say input (tab outer inner last) text answers = answers
-answers_with_say input (rsk w) text answers = answers
-answers_with_say input (unrsk p q) text answers = answers
-answers_with_say input (rect outer inner rows) text answers = answers
-answers_with_say input batch text answers = (input, answers)
-answers_with_say input (work lines seed) text answers = answers.0
+answers_with_say : (told : Option (List ℕ)) (input : List ℕ) (command : Command) (text : List ℕ) → IsInput told input
+    → AnswersWith batch_entries input command text done → SaysOver told command text
+answers_with_say told input (mult variables one_line factors) text is_input answers = answers_say (mult variables one_line factors) text answers
+answers_with_say told input (skew variables one_line outer inner) text is_input answers = answers_say (skew variables one_line outer inner) text answers
+answers_with_say told input (coef outer left right) text is_input answers = answers_say (coef outer left right) text answers
+answers_with_say told input (coprod shape) text is_input answers = answers_say (coprod shape) text answers
+answers_with_say told input (quantum k columns factors) text is_input answers = answers_say (quantum k columns factors) text answers
+answers_with_say told input (fusion k level factors) text is_input answers = answers_say (fusion k level factors) text answers
+answers_with_say told input (schubert w) text is_input answers = answers_say (schubert w) text answers
+answers_with_say told input (schubmult u v) text is_input answers = answers_say (schubmult u v) text answers
+answers_with_say told input (expand target one_line e) text is_input answers = answers_say (expand target one_line e) text answers
+answers_with_say told input (tab outer inner last) text is_input answers = answers
+answers_with_say told input (rsk w) text is_input answers = answers
+answers_with_say told input (unrsk p q) text is_input answers = answers
+answers_with_say told input (rect outer inner rows) text is_input answers = answers
+answers_with_say told input batch text is_input answers = (input, is_input, answers)
+answers_with_say told input (work lines seed) text is_input answers = answers.0
 
 pub not_done : (kind : offences.OffenceKind) → done ≡ ending_of kind → ⊥
 not_done offences.literal is = cc
@@ -314,21 +314,21 @@ not_done offences.shape is = cc
 pub headline : {S : Type 0} (written : S → Option (List ℕ)) (count : S → Option ℕ) (settled : S → Bool) (old new : S)
     (left now_left : Option (List ℕ)) (words : List (List ℕ)) (answer : Status)
     → Leaves written count settled old new left now_left (RunsLines words) (IsOutcome words) answer
-    → answer ≡ status.Done → (before : List ℕ) → written old ≡ Some before → PrintsAnswerTo words before (written new)
+    → answer ≡ status.Done → (before : List ℕ) → written old ≡ Some before → PrintsAnswerTo words before left (written new)
 headline {S = S} written count settled old new left now_left words answer leaves ended before told =
     let P : Status → Type 0 = λ s. Leaves written count settled old new left now_left (RunsLines words) (IsOutcome words) s in
     let whole = subst P ended leaves in
-    by whole.text whole.input (whole.appended.bytes ∙ ap (λ t. grown t whole.text) told) whole.outcome
+    by whole.text whole.input whole.is_input (whole.appended.bytes ∙ ap (λ t. grown t whole.text) told) whole.outcome
   where
-    by : (text input : List ℕ) → written new ≡ Some (before ++ text) → IsOutcome words input text done → PrintsAnswerTo words before (written new)
-    by text input appended (inl wrong) = let clash : done ≡ syntax = wrong.1 in cc
-    by text input appended (inr (inl offends)) = absurd (not_done offends.offence.2 offends.ends)
-    by text input appended (inr (inr comes)) = record {
+    by : (text input : List ℕ) → IsInput left input → written new ≡ Some (before ++ text) → IsOutcome words input text done → PrintsAnswerTo words before left (written new)
+    by text input is_input appended (inl wrong) = let clash : done ≡ syntax = wrong.1 in cc
+    by text input is_input appended (inr (inl offends)) = absurd (not_done offends.offence.2 offends.ends)
+    by text input is_input appended (inr (inr comes)) = record {
       text = text;
       appended = appended;
       command = comes.0;
       spelled = comes.1;
-      says = answers_with_say input comes.0 text comes.2;
+      says = answers_with_say left input comes.0 text is_input comes.2;
     }
 
 -- ---- each refusal by its own line

@@ -1,5 +1,5 @@
 -- What comes of the lines of a batch, one after another (this project's own).
-use Rattle.std.specs.Prelude.{◌≡◌, ◌≢◌, ℕ, ◌≤◌, List, [], Bool, Option, Some, None, IfSome, Result, Ok, Err}
+use Rattle.std.specs.Prelude.{◌≡◌, ◌≢◌, ℕ, ◌≤◌, List, [], Bool, false, Option, Some, None, Result, Ok, Err}
 use Rattle.batch_lines.specs.declared.next.LineFault.{LineFault}
 use Rattle.batch_lines.specs.declared.next.LineFault.TheVariants as line_fault
 use Rattle.batch_lines.specs.declared.next.Next.{Next}
@@ -18,7 +18,7 @@ use Rattle.calc_replies.specs.declared.outcome.Outcome.TheVariants.{Refused}
 use Rattle.calc_app.specs.declared.batch.Turn.{Turn}
 use Rattle.calc_app.specs.declared.batch.Turn.TheVariants.{Passed, Block, Last}
 use Rattle.calc_replies.specs.Computed.{Computes}
-use Rattle.calc_app.specs.Top.{Leaves, IsThrough}
+use Rattle.calc_app.specs.Top.{Leaves, IsEmptied, IsThrough, CutsLines}
 
 -- ---- what comes of one line
 
@@ -50,17 +50,17 @@ IsTurn next.End line (Block outcome) = ⊥
 IsTurn next.End line Last = Unit {0}
 
 -- the next line was read, and this comes of it
-pub record TakesTurn (before now : Option (List ℕ)) (allowance less : ℕ) (pending left_pending : List ℕ) (turn : Turn) : Type 0 where
+pub record TakesTurn (before now : Option (List ℕ)) (allowance less : ℕ) (pending left_pending : List ℕ) (has_ended : Bool) (turn : Turn) : Type 0 where
   pub line : List ℕ
   pub read : Next
-  pub reads : ReadsNext before now allowance less pending left_pending line read
+  pub reads : ReadsNext before now allowance less pending left_pending line has_ended read
   pub is : IsTurn read line turn
 
--- where a fault of the source came, no line ends in what was taken
-abbrev pub CutsTurn : (before now : Option (List ℕ)) → List ℕ → Result Turn LineFault → Type 0
-CutsTurn before now pending (Ok turn) = Unit {0}
-CutsTurn before now pending (Err line_fault.SourceFault) = TookPart before now pending
-CutsTurn before now pending (Err line_fault.NoMemory) = Unit {0}
+-- where a fault of the source came, it was not at its end, and no line ends in what was taken
+abbrev pub CutsTurn : (before now : Option (List ℕ)) → List ℕ → (had_ended : Bool) → Result Turn LineFault → Type 0
+CutsTurn before now pending had_ended (Ok turn) = Unit {0}
+CutsTurn before now pending had_ended (Err line_fault.SourceFault) = (had_ended ≡ false) × TookPart before now pending
+CutsTurn before now pending had_ended (Err line_fault.NoMemory) = Unit {0}
 
 -- a fault of the source is counted, and nothing else is
 abbrev pub CountsTurn : (before now : ℕ) → Result Turn LineFault → Type 0
@@ -80,4 +80,5 @@ pub record EndsBatch {K : Type 0} (written : K → Option (List ℕ)) (count : K
   pub source_fault : result ≡ status.SourceFault → Rose source_faults now_faults
   pub no_source_fault : result ≢ status.SourceFault → result ≢ status.SinkFault → now_faults ≡ source_faults
   pub source_later : source_faults ≤ now_faults
-  pub all_read : IsThrough result → IfSome now_left (λ rest. rest ≡ [])
+  pub all_read : IsThrough result → IsEmptied now_left
+  pub cut : result ≡ status.SinkFault → CutsLines written count old new left now_left

@@ -1,12 +1,12 @@
 -- What the top call promises, by cases on the status that it answers (this project's own).
-use Rattle.std.specs.Prelude.{◌≡◌, ◌⊎◌, ℕ, List, ◌∷◌, ◌++◌, Bool, true, map, Option, Some, IfSome}
+use Rattle.std.specs.Prelude.{◌≡◌, ◌⊎◌, ◌≤◌, ℕ, List, [], ◌∷◌, ◌++◌, length, Bool, true, map, Option, Some, IfSome}
 use Rattle.calc_base.specs.declared.status.Status.{Status}
 use Rattle.calc_base.specs.declared.status.Status.TheVariants.{Done, SomeRefused, Syntax, Range, Past, SinkFault, SourceFault, NoMemory}
 use Rattle.calc_base.specs.Puts.{Puts}
-use Rattle.calc_base.specs.Sink.{Appends, AppendsPrefix}
+use Rattle.calc_base.specs.Sink.{Appends, AppendsPrefix, IsPrefix}
 use Rattle.batch_lines.specs.Ends.{status_where}
 use Rattle.batch_lines.specs.Feeds.{HasNoFeed}
-use Rattle.batch_lines.specs.Reading.{Took}
+use Rattle.batch_lines.specs.Reading.{Took, most_pending}
 use Rattle.sym_model.specs.BatchLine.{BatchLine, too_long, passed_over, spoken, batch_line, lines_of}
 use Rattle.sym_model.specs.BatchOutcome.{Block, AreBlocks, batch_text, RunsInput, RunsWorkload, IsOutcomeOf}
 use Rattle.sym_model.specs.Command.{Command, tab, rsk, unrsk, rect, batch, work}
@@ -35,6 +35,14 @@ IsInput left input = IfSome left (λ bytes. bytes ≡ input)
 -- the lines of the front are the first ones of all that the source has left, where it tells that
 abbrev pub IsFrontOf : Option (List ℕ) → List ℕ → Type 0
 IsFrontOf left front = IfSome left (λ bytes. (more : List (List ℕ)) × (lines_of bytes ≡ lines_of front ++ more))
+
+-- all that the source had is taken, where it tells that
+abbrev pub IsEmptied : Option (List ℕ) → Type 0
+IsEmptied left = IfSome left (λ rest. rest ≡ [])
+
+-- the text is empty, or its last byte is a line feed
+abbrev pub IsWholeLines : List ℕ → Type 0
+IsWholeLines text = (text ≡ []) ⊎ ((front : List ℕ) × (text ≡ front ++ 10 ∷ []))
 
 -- the status that says how a command ended
 abbrev pub status_of : Ending → Status
@@ -66,10 +74,14 @@ pub record PutsPrefix {S : Type 0} (written : S → Option (List ℕ)) (count : 
   pub outcome : Defined front text ending
   pub appended : AppendsPrefix written count old new text
 
--- a text that is defined over the first lines of the input was appended whole
+-- A text that is defined over the first lines of the input was appended whole. Those lines and a piece behind them were read,
+-- and each of them ends in what was read.
 pub record PutsFront {S : Type 0} (written : S → Option (List ℕ)) (count : S → Option ℕ)
-    (old new : S) (left : Option (List ℕ)) (Defined : List ℕ → List ℕ → Ending → Type 0) : Type 0 where
+    (old new : S) (left now_left : Option (List ℕ)) (Defined : List ℕ → List ℕ → Ending → Type 0) : Type 0 where
   pub front : List ℕ
+  pub piece : List ℕ
+  pub took : Took left now_left (front ++ piece)
+  pub is_ended : IsWholeLines front ⊎ IsEmptied now_left
   pub is_front : IsFrontOf left front
   pub text : List ℕ
   pub ending : Ending
@@ -84,6 +96,7 @@ pub record PutsRead {S : Type 0} (written : S → Option (List ℕ)) (count : S 
   pub piece : List ℕ
   pub took : Took left now_left (front ++ piece)
   pub no_feed : HasNoFeed piece
+  pub is_whole : IsWholeLines front
   pub is_front : IsFrontOf left front
   pub text : List ℕ
   pub ending : Ending
@@ -106,31 +119,37 @@ Leaves written count settled old new left now_left Runs Defined SinkFault = Puts
 Leaves written count settled old new left now_left Runs Defined SourceFault =
     Runs × PutsRead written count settled old new left now_left Defined
 Leaves written count settled old new left now_left Runs Defined NoMemory =
-    (new ≡ old) ⊎ (Runs × PutsFront written count old new left Defined)
+    (new ≡ old) ⊎ (Runs × PutsFront written count old new left now_left Defined)
 
 -- ---- the headline
 
--- what the text of a command says: of `tab`, `rsk`, `unrsk` and `rect` it is what is defined for them, of `batch` the blocks of
--- some lines, of `work` the sums over the blocks of its lines; of the other commands it reads back as a canonical list of
--- terms, which is what the command names
+-- what the text of a command that runs no lines says: of `tab`, `rsk`, `unrsk` and `rect` it is what is defined for them; of
+-- the others it reads back as a canonical list of terms, which is what the command names
 abbrev pub Says : Command → List ℕ → Type 0
 Says (tab outer inner last) text = Answers (tab outer inner last) text done
 Says (rsk w) text = Answers (rsk w) text done
 Says (unrsk p q) text = Answers (unrsk p q) text done
 Says (rect outer inner rows) text = Answers (rect outer inner rows) text done
-Says batch text = (input : List ℕ) × RunsInput batch_entries input text done
-Says (work lines seed) text = RunsWorkload batch_entries lines seed text
+Says batch text = ⊥
+Says (work lines seed) text = ⊥
 Says command text = ReadsBack command text
+
+-- the same of every command: of `batch` the text is the blocks of the lines of all that the source had left, where it tells
+-- that, and of `work` the sums over the blocks of its lines
+abbrev pub SaysOver : Option (List ℕ) → Command → List ℕ → Type 0
+SaysOver left batch text = (input : List ℕ) × IsInput left input × RunsInput batch_entries input text done
+SaysOver left (work lines seed) text = RunsWorkload batch_entries lines seed text
+SaysOver left command text = Says command text
 
 -- The headline. A text was appended to the bytes that stood before. The words spell a command without an offence; the text,
 -- read back, is a canonical list of terms; and that list is what the command names; of `tab` it is the listed lines. For `expand m` and an expression: in
 -- every number of variables the list, read in the monomial basis, is the expression.
-pub record PrintsAnswerTo (words : List (List ℕ)) (before : List ℕ) (now : Option (List ℕ)) : Type 0 where
+pub record PrintsAnswerTo (words : List (List ℕ)) (before : List ℕ) (left now : Option (List ℕ)) : Type 0 where
   pub text : List ℕ
   pub appended : now ≡ Some (before ++ text)
   pub command : Command
   pub spelled : SpellsWithoutOffence command_entries words command
-  pub says : Says command text
+  pub says : SaysOver left command text
 
 -- the words of a line spell a command of a line without an offence, and its block says what the command names
 pub record SaysLine (words : List (List ℕ)) (text : List ℕ) : Type 0 where
@@ -145,13 +164,48 @@ SayLines (too_long ∷ lines) (b ∷ blocks) = SayLines lines blocks
 SayLines (passed_over ∷ lines) blocks = SayLines lines blocks
 SayLines _ _ = Unit {0}
 
--- The headline of a batch. The blocks of all lines were appended, in their order, to the bytes that stood before, and each
--- block of a line that was not refused says what the line's command names.
-pub record PrintsLines (input before : List ℕ) (now : Option (List ℕ)) : Type 0 where
+-- The headline of a batch. For some input, which is all that the source had left, where it tells that, the blocks of all lines
+-- were appended, in their order, to the bytes that stood before, and each block of a line that was not refused says what the
+-- line's command names.
+pub record PrintsLines (before : List ℕ) (left now : Option (List ℕ)) : Type 0 where
+  pub input : List ℕ
+  pub is_input : IsInput left input
   pub blocks : List Block
   pub appended : now ≡ Some (before ++ batch_text blocks)
   pub are_blocks : AreBlocks batch_entries (map batch_line (lines_of input)) blocks
   pub say : SayLines (map batch_line (lines_of input)) blocks
+
+-- ---- a batch whose sink failed
+
+-- the blocks of the earlier lines were put whole, and of the block of the line behind them, with what parts two blocks, a prefix
+pub record CutsBlock {S : Type 0} (written : S → Option (List ℕ)) (count : S → Option ℕ) (old new : S) (lines : List BatchLine) : Type 0 where
+  pub earlier : List BatchLine
+  pub line : BatchLine
+  pub lines_are : lines ≡ earlier ++ line ∷ []
+  pub blocks : List Block
+  pub last : Block
+  pub are_blocks : AreBlocks batch_entries earlier blocks
+  pub is_last : AreBlocks batch_entries (line ∷ []) (last ∷ [])
+  pub shown : List ℕ
+  pub is_shown : IsPrefix (batch_text blocks ++ shown) (batch_text (blocks ++ last ∷ []))
+  pub appended : Appends written count old new (batch_text blocks ++ shown)
+
+-- the blocks of all lines were put whole
+pub record PutsBlocks {S : Type 0} (written : S → Option (List ℕ)) (count : S → Option ℕ) (old new : S) (lines : List BatchLine) : Type 0 where
+  pub blocks : List Block
+  pub are_blocks : AreBlocks batch_entries lines blocks
+  pub appended : Appends written count old new (batch_text blocks)
+
+-- What a fault of the sink leaves of a batch. These lines were read and no unfinished one; behind them at most 4,096 bytes were
+-- taken, or bytes in which no line ends. The blocks of all lines but the last were put whole, and of its own a prefix; or those
+-- of all, where the sink failed at the end.
+pub record CutsLines {S : Type 0} (written : S → Option (List ℕ)) (count : S → Option ℕ) (old new : S) (left now_left : Option (List ℕ)) : Type 0 where
+  pub front : List ℕ
+  pub piece : List ℕ
+  pub took : Took left now_left (front ++ piece)
+  pub is_ended : IsWholeLines front ⊎ IsEmptied now_left
+  pub is_short : (length piece ≤ most_pending) ⊎ HasNoFeed piece
+  pub puts : CutsBlock written count old new (map batch_line (lines_of front)) ⊎ PutsBlocks written count old new (map batch_line (lines_of front))
 
 -- ---- what comes of words
 

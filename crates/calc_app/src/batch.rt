@@ -1,7 +1,8 @@
 //! The lines of a batch, run one after another.
 
-ghost use Rattle.std.specs.Prelude.{◌≡◌, ◌≤◌, ◌++◌, [], Some, true, IfOk};
-ghost use Rattle.batch_lines.specs.Reading.{ReadsNext};
+ghost use Rattle.std.specs.Prelude.{◌≡◌, ◌≤◌, ◌++◌, ℕ, List, [], length, Some, true, IfOk};
+ghost use Rattle.lru.specs.LruCache.{lru_cache};
+ghost use Rattle.batch_lines.specs.Reading.{IsAtEnd, ReadsNext, Took, most_pending};
 ghost use Rattle.calc_base.specs.Puts.{Puts};
 ghost use Rattle.sym_model.specs.BatchLine.{batch_line, too_long};
 ghost use Rattle.batch_lines.specs.Ends.{separator, progress_after};
@@ -11,9 +12,9 @@ ghost use Rattle.calc_replies.specs.Computed.{IsReplyTo, RunsNoOther, text_of, H
 
 use batch_lines::{Progress, at_end, finished, put_separator};
 use batch_lines::{LineFault, LineReader, Next};
-use calc_base::{CountSink, NoMemory, Place, Sink, Source, Status, WordsFault};
+use calc_base::{NoMemory, Place, Sink, Source, Status, WordsFault};
 use calc_language::{Command, read_line};
-use calc_replies::{Outcome, put_text, reply_by, status_if_put};
+use calc_replies::{Outcome, put_text, reply_by, status_if_put, tell_block};
 use schubert_transition::Memo;
 use std::alloc::Global;
 
@@ -67,8 +68,10 @@ pub(crate) fn batch<S: Source, K: Sink>(alloc: Global, source: &mut S, sink: &mu
     }
 }
 
-/// A store for the Schubert polynomials of lines.
-pub(crate) fn new_memo(alloc: Global) -> Result<Memo, NoMemory> {
+/// An empty store for the Schubert polynomials of lines, which keeps 64.
+pub(crate) fn new_memo(alloc: Global) -> Result<Memo, NoMemory>
+    ensures { IfOk result (λ memo. memo ≡ lru_cache [] 64) }
+{
     Memo::new(alloc, KEPT)
 }
 
@@ -79,11 +82,14 @@ fn next_turn<S: Source>(
     reader: &mut LineReader,
     source: &mut S,
 ) -> Result<Turn, LineFault>
+    requires { IsAtEnd reader.old.has_ended (S.left source.old) }
     ensures takes { IfOk result (TakesTurn (S.left source.old) (S.left source.new) (S.allowance source.old) (S.allowance source.new)
-        reader.old.pending reader.new.pending) }
-    ensures cuts { CutsTurn (S.left source.old) (S.left source.new) reader.old.pending result }
+        reader.old.pending reader.new.pending reader.new.has_ended) }
+    ensures cuts { CutsTurn (S.left source.old) (S.left source.new) reader.old.pending reader.old.has_ended result }
     ensures counts { CountsTurn (S.faults source.old) (S.faults source.new) result }
     ensures later { S.faults source.old ≤ S.faults source.new }
+    ensures took { (taken : List ℕ) × Took (S.left source.old) (S.left source.new) taken }
+    ensures short { IfOk result (λ _. length reader.new.pending ≤ most_pending) }
 {
     match reader.next(source) {
         Ok(Next::Line) => match line_outcome(alloc, memo, reader.line()) {
@@ -166,7 +172,7 @@ fn put_behind<K: Sink>(is_first: bool, outcome: &mut Outcome, sink: &mut K) -> b
 {
     if !put_separator(is_first, sink) {
         // This tells the proof that the block is one that can be read back: what was put is a prefix of it.
-        put_text(outcome, &mut CountSink::new());
+        tell_block(outcome);
         return false;
     }
     put_text(outcome, sink)

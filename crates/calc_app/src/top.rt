@@ -1,6 +1,6 @@
 //! The top call.
 
-ghost use Rattle.std.specs.Prelude.{◌≡◌, ◌≢◌, ◌≤◌, ℕ, List, [], Some, IfSome, IsTrue, true, codes, map, string_bytes};
+ghost use Rattle.std.specs.Prelude.{◌≡◌, ◌≢◌, ◌≤◌, ℕ, List, [], Some, IsTrue, true, codes, map, string_bytes};
 ghost use Rattle.calc_base.specs.Fault.{Rose};
 ghost use Rattle.calc_base.specs.Puts.{Puts};
 ghost use Rattle.sym_model.specs.Command.{Command};
@@ -12,7 +12,7 @@ ghost use Rattle.sym_model.specs.Outcome.{ending_of};
 ghost use Rattle.sym_model.specs.RefusalText.{refusal_line, offence_line};
 ghost use Rattle.sym_model.specs.SyntaxPlace.{IsSyntaxPlace};
 ghost use Rattle.calc_replies.specs.Computed.{text_of, HasText, HasBlock};
-ghost use Rattle.calc_app.specs.Top.{Leaves, IsOutcome, RunsLines, PrintsAnswerTo, PrintsLines, IsThrough, IsAccepted, IsRefused, PutsOutcome};
+ghost use Rattle.calc_app.specs.Top.{Leaves, IsEmptied, IsOutcome, RunsLines, PrintsAnswerTo, PrintsLines, CutsLines, IsThrough, IsAccepted, IsRefused, PutsOutcome};
 
 use crate::batch::batch;
 use crate::workload::work;
@@ -47,12 +47,17 @@ pub fn run<S: Source, K: Sink>(
     // Where the answer is `Done`, the text read back is a canonical list of terms, and that list is what the command that the
     // words spell names, by the defining polynomials; of commands on tableaux the text is what is defined for them.
     ensures headline { result ≡ Status.Done → (before : List ℕ) → K.written sink.old ≡ Some before
-        → PrintsAnswerTo (map string_bytes words.now) before (K.written sink.new) }
+        → PrintsAnswerTo (map string_bytes words.now) before (S.left source.old) (K.written sink.new) }
 
     // Where a batch was read to its end, the blocks of all its lines were put, and that of each line that was not refused says
     // what the line's command names.
-    ensures lines { RunsLines (map string_bytes words.now) → IsThrough result → (before input : List ℕ)
-        → K.written sink.old ≡ Some before → S.left source.old ≡ Some input → PrintsLines input before (K.written sink.new) }
+    ensures lines { RunsLines (map string_bytes words.now) → IsThrough result → (before : List ℕ)
+        → K.written sink.old ≡ Some before → PrintsLines before (S.left source.old) (K.written sink.new) }
+
+    // Where the sink failed in a batch, no line was read behind the one whose block was cut off: the blocks of the lines before
+    // it were put whole.
+    ensures cut { RunsLines (map string_bytes words.now) → result ≡ Status.SinkFault
+        → CutsLines K.written K.length sink.old sink.new (S.left source.old) (S.left source.new) }
 
     // By cases on the status: the whole text that is defined for the words, and the sink settled; after a fault of the sink a
     // prefix of it; after a fault of the source that of the lines wholly read, and the sink settled; without memory nothing,
@@ -84,7 +89,7 @@ pub fn run<S: Source, K: Sink>(
     ensures source_later { S.faults source.old ≤ S.faults source.new }
 
     // A batch is read to its end, and other commands leave the source as it was.
-    ensures all_read { RunsLines (map string_bytes words.now) → IsThrough result → IfSome (S.left source.new) (λ rest. rest ≡ []) }
+    ensures all_read { RunsLines (map string_bytes words.now) → IsThrough result → IsEmptied (S.left source.new) }
     ensures untouched { (RunsLines (map string_bytes words.now) → ⊥) → source.new ≡ source.old }
 {
     match task_of(alloc, words) {

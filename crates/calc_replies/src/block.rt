@@ -8,7 +8,7 @@ use crate::form::put_answer;
 use crate::outcome::Outcome;
 use crate::tableau_answer::put_told;
 use calc_base::{Sink, Status, WordsFault};
-use expansion_printer::{print_large, print_refusal};
+use expansion_printer::{print_large, print_refusal, tell_printable};
 
 /// Puts the block of the answer, or the line of the refusal, and answers whether all went well.
 pub fn put_text<K: Sink>(outcome: &mut Outcome, sink: &mut K) -> bool
@@ -21,6 +21,15 @@ pub fn put_text<K: Sink>(outcome: &mut Outcome, sink: &mut K) -> bool
         Outcome::Refused { fault } => print_refusal(fault, sink).is_ok(),
         Outcome::Large => print_large(sink).is_ok(),
         Outcome::Told { lines } => put_told(lines, sink),
+    }
+}
+
+/// Tells that the block of an answer is one that can be read back. It puts nothing, and goes over no list of tableaux.
+pub fn tell_block(outcome: &Outcome)
+    ensures { HasBlock outcome.now }
+{
+    if let Outcome::Answered { answer, .. } = outcome {
+        tell_printable(answer);
     }
 }
 

@@ -13,7 +13,7 @@ mod products;
 mod reductions;
 mod tableau_answer;
 
-pub use block::{put_text, status_if_put};
+pub use block::{put_text, status_if_put, tell_block};
 pub use form::Form;
 pub use listing::Listing;
 pub use outcome::{Outcome, Task, reply_by, reply_to, task_of};

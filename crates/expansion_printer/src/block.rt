@@ -12,7 +12,7 @@ use crate::answer::Answer;
 use crate::named::Named;
 use calc_base::{Sink, SinkFault, put_if, put_result};
 use coeff_rings::{Digits, Int, Scalar};
-use sparse_polys::Terms;
+use sparse_polys::{Label, Terms};
 
 /// Prints the block of the answer: a line for each term, and the line `0` where there is none. A number is one line.
 ///
@@ -31,6 +31,40 @@ pub fn print<K: Sink>(answer: &Answer, sink: &mut K) -> Result<(), SinkFault>
         Answer::Powers { terms } => put_result(put_terms(true, terms, sink)),
         Answer::Permutations { terms } => put_result(put_terms(true, terms, sink)),
         Answer::Polynomial { terms } => put_result(put_terms(true, terms, sink)),
+    }
+}
+
+/// Tells that the block of the answer can be read back: it is canonical, with numbers of 128 bits. It goes over the terms once and
+/// puts nothing.
+pub fn tell_printable(answer: &Answer)
+    ensures { IsPrintable (plain_answer answer.now) }
+{
+    match answer {
+        Answer::Number { value } => tell_value(*value),
+        Answer::Expansion { terms } => tell_terms(terms),
+        Answer::Product { terms } => tell_terms(terms),
+        Answer::Pairs { terms } => tell_terms(terms),
+        Answer::Powers { terms } => tell_terms(terms),
+        Answer::Permutations { terms } => tell_terms(terms),
+        Answer::Polynomial { terms } => tell_terms(terms),
+    }
+}
+
+/// Tells that the line of a number can be read back.
+fn tell_value(value: Int)
+    ensures { IsPrintable (answer number (number_terms value)) }
+{
+    let _ = value.is_zero();
+}
+
+/// Tells that the terms are canonical, and their coefficients scalars of the type.
+fn tell_terms<L: Label, R: Scalar>(terms: &Terms<L, R>)
+    ensures held { AreHeld R.value R.is_held terms.now }
+    ensures canonical { IsCanonicalList L.order L.is_label terms.now }
+{
+    let _ = terms.len();
+    for (_, c) in terms.iter() {
+        let _ = c.is_zero();
     }
 }
 

@@ -19,7 +19,7 @@ mod tableau;
 mod words;
 
 pub use answer::{Answer, Kind};
-pub use block::print;
+pub use block::{print, tell_printable};
 pub use line::print_one_line;
 pub use refusal::{print_large, print_refusal};
 pub use tableau::{print_reading, print_tableau};

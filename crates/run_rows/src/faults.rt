@@ -7,11 +7,17 @@ use std::alloc::{AllocError, Global};
 /// Two lines of a batch.
 const LINES: &str = "schubert 1\nschubert 1\n";
 
+/// Two lines of a batch: the text of the first one is put in 14 pieces, and the second one has more tableaux than could be listed.
+const LONG_LINES: &str =
+    "mult 1 - 1\ntab 30 29 28 27 26 25 24 23 22 21 20 19 18 17 16 15 14 13 12 11 10 9 8 7 6 5 4 3 2 1 / 29 28 27 26 25 24 23 22 21 20 19 18 17 16 15 14 13 12 11 10 9 8 7 6 5 4 3 2 1\n";
+
 /// Prints the rows of runs with a fault.
 pub fn print(rt: &(impl Print + Alloc<A = Global>)) -> Result<()> {
     each_call_of_the_sink(rt, &words(rt.alloc(), &["expand", "m", "p[2,1]"])?)?;
     first_call_of_the_sink(rt, &words(rt.alloc(), &["mult", "2", "1", "-", "2", "1"])?)?;
-    calls_of_the_source(rt, &words(rt.alloc(), &["batch"])?)
+    let batch = words(rt.alloc(), &["batch"])?;
+    calls_of_the_source(rt, &batch)?;
+    between_two_blocks(rt, &batch)
 }
 
 /// The words of a command.
@@ -47,6 +53,13 @@ fn calls_of_the_source(rt: &(impl Print + Alloc<A = Global>), words: &[String]) 
         print!(rt; "a source that fails at call {call}: ")?;
         has_fault(rt, words, LINES, (&[call], &[]))?;
     }
+    Ok(())
+}
+
+/// Runs a batch over a sink that fails at the line `--` in front of the second block: of that block nothing is listed.
+fn between_two_blocks(rt: &(impl Print + Alloc<A = Global>), words: &[String]) -> Result<()> {
+    print!(rt; "a sink that fails at the line --: ")?;
+    has_fault(rt, words, LONG_LINES, (&[], &[14]))?;
     Ok(())
 }
 

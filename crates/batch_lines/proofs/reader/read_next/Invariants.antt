@@ -1,9 +1,11 @@
+use Rattle.std.proofs.Common.{◌≡◌, false}
 use Rattle.batch_lines.proofs.NextLines.{ReadsSo}
 use Rattle.batch_lines.proofs.reader.read_next.Given as goal
 
 abbrev pub invariant-loop-heard : goal.invariant-loop-heard
 invariant-loop-heard g l =
-    ReadsSo (g.S.Source.left l.fn.source) (g.S.Source.left l.source) (g.S.Source.allowance l.fn.source) (g.S.Source.allowance l.source)
+    (l.has_ended ≡ false)
+    × ReadsSo (g.S.Source.left l.fn.source) (g.S.Source.left l.source) (g.S.Source.allowance l.fn.source) (g.S.Source.allowance l.source)
     (g.S.Source.faults l.fn.source) (g.S.Source.faults l.source) l.fn.pieces l.pieces l.line.items l.is_long
 
 abbrev pub decreases-loop-heard : goal.decreases-loop-heard

@@ -9,4 +9,4 @@ returns-clause-goes g c =
     let well : c.put_separator.result ≡ true = search (rules, tests) in
     let P : Bool → Type 0 = λ m.
     Puts g.K.Sink.written g.K.Sink.length g.K.Sink.faults true c.args.sink.now m c.put_separator.new.sink (separator c.args.is_first) in
-    Puts-then (subst P well c.put_separator.ensures) c.put_text-2.ensures.goes
+    Puts-then (subst P well c.put_separator.ensures) c.put_text.ensures.goes

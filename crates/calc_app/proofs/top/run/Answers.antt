@@ -65,6 +65,9 @@ returns-in-Ok-Workload-clause-headline g c =
 pub returns-in-Ok-Workload-clause-lines : goal.returns-in-Ok-Workload-clause-lines
 returns-in-Ok-Workload-clause-lines g c = λ runs. absurd (no_lines c.in-Ok-Workload.lines c.in-Ok-Workload.seed (subst (λ (t : Task). AcceptsTask batch (Ok t)) c.in-Ok-Workload.field-0-is (c.in-Ok-Workload.ensures.accepts batch runs)))
 
+pub returns-in-Ok-Workload-clause-cut : goal.returns-in-Ok-Workload-clause-cut
+returns-in-Ok-Workload-clause-cut g c = λ runs. absurd (no_lines c.in-Ok-Workload.lines c.in-Ok-Workload.seed (subst (λ (t : Task). AcceptsTask batch (Ok t)) c.in-Ok-Workload.field-0-is (c.in-Ok-Workload.ensures.accepts batch runs)))
+
 pub returns-in-Ok-Workload-clause-leaves : goal.returns-in-Ok-Workload-clause-leaves
 returns-in-Ok-Workload-clause-leaves g c =
     (work_leaves g.K.Sink.written g.K.Sink.length g.K.Sink.faults g.K.Sink.settled c.args.sink.now c.work.new.sink
