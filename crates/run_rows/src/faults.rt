@@ -21,7 +21,7 @@ pub fn print(rt: &(impl Print + Alloc<A = Global>)) -> Result<()> {
 }
 
 /// The words of a command.
-fn words(alloc: Global, texts: &[&str]) -> Result<Vec<String>, AllocError> {
+pub(crate) fn words(alloc: Global, texts: &[&str]) -> Result<Vec<String>, AllocError> {
     let mut words = Vec::new(alloc);
     for text in texts {
         words.push(String::from_str(alloc, text)?)?;
@@ -78,7 +78,7 @@ fn has_fault(
 }
 
 /// Runs a command, and prints its status, how many calls of the source and of the sink failed, and what was put.
-fn ended(
+pub(crate) fn ended(
     rt: &(impl Print + Alloc<A = Global>),
     words: &[String],
     source: &mut MemSource,

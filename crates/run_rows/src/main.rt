@@ -4,12 +4,16 @@
 #![tactic(auto)]
 
 mod faults;
+mod lines;
 mod narrow;
 mod sinks;
 mod sources;
+mod tables;
 
 fn main(rt: HostRuntime) -> anyhow::Result<()> {
     faults::print(&rt)?;
+    tables::print(&rt)?;
+    lines::print(&rt)?;
     sources::print(&rt)?;
     sinks::print(&rt)
 }

@@ -13,6 +13,7 @@ pub fn print(rt: &(impl Print + Alloc<A = Global>)) -> Result<()> {
         &["ab", "cd", "efghijk"],
     )?;
     in_memory(rt, MemSink::new(rt.alloc(), 8, &[1])?, &["ab"])?;
+    in_memory(rt, MemSink::new(rt.alloc(), 3, &[])?, &["ab", "cd"])?;
     in_a_buffer(rt, &mut [0; 3])?;
     counted(rt)?;
     written(rt)

@@ -8,6 +8,7 @@ use std::alloc::Global;
 /// Prints the rows of sources in memory and over a reader.
 pub fn print(rt: &(impl Print + Alloc<A = Global>)) -> Result<()> {
     in_memory(rt, MemSource::new(rt.alloc(), b"abc", 2, &[1])?)?;
+    in_memory(rt, MemSource::new(rt.alloc(), b"ab", 1, &[])?)?;
     take_four(rt, "read", &mut StdIn::new(NarrowReader::new()))
 }
 
