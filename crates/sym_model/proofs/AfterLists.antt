@@ -1,5 +1,5 @@
 -- The lists `after a k` of the k numbers that follow a (specs/Partition).
-use Rattle.std.proofs.Common.{◌≡◌, ℕ, zero, suc, ◌+◌, ◌<◌, ◌≤◌, length, refl, ap, inl, inr, arith, ◌++◌, [], ◌∙◌, ◌∷◌, Bool, ap₂, cond, nat_le, pos, ℤ, add-one, sym}
+use Rattle.std.proofs.Common.{◌≡◌, ℕ, zero, suc, ◌+◌, ◌<◌, ◌≤◌, Bool, cond, nat_le, [], ◌∷◌, ◌++◌, length, ℤ, pos, ◌+ℤ◌, refl, sym, ◌∙◌, ap, ap₂, inl, inr, arith, add-one}
 use Rattle.std.proofs.lemmas.Bool.{cases_eq, le-leb, lt-leb}
 use Rattle.sym_model.specs.Sum.{Among, Once, total}
 use Rattle.sym_model.specs.Partition.{after}
