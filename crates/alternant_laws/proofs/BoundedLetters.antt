@@ -8,16 +8,17 @@ use Rattle.sym_model.specs.Polynomial.{same, join, resize}
 use Rattle.sym_model.specs.Schur.{times_in, content}
 use Rattle.sym_model.specs.GoodTableau.{is_falling}
 use Rattle.sym_model.proofs.Sums.{total_none}
-use Rattle.sym_model.proofs.Exponents.{same_apart, length-resize}
+use Rattle.sym_model.proofs.Exponents.{same_apart, length-resize, get_or-join}
+use Rattle.sym_model.proofs.Contents.{times_in-here, times_in-other}
+use Rattle.sym_model.proofs.Parts.{past_end}
 use Rattle.tableau_laws.specs.PaddedRows.{put_row, transposed, words_over, pattern_of}
 use Rattle.tableau_laws.specs.Grid.{may_precede, is_chain, pass_by_place, may_stand_above}
 use Rattle.tableau_laws.specs.ColumnFold.{may_be_next, over_columns, column_lines, is_sum}
 use Rattle.tableau_laws.proofs.PatternFillings.{Fits, word_tells, fits_length}
 use Rattle.tableau_laws.proofs.ColumnSums.{over_columns-last}
-use Rattle.alternant_laws.proofs.OrderSums.{part-join}
 use Rattle.alternant_laws.proofs.LeftColumns.{AreLong, falls_last, falls-transposed}
 use Rattle.alternant_laws.proofs.FailingColumns.{none_below}
-use Rattle.alternant_laws.proofs.StraightShapes.{falls_places, EndsAt, at_content, past_content, past_end, at_resize, passed, counted, long_last, long_anyway}
+use Rattle.alternant_laws.proofs.StraightShapes.{falls_places, EndsAt, at_content, past_content, at_resize, long_last, long_anyway}
 
 -- ---- one column
 
@@ -35,11 +36,11 @@ bounded d (v ∷ w) (r ∷ right) e p b o =
     let l = leb-true v r q.0 in
     let g = b.0 in
     let s = and_parts (may_precede may_stand_above v w) (is_chain may_stand_above w) e in
-    (omega arith, bounded (d + 1) w right s.1 q.1 b.1 (λ k h. let t = o k (omega arith) in let x = passed k v w (λ i. absurd (omega arith)) in let y = passed (suc k) v w (λ i. absurd (omega arith)) in omega arith))
+    (omega arith, bounded (d + 1) w right s.1 q.1 b.1 (λ k h. let t = o k (omega arith) in let x = times_in-other k v w (λ i. absurd (omega arith)) in let y = times_in-other (suc k) v w (λ i. absurd (omega arith)) in omega arith))
 bounded d (v ∷ w) [] e p b o =
     let l = first (cases_lt (d + 1) v) in
     let s = and_parts (may_precede may_stand_above v w) (is_chain may_stand_above w) e in
-    (l, bounded (d + 1) w [] s.1 (nothing_right w) tt (λ k h. let t = o k (omega arith) in let x = passed k v w (λ i. absurd (omega arith)) in let y = passed (suc k) v w (λ i. absurd (omega arith)) in omega arith))
+    (l, bounded (d + 1) w [] s.1 (nothing_right w) tt (λ k h. let t = o k (omega arith) in let x = times_in-other k v w (λ i. absurd (omega arith)) in let y = times_in-other (suc k) v w (λ i. absurd (omega arith)) in omega arith))
   where
     nothing_right : (u : List ℕ) → pass_by_place nat_le u [] ≡ true
     nothing_right [] = refl
@@ -48,8 +49,8 @@ bounded d (v ∷ w) [] e p b o =
     gap : (j : ℕ) → v ≡ suc j → d < j → ⊥
     gap j i h =
         let g = o j (omega arith) in
-        let x = counted (suc j) v w i in
-        let y = passed j v w (λ q. absurd (omega arith)) in
+        let x = times_in-here (suc j) v w i in
+        let y = times_in-other j v w (λ q. absurd (omega arith)) in
         let z = none_below j v w (omega arith) (omega arith) e in
         absurd (omega arith)
 
@@ -60,13 +61,13 @@ bounded d (v ∷ w) [] e p b o =
 bounded_none : (d k : ℕ) (c : List ℕ) → AreBounded d c → d + length c < k → times_in k c ≡ 0
 unfolding AreBounded
 bounded_none d k [] b h = refl
-bounded_none d k (v ∷ w) b h = let g = b.0 in passed k v w (λ e. absurd (omega arith)) ∙ bounded_none (d + 1) k w b.1 (omega arith)
+bounded_none d k (v ∷ w) b h = let g = b.0 in times_in-other k v w (λ e. absurd (omega arith)) ∙ bounded_none (d + 1) k w b.1 (omega arith)
 
 none_past_letters : (n k : ℕ) (line : List Bool) (w : List ℕ) → Fits n line w → n < k → times_in k w ≡ 0
 none_past_letters n k line [] f h = refl
 none_past_letters n k [] (v ∷ w) f h = absurd f
-none_past_letters n k (true ∷ line) (v ∷ w) f h = let g = f.0.1 in passed k v w (λ e. absurd (omega arith)) ∙ none_past_letters n k line w f.1 h
-none_past_letters n k (false ∷ line) (v ∷ w) f h = let g = f.0 in passed k v w (λ e. absurd (omega arith)) ∙ none_past_letters n k line w f.1 h
+none_past_letters n k (true ∷ line) (v ∷ w) f h = let g = f.0.1 in times_in-other k v w (λ e. absurd (omega arith)) ∙ none_past_letters n k line w f.1 h
+none_past_letters n k (false ∷ line) (v ∷ w) f h = let g = f.0 in times_in-other k v w (λ e. absurd (omega arith)) ∙ none_past_letters n k line w f.1 h
 
 next_bounded : (n b : ℕ) (line : List Bool) (ν right c : List ℕ) → Fits n line c → EndsAt (b + length right) ν → AreBounded b right → may_be_next n ν right c ≡ true → AreBounded b c
 next_bounded n b line ν right c f ends bound e =
@@ -78,8 +79,8 @@ next_bounded n b line ν right c f ends bound e =
     falls zero h t d = absurd (omega arith)
     falls (suc k) h t (inl l) =
         let g = t k in
-        let a = part-join ν (content n c) k in
-        let m = part-join ν (content n c) (suc k) in
+        let a = get_or-join ν (content n c) k in
+        let m = get_or-join ν (content n c) (suc k) in
         let x = at_content n k c (omega arith) in
         let y = at_content n (suc k) c l in
         let z = ends k (omega arith) in
@@ -88,7 +89,7 @@ next_bounded n b line ν right c f ends bound e =
 
 next_ends_at : (n b : ℕ) (ν right c : List ℕ) → EndsAt (b + length right) ν → length right ≤ length c → AreBounded b c → EndsAt (b + length c) (join ν (content n c))
 next_ends_at n b ν right c ends l bound i g =
-    let a = part-join ν (content n c) i in
+    let a = get_or-join ν (content n c) i in
     let z = ends i (omega arith) in
     let t = none (cases_lt i n) in
     omega arith

@@ -18,19 +18,20 @@ use Rattle.sym_model.specs.Command.{mult, skew, coef}
 use Rattle.sym_model.specs.Target.{Meets}
 use Rattle.sym_model.specs.LargeAnswer.{variables_or}
 use Rattle.sym_model.proofs.Ring.{one-product}
-use Rattle.sym_model.proofs.Sums.{total_ext, total_among, total_none, total_map}
+use Rattle.sym_model.proofs.Sums.{total_ext, total_among, total_none, total_map, length-select}
 use Rattle.sym_model.proofs.Exponents.{same_apart, length-resize, length-join}
 use Rattle.sym_model.proofs.Polynomials.{pair_times_each, at_only, coefficient_pair, pair_each, pair_times, pair_zero, pair_restrict, pair_determined, same_from_pair, times_respects, Same_refl, Same_sym, Same_trans, restrict_respects}
 use Rattle.sym_model.proofs.PolynomialLaws.{restrict-times}
 use Rattle.sym_model.proofs.SortedParts.{IsPartition-none, IsPartition-without_last_zeros}
 use Rattle.sym_model.proofs.Orders.{is_partition-tells, is_partition-from}
 use Rattle.sym_model.proofs.WholeTerms.{pair_of_combined, combined_respects, represents-whole}
+use Rattle.sym_model.proofs.Parts.{length-without_last_zeros}
 use Rattle.tableau_laws.proofs.GoodReadings.{good_falls, total_good_contents}
 use Rattle.tableau_laws.proofs.FewerLetters.{restrict-skew_schur}
-use Rattle.tableau_laws.proofs.ColumnCounts.{contains_nothing, falling-resize, count_total}
+use Rattle.tableau_laws.proofs.ColumnCounts.{contains_nothing, falling-resize}
 use Rattle.alternant_laws.proofs.Exchanges.{length_content}
 use Rattle.alternant_laws.specs.GoodSums.{start_plus_content, good_schurs, ListsCounts}
-use Rattle.alternant_laws.proofs.FallingAlternants.{join_padded, without_last_zeros-resize, length-without_last_zeros, falls_from_test, coefficient_at_partition}
+use Rattle.alternant_laws.proofs.FallingAlternants.{join_padded, without_last_zeros-resize, falls_from_test, coefficient_at_partition}
 use Rattle.alternant_laws.proofs.GoodAlternants.{good_sums}
 use Rattle.alternant_laws.proofs.BoundedLetters.{too_many_rows}
 use Rattle.alternant_laws.proofs.SchurProducts.{bialternant, schur_few_variables, product-good_schurs, skew-good_schurs}
@@ -132,13 +133,13 @@ no_long_labels m start outer inner ν p o i holds h l =
 
 product_count-terms : (n : ℕ) (left right ν : List ℕ) → IsPartition right → pos (product_count n left right ν) ≡ coefficient (good_terms n left right []) ν
 product_count-terms n left right ν q =
-    count_total (λ w. same (without_last_zeros (join left (content n w))) ν) (good_readings n left right [])
+    length-select (λ w. same (without_last_zeros (join left (content n w))) ν) (good_readings n left right [])
     ∙ total_good_contents n left right [] (λ κ. cond (same (without_last_zeros (join left κ)) ν) (pos 1) (pos 0)) q.falls (contains_nothing right)
     ∙ sym (coefficient_good_terms n left right [] ν)
 
 skew_count-terms : (outer inner κ : List ℕ) → IsPartition outer → contains outer inner ≡ true → pos (skew_count outer inner κ) ≡ coefficient (good_terms (rows outer) [] outer inner) κ
 skew_count-terms outer inner κ o holds =
-    count_total (λ w. same (without_last_zeros (content (rows outer) w)) κ) (good_readings (rows outer) [] outer inner)
+    length-select (λ w. same (without_last_zeros (content (rows outer) w)) κ) (good_readings (rows outer) [] outer inner)
     ∙ total_good_contents (rows outer) [] outer inner (λ ν. cond (same (without_last_zeros ν) κ) (pos 1) (pos 0)) o.falls holds
     ∙ sym (coefficient_good_terms (rows outer) [] outer inner κ)
 
@@ -185,7 +186,7 @@ skew_coefficients n outer inner κ o i holds p l =
 -- ---- lists of counts
 
 -- no term has this label
-no_label : (terms : Terms (List ℕ)) (ν : List ℕ) → ((t : List ℕ × Fraction) → Among t terms → t.0 ≡ ν → ⊥) → coefficient (numerators terms) ν ≡ pos 0
+pub no_label : (terms : Terms (List ℕ)) (ν : List ℕ) → ((t : List ℕ × Fraction) → Among t terms → t.0 ≡ ν → ⊥) → coefficient (numerators terms) ν ≡ pos 0
 no_label terms ν h =
     total_map (λ (t : Term). cond (same t.0 ν) t.1 (pos 0)) (λ (t : List ℕ × Fraction). (t.0, t.1.0)) terms
     ∙ total_none (λ (t : List ℕ × Fraction). cond (same t.0 ν) t.1.0 (pos 0)) terms (λ t m. ap (λ (b : Bool). cond b t.1.0 (pos 0)) (same_apart t.0 ν (h t m)))

@@ -10,6 +10,7 @@ use Rattle.sym_model.specs.Alternant.{rearranged, alternant}
 use Rattle.sym_model.specs.Target.{schur_product}
 use Rattle.sym_model.proofs.Sums.{total_none, Among_from_map, Among_from_each, Among_from_select}
 use Rattle.sym_model.proofs.Exponents.{same_apart, size-join}
+use Rattle.sym_model.proofs.Parts.{size-map_add}
 use Rattle.alternant_laws.proofs.OrderSums.{rearranged_places}
 
 -- each term has the degree d
@@ -83,10 +84,6 @@ are_letters-append n (a ∷ v) w h k = (h.0, are_letters-append n v w h.1 k)
 one_at : ℕ → ℕ → ℕ
 one_at a j = cond (eqb a j) 1 0
 
-size-sum : (f g : ℕ → ℕ) (ks : List ℕ) → size (map (λ j. f j + g j) ks) ≡ size (map f ks) + size (map g ks)
-size-sum f g [] = refl
-size-sum f g (k ∷ ks) = let h = size-sum f g ks in omega arith
-
 none-after : (a m k : ℕ) → a ≤ m → size (map (one_at a) (after m k)) ≡ 0
 unfolding one_at
 none-after a m zero h = refl
@@ -123,7 +120,7 @@ content-size n [] h = zeros (after 0 n)
 content-size n (a ∷ w) h =
     let rest = content-size n w h.1 in
     let first = one-after a 0 n (omega (arith, h.0.0)) (omega (arith, h.0.1)) in
-    size-sum (one_at a) (λ j. times_in j w) (after 0 n) ∙ (omega arith)
+    size-map_add (one_at a) (λ j. times_in j w) (after 0 n) ∙ (omega arith)
 
 among-after : (a m k : ℕ) → Among a (after m k) → (m + 1 ≤ a) × (a ≤ m + k)
 among-after a m zero h = absurd h

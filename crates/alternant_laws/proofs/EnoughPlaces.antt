@@ -4,8 +4,8 @@ use Rattle.std.proofs.Common.{◌≡◌, ◌⊎◌, ℕ, zero, suc, ◌+◌, ◌
 use Rattle.std.specs.Prelude.{Some, None}
 use Rattle.std.proofs.lemmas.Bool.{cases_lt}
 use Rattle.std.proofs.lemmas.Bool.Decides.{nat_tests}
-use Rattle.sym_model.specs.Sum.{total, Among}
-use Rattle.sym_model.specs.Partition.{IsPartition, ArePositive, size, rows, sorted_parts, in_front, without_last_zeros}
+use Rattle.sym_model.specs.Sum.{total}
+use Rattle.sym_model.specs.Partition.{IsPartition, ArePositive, size, rows, sorted_parts, without_last_zeros}
 use Rattle.sym_model.specs.Polynomial.{Same, same, join, pair, nothing}
 use Rattle.sym_model.specs.Arrangement.{arrangements}
 use Rattle.sym_model.specs.Bases.{has, monomial, exponent_lists, down_from}
@@ -21,13 +21,15 @@ use Rattle.sym_model.proofs.Exponents.{length-join_same, size-join}
 use Rattle.sym_model.proofs.Polynomials.{pair_determined, same_from_pair, Same_trans}
 use Rattle.sym_model.proofs.Monomials.{members_of-exponent_lists}
 use Rattle.sym_model.proofs.WholeTerms.{pair_of_combined}
+use Rattle.sym_model.proofs.Numbers.{nat_le-suc}
+use Rattle.sym_model.proofs.Parts.{without_last_zeros-zero, without_last_zeros-positive, length-staircase}
 use Rattle.beta_list_laws.specs.StrictFall.{FallsStrictly}
 use Rattle.beta_list_laws.proofs.NeighbourExchanges.{length-sorted, size-sorted, has-sorted}
 use Rattle.beta_list_laws.proofs.SortedLists.{sorted_strict}
-use Rattle.beta_list_laws.proofs.BetaLists.{strict_tail, from_beta_partition, size-from_beta}
-use Rattle.alternant_laws.proofs.Staircase.{length_staircase}
+use Rattle.beta_list_laws.proofs.BetaLists.{strict_tail, from_beta_partition, size-from_beta, length-less}
 use Rattle.alternant_laws.proofs.SchurProducts.{schur_few_variables}
 use lib.IntN.{*ℤ-zero}
+use Rattle.monomial_laws.proofs.Arrangements.{down_from-below}
 use Rattle.alternant_laws.specs.StraightenedTerms.{straightened_term, straightened_terms}
 use Rattle.alternant_laws.proofs.StraightenedMonomials.{straightens}
 
@@ -54,16 +56,13 @@ shifted-pushed : (α : List ℕ) → shifted (α ++ 0 ∷ []) ≡ raised (shifte
 shifted-pushed α =
     ap (λ k. join (α ++ 0 ∷ []) (staircase k)) (length-pushed α)
     ∙ ap (join (α ++ 0 ∷ [])) (staircase-raised (length α))
-    ∙ join-raised α (staircase (length α)) (sym (length_staircase (length α)))
+    ∙ join-raised α (staircase (length α)) (sym (length-staircase (length α)))
 
 suc_test : (a b : ℕ) → (suc a == suc b) ≡ (a == b)
 suc_test a b = grind (arith, nat_tests)
 
 suc_lt : (a b : ℕ) → nat_lt (suc a) (suc b) ≡ nat_lt a b
 suc_lt a b = grind (arith, nat_tests)
-
-suc_le : (a b : ℕ) → nat_le (suc a) (suc b) ≡ nat_le a b
-suc_le a b = grind (arith, nat_tests)
 
 zero_apart : (a : ℕ) → (0 == suc a) ≡ false
 zero_apart a = grind (arith, nat_tests)
@@ -96,7 +95,7 @@ put-raised a [] = by (nat_le 0 (suc a)) (zero_le a)
     by : (t : Bool) → t ≡ true → cond t (suc a ∷ 0 ∷ []) (0 ∷ put_falling (suc a) []) ≡ suc a ∷ 0 ∷ []
     by true e = refl
     by false e = cc
-put-raised a (b ∷ s) = ap (λ t. cond t (suc a ∷ suc b ∷ raised s) (suc b ∷ put_falling (suc a) (raised s))) (suc_le b a) ∙ by (nat_le b a) (put-raised a s)
+put-raised a (b ∷ s) = ap (λ t. cond t (suc a ∷ suc b ∷ raised s) (suc b ∷ put_falling (suc a) (raised s))) (nat_le-suc b a) ∙ by (nat_le b a) (put-raised a s)
   where
     by : (t : Bool) → put_falling (suc a) (raised s) ≡ raised (put_falling a s) → cond t (suc a ∷ suc b ∷ raised s) (suc b ∷ put_falling (suc a) (raised s)) ≡ raised (cond t (a ∷ b ∷ s) (b ∷ put_falling a s))
     by true r = refl
@@ -114,12 +113,8 @@ less-raised : (s : List ℕ) → less_the_rest (raised s) ≡ less_the_rest s ++
 less-raised [] = refl
 less-raised (a ∷ s) = ap₂ (λ x l. x ∷ l) (let e = length-raised s in let d : suc a - length (raised s) ≡ a - length s = omega arith in d) (less-raised s)
 
-zeros-pushed : (l : List ℕ) → without_last_zeros (l ++ 0 ∷ []) ≡ without_last_zeros l
-zeros-pushed [] = refl
-zeros-pushed (a ∷ l) = ap (in_front a) (zeros-pushed l)
-
 from_beta-raised : (s : List ℕ) → from_beta (raised s) ≡ from_beta s
-from_beta-raised s = ap without_last_zeros (less-raised s) ∙ zeros-pushed (less_the_rest s)
+from_beta-raised s = ap without_last_zeros (less-raised s) ∙ without_last_zeros-zero (less_the_rest s)
 
 straightened-pushed : (α : List ℕ) → straightened (α ++ 0 ∷ []) ≡ straightened α
 straightened-pushed α =
@@ -147,17 +142,8 @@ full_rows (a ∷ b) f p = (let h = above a b f p in omega arith, full_rows b (st
     above a [] f p = p.0
     above a (c ∷ b) f p = let h = above c b f.1 p.1 in let g = f.0 in omega arith
 
-no_zeros : (l : List ℕ) → ArePositive l → without_last_zeros l ≡ l
-no_zeros [] p = refl
-no_zeros (zero ∷ l) p = absurd (omega (arith, p.0))
-no_zeros (suc a ∷ l) p = ap (λ x. suc a ∷ x) (no_zeros l p.1)
-
-length-less : (b : List ℕ) → length (less_the_rest b) ≡ length b
-length-less [] = refl
-length-less (a ∷ b) = ap suc (length-less b)
-
 rows-full : (b : List ℕ) → FallsStrictly b → ArePositive b → rows (from_beta b) ≡ length b
-rows-full b f p = ap length (no_zeros (less_the_rest b) (full_rows b f p)) ∙ length-less b
+rows-full b f p = ap length (without_last_zeros-positive (less_the_rest b) (full_rows b f p)) ∙ length-less b
 
 -- the entries of α + ρ, where a part stands in the last place
 no_zero : (α : List ℕ) (x : ℕ) → has 0 (shifted (α ++ suc x ∷ [])) ≡ false
@@ -185,7 +171,7 @@ last_part : (n k : ℕ) (φ : List ℕ → ℤ) (β : List ℕ) → length β �
 last_part n k φ β e zero_free few = by (has_equal_entries (shifted β)) refl
   where
     long : length (shifted β) ≡ suc k
-    long = length-join_same (suc k) β (staircase (length β)) e (length_staircase (length β) ∙ e)
+    long = length-join_same (suc k) β (staircase (length β)) e (length-staircase (length β) ∙ e)
 
     by : (t : Bool) → has_equal_entries (shifted β) ≡ t
         → pair (combined (λ label. schur label n) (straightened_term (cond t None (Some (sorting_sign (shifted β), from_beta (sorted_falling (shifted β))))))) φ ≡ pos 0
@@ -216,12 +202,6 @@ last_part n k φ β e zero_free few = by (has_equal_entries (shifted β)) refl
 
 -- ---- sums over the arrangements in a place more
 
-among_down_from : (d a : ℕ) → Among a (down_from d) → a ≤ d
-among_down_from zero a (inl e) = omega arith
-among_down_from zero a (inr m) = absurd m
-among_down_from (suc d) a (inl e) = omega arith
-among_down_from (suc d) a (inr m) = let r = among_down_from d a m in omega arith
-
 last_zero : (F : List ℕ → ℤ) (k s : ℕ) → ((α : List ℕ) (x : ℕ) → length α ≡ k → size (α ++ suc x ∷ []) ≡ s → F (α ++ suc x ∷ []) ≡ pos 0)
     → total F (exponent_lists (suc k) s) ≡ total (λ α. F (α ++ 0 ∷ [])) (exponent_lists k s)
 last_zero F zero zero h = refl
@@ -239,7 +219,7 @@ last_zero F zero (suc s) h =
 last_zero F (suc k) s h =
     total_each F (λ a. map (λ α. a ∷ α) (exponent_lists (suc k) (s - a))) (down_from s)
     ∙ total_among (λ (a : ℕ). total F (map (λ α. a ∷ α) (exponent_lists (suc k) (s - a)))) (λ (a : ℕ). total (λ α. F (α ++ 0 ∷ [])) (map (λ α. a ∷ α) (exponent_lists k (s - a)))) (down_from s)
-    (λ a m. let l = among_down_from s a m in
+    (λ a m. let l = down_from-below s a m in
     total_map F (λ (α : List ℕ). a ∷ α) (exponent_lists (suc k) (s - a))
     ∙ last_zero (λ α. F (a ∷ α)) k (s - a) (λ α x e f. h (a ∷ α) x (omega arith) (omega arith))
     ∙ sym (total_map (λ α. F (α ++ 0 ∷ [])) (λ (α : List ℕ). a ∷ α) (exponent_lists k (s - a))))

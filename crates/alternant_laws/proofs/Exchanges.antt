@@ -4,8 +4,9 @@ use Rattle.sym_model.specs.Partition.{after}
 use Rattle.sym_model.specs.Polynomial.{same, join}
 use Rattle.sym_model.specs.Schur.{times_in, content}
 use Rattle.std.proofs.lemmas.List.{length-map}
-use Rattle.tableau_laws.proofs.Contents.{map_among}
 use Rattle.sym_model.proofs.AfterLists.{length_after, after_among}
+use Rattle.sym_model.proofs.Restrictions.{and_middle}
+use Rattle.sym_model.proofs.Lists.{map-among}
 
 -- the list with the entries at the places k and k + 1, counted from 0, exchanged; itself where there are none
 abbrev pub exchanged : ℕ → List ℕ → List ℕ
@@ -13,12 +14,6 @@ exchanged k [] = []
 exchanged zero (a ∷ []) = a ∷ []
 exchanged zero (a ∷ b ∷ α) = b ∷ a ∷ α
 exchanged (suc k) (a ∷ α) = a ∷ exchanged k α
-
-and_swap : (p q r : Bool) → (p && (q && r)) ≡ (q && (p && r))
-and_swap true true r = refl
-and_swap true false r = refl
-and_swap false true r = refl
-and_swap false false r = refl
 
 -- an exchange in one list is an exchange in the other
 pub same_exchanged : (k : ℕ) (α β : List ℕ) → same (exchanged k α) β ≡ same α (exchanged k β)
@@ -44,7 +39,7 @@ same_exchanged zero (a ∷ c ∷ α) (b ∷ []) = short (c == b) (a == b)
     short true false = refl
     short false true = refl
     short false false = refl
-same_exchanged zero (a ∷ c ∷ α) (b ∷ d ∷ β) = and_swap (c == b) (a == d) (same α β)
+same_exchanged zero (a ∷ c ∷ α) (b ∷ d ∷ β) = and_middle (c == b) (a == d) (same α β)
 same_exchanged (suc k) (a ∷ α) (b ∷ β) = ap (λ p. (a == b) && p) (same_exchanged k α β)
 
 pub exchanged_at : (left : List ℕ) (a b : ℕ) (right : List ℕ) → exchanged (length left) (left ++ (a ∷ b ∷ right)) ≡ left ++ (b ∷ a ∷ right)
@@ -71,7 +66,7 @@ map_exchanged f g a (suc (suc n)) zero k e h p q o =
     let x : a + 1 ≡ k = omega arith in
     let y : a + 1 + 1 ≡ suc k = omega arith in
     ap₂ ◌∷◌ (ap f x ∙ p ∙ ap g (sym y)) (ap₂ ◌∷◌ (ap f y ∙ q ∙ ap g (sym x))
-    (map_among f g (after (a + 1 + 1) n) (λ j m. let r = after_among (a + 1 + 1) n j m in let s = r.0 in o j (λ d. omega arith) (λ d. omega arith))))
+    (map-among f g (after (a + 1 + 1) n) (λ j m. let r = after_among (a + 1 + 1) n j m in let s = r.0 in o j (λ d. omega arith) (λ d. omega arith))))
 map_exchanged f g a (suc (suc n)) (suc i) k e h p q o =
     ap₂ ◌∷◌ (o (a + 1) (λ d. omega arith) (λ d. omega arith)) (map_exchanged f g (a + 1) (suc n) i k (omega arith) (omega arith) p q o)
 

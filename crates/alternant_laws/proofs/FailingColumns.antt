@@ -9,7 +9,8 @@ use Rattle.sym_model.specs.Schur.{times_in, content, letters_of}
 use Rattle.sym_model.specs.GoodTableau.{is_falling}
 use Rattle.sym_model.specs.Alternant.{alternant, staircase}
 use Rattle.sym_model.proofs.Sums.{total_ext, total_neg}
-use Rattle.sym_model.proofs.Exponents.{join_assoc, join_comm, length-join_same, resize_same}
+use Rattle.sym_model.proofs.Exponents.{join_assoc, join_comm, length-join_same, resize_same, get_or-join}
+use Rattle.sym_model.proofs.Parts.{length-staircase}
 use Rattle.tableau_laws.specs.PaddedRows.{transposed}
 use Rattle.tableau_laws.specs.Grid.{may_precede, is_chain, may_stand_above}
 use Rattle.tableau_laws.proofs.ColumnCounts.{sum_at_start}
@@ -18,8 +19,7 @@ use Rattle.alternant_laws.proofs.Stacks.{Misses}
 use Rattle.alternant_laws.proofs.SymmetricSums.{left_tableaux, total_exchanged}
 use Rattle.alternant_laws.proofs.Alternants.{opposite_is_zero}
 use Rattle.alternant_laws.proofs.Alternating.{inserting, alternating, alternating_swap}
-use Rattle.alternant_laws.proofs.OrderSums.{part-join, pair_alternant}
-use Rattle.alternant_laws.proofs.Staircase.{length_staircase}
+use Rattle.alternant_laws.proofs.OrderSums.{pair_alternant}
 use Rattle.alternant_laws.proofs.LeftColumns.{over_all, AreLong, over_all-rows, falls-transposed}
 
 -- ---- a column holds each letter at most once
@@ -147,12 +147,12 @@ turned n i ν κ φ l m h r =
     ∙ ap neg_ℤ (sym (pair_alternant (join (join ν κ) (staircase n)) φ))
   where
     whole : length (join (join ν κ) (staircase n)) ≡ n
-    whole = length-join_same n (join ν κ) (staircase n) (length-join_same n ν κ l m) (length_staircase n)
+    whole = length-join_same n (join ν κ) (staircase n) (length-join_same n ν κ l m) (length-staircase n)
 
     level : get_or (join ν (staircase n)) i 0 ≡ get_or (join ν (staircase n)) (suc i) 0
     level =
-        let a = part-join ν (staircase n) i in
-        let b = part-join ν (staircase n) (suc i) in
+        let a = get_or-join ν (staircase n) i in
+        let b = get_or-join ν (staircase n) (suc i) in
         let c = at_staircase n i in
         let d = at_staircase n (suc i) in
         omega arith
@@ -161,7 +161,7 @@ turned n i ν κ φ l m h r =
     moved =
         join_right_comm ν (exchanged i κ) (staircase n)
         ∙ ap (λ β. join β (exchanged i κ)) (sym (exchanged_same i (join ν (staircase n)) level))
-        ∙ sym (exchanged-join i (join ν (staircase n)) κ (length-join_same n ν (staircase n) l (length_staircase n) ∙ sym m))
+        ∙ sym (exchanged-join i (join ν (staircase n)) κ (length-join_same n ν (staircase n) l (length-staircase n) ∙ sym m))
         ∙ ap (exchanged i) (join_right_comm ν (staircase n) κ)
 
 -- the sum over all tableaux left of the column vanishes

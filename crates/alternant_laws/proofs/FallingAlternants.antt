@@ -10,9 +10,10 @@ use Rattle.sym_model.specs.GoodTableau.{is_falling}
 use Rattle.sym_model.specs.Alternant.{alternant, staircase}
 use Rattle.sym_model.proofs.Exponents.{same_apart, same_true, same_from, tests_agree, join_comm, join_cancel_left, length-resize, resize-nil, join_zeros}
 use Rattle.sym_model.proofs.Polynomials.{at_only, coefficient_pair}
+use Rattle.sym_model.proofs.Parts.{length-staircase}
 use Rattle.alternant_laws.proofs.Alternating.{inserting, alternating}
 use Rattle.alternant_laws.proofs.OrderSums.{pair_alternant}
-use Rattle.alternant_laws.proofs.Staircase.{AreBelow, alternating_below, below_weaken, length_staircase}
+use Rattle.alternant_laws.proofs.Staircase.{AreBelow, alternating_below, below_weaken}
 
 -- ---- strictly falling exponents
 
@@ -90,7 +91,7 @@ descends_sum (suc n) (a ∷ α) l e = (below_sum a n α (omega arith) (up_to_fir
 
 -- a list padded with zeros has the same sum
 pub join_padded : (n : ℕ) (parts : List ℕ) → length parts ≤ n → join (resize n parts) (staircase n) ≡ join parts (staircase n)
-join_padded n [] h = ap (λ z. join z (staircase n)) (resize-nil n) ∙ join_zeros n (staircase n) (omega (arith, length_staircase n))
+join_padded n [] h = ap (λ z. join z (staircase n)) (resize-nil n) ∙ join_zeros n (staircase n) (omega (arith, length-staircase n))
 join_padded zero (a ∷ parts) h = absurd (omega arith)
 join_padded (suc n) (a ∷ parts) h = ap (λ l. (a + n) ∷ l) (join_padded n parts (omega arith))
 
@@ -113,15 +114,6 @@ without_last_zeros-resize (suc n) [] p h = ap (in_front 0) (without_last_zeros-r
 without_last_zeros-resize zero (a ∷ parts) p h = absurd (omega arith)
 without_last_zeros-resize (suc n) (zero ∷ parts) p h = let g = p.0 in absurd (omega arith)
 without_last_zeros-resize (suc n) (suc a ∷ parts) p h = ap (λ l. suc a ∷ l) (without_last_zeros-resize n parts p.1 (omega arith))
-
-length_in_front : (a : ℕ) (l : List ℕ) → length (in_front a l) ≤ suc (length l)
-length_in_front zero [] = omega arith
-length_in_front zero (b ∷ l) = omega arith
-length_in_front (suc a) l = omega arith
-
-pub length-without_last_zeros : (α : List ℕ) → length (without_last_zeros α) ≤ length α
-length-without_last_zeros [] = omega arith
-length-without_last_zeros (a ∷ α) = let h = length-without_last_zeros α in let g = length_in_front a (without_last_zeros α) in omega arith
 
 pub falls_from_test : (α : List ℕ) → is_falling α ≡ true → Falls α
 falls_from_test [] e = tt

@@ -11,6 +11,7 @@ use Rattle.sym_model.specs.Alternant.{alternant, staircase, alternants_over}
 use Rattle.sym_model.proofs.Sums.{total_ext, total_among}
 use Rattle.sym_model.proofs.Exponents.{length-join, length-resize, length-join_same}
 use Rattle.sym_model.proofs.Polynomials.{pair_each, pair_determined, same_from_pair, In_map}
+use Rattle.sym_model.proofs.Parts.{length-staircase}
 use Rattle.tableau_laws.specs.PaddedRows.{transposed, words_over, fillings_over, pattern_of, padded}
 use Rattle.tableau_laws.specs.Grid.{is_chain, pass_by_place, may_stand_above}
 use Rattle.tableau_laws.specs.ColumnFold.{over_columns, column_lines}
@@ -24,7 +25,6 @@ use Rattle.tableau_laws.proofs.ColumnCounts.{sum_at_start, falling-resize}
 use Rattle.alternant_laws.proofs.Exchanges.{length_content}
 use Rattle.alternant_laws.proofs.TableauInvolution.{symmetric-skew_schur}
 use Rattle.alternant_laws.specs.GoodSums.{good_alternants}
-use Rattle.alternant_laws.proofs.Staircase.{length_staircase}
 use Rattle.alternant_laws.proofs.AlternantProducts.{alternant_times, pair_alternants_over}
 use Rattle.alternant_laws.proofs.LeftColumns.{over_all, over_all-last, fit_left, total_fit_left, fit_left-nothing, AreLong, falls-transposed, falls_last}
 use Rattle.alternant_laws.proofs.FailingColumns.{join_right_comm, at_sum, column_fails, column_misses, vanishes}
@@ -134,7 +134,7 @@ In-skew_schur n outer inner =
     In_map n (λ (T : List (List ℕ)). (content n (letters_of T), pos 1)) (tableaux n outer inner) (λ T m. length_content n (letters_of T))
 
 length_with_staircase : (n : ℕ) (parts : List ℕ) → length parts ≤ n → length (join parts (staircase n)) ≡ n
-length_with_staircase n parts h = let a = length-join parts (staircase n) in let b = length_staircase n in omega arith
+length_with_staircase n parts h = let a = length-join parts (staircase n) in let b = length-staircase n in omega arith
 
 pub stembridge : (n : ℕ) (start outer inner : List ℕ) → IsPartition start → rows start ≤ n → IsPartition outer → IsPartition inner
     → Same (times (alternant (join start (staircase n))) (skew_schur outer inner n)) (good_alternants n start outer inner)

@@ -1,5 +1,5 @@
 -- Sums over all ways to add columns left of a column, with no condition on the sum reached, as sums over padded rows.
-use Rattle.std.proofs.Common.{◌≡◌, ℕ, ◌≤◌, Bool, true, false, cond, ◌&&◌, List, [], ◌∷◌, ◌++◌, map, length, nat_le, sym, ◌∙◌, ap, ap₂, subst, refl, arith, ℤ, pos}
+use Rattle.std.proofs.Common.{◌≡◌, ℕ, ◌≤◌, Bool, true, cond, ◌&&◌, List, [], ◌∷◌, ◌++◌, map, length, nat_le, sym, ◌∙◌, ap, ap₂, subst, refl, arith, ℤ, pos}
 use Rattle.std.proofs.lemmas.Bool.{and_parts, and_from, leb-true, le-leb}
 use Rattle.sym_model.specs.Sum.{total, Among}
 use Rattle.sym_model.specs.Partition.{Falls}
@@ -7,7 +7,7 @@ use Rattle.sym_model.specs.Polynomial.{join}
 use Rattle.sym_model.specs.Schur.{content, letters_of}
 use Rattle.sym_model.specs.GoodTableau.{every}
 use Rattle.sym_model.proofs.Sums.{total_ext, total_among, total_exchange, total_select}
-use Rattle.sym_model.proofs.Exponents.{join_assoc, join_comm, tests_agree}
+use Rattle.sym_model.proofs.Exponents.{join_assoc, join_comm, tests_agree, and_exchange}
 use lib.IntN.{+ℤ_idr}
 use Rattle.tableau_laws.specs.PaddedRows.{put_row, transposed, words_over, fillings_over}
 use Rattle.tableau_laws.specs.Grid.{is_chain, pass_by_place, first_line, may_stand_above, are_tableau_columns}
@@ -144,22 +144,15 @@ fit_left-beside right cs l =
     (λ e. let p = fits_tells right cs l e in and_from (are_tableau_columns cs) (all_beside right cs) p.0 p.1)
     (λ e. let p = and_parts (are_tableau_columns cs) (all_beside right cs) e in fits_back right cs p.0 p.1)
 
--- a column in front is a letter in front of each row
-put_beside : (x p q r : Bool) → ((x && p) && (q && r)) ≡ ((x && q) && (p && r))
-put_beside true true q r = refl
-put_beside true false true r = refl
-put_beside true false false r = refl
-put_beside false p q r = refl
-
 left_of_put : (right c : List ℕ) (rows : List (List ℕ)) → is_left_of right (put_row c rows) ≡ (pass_by_place nat_le c right && is_left_of right rows)
 left_of_put right [] rows = refl
 left_of_put [] (x ∷ c) [] = refl
 left_of_put [] (x ∷ c) (w ∷ rows) = refl
 left_of_put (y ∷ right) (x ∷ c) [] =
-    ap (λ b. (nat_le x y && true) && b) (left_of_put right c []) ∙ put_beside (nat_le x y) true (pass_by_place nat_le c right) true
+    ap (λ b. (nat_le x y && true) && b) (left_of_put right c []) ∙ and_exchange (nat_le x y) true (pass_by_place nat_le c right) true
 left_of_put (y ∷ right) (x ∷ c) (w ∷ rows) =
     ap (λ b. (nat_le x y && every (λ a. nat_le a y) w) && b) (left_of_put right c rows)
-    ∙ put_beside (nat_le x y) (every (λ a. nat_le a y) w) (pass_by_place nat_le c right) (is_left_of right rows)
+    ∙ and_exchange (nat_le x y) (every (λ a. nat_le a y) w) (pass_by_place nat_le c right) (is_left_of right rows)
 
 left_of_transposed : (right : List ℕ) (cs : List (List ℕ)) → is_left_of right (transposed cs) ≡ all_beside right cs
 left_of_transposed right [] = refl

@@ -13,6 +13,7 @@ use Rattle.sym_model.specs.Alternant.{rearranged, alternant}
 use Rattle.sym_model.proofs.Signs.{minus_one_to_add}
 use Rattle.sym_model.proofs.Ring.{product_assoc, negation-product, distributes_left, product-negation}
 use Rattle.sym_model.proofs.Sums.{total_among, total_map, total_each, total_scale, total_neg, Among_from_map, Among_from_each}
+use Rattle.sym_model.proofs.Exponents.{get_or-join}
 use Rattle.alternant_laws.proofs.Alternating.{inserting, alternating, alternating_map}
 
 -- ---- neighbouring exchanges
@@ -138,15 +139,9 @@ pub rearranged_places : (n : ℕ) (β : List ℕ) → length β ≡ n → rearra
 rearranged_places n β e =
     ap (λ k. rearranged (places k) β) (sym e) ∙ rearranged_after β β 0 (λ i. let d : 0 + i ≡ i = omega arith in ap (λ k. get_or β k 0) d)
 
-pub part-join : (α β : List ℕ) (k : ℕ) → get_or (join α β) k 0 ≡ get_or α k 0 + get_or β k 0
-part-join [] β k = omega arith
-part-join (a ∷ α) [] k = omega arith
-part-join (a ∷ α) (b ∷ β) zero = refl
-part-join (a ∷ α) (b ∷ β) (suc k) = part-join α β k
-
 pub rearranged-join : (w α β : List ℕ) → rearranged w (join α β) ≡ join (rearranged w α) (rearranged w β)
 rearranged-join [] α β = refl
-rearranged-join (i ∷ w) α β = ap₂ ◌∷◌ (part-join α β (i - 1)) (rearranged-join w α β)
+rearranged-join (i ∷ w) α β = ap₂ ◌∷◌ (get_or-join α β (i - 1)) (rearranged-join w α β)
 
 -- ---- alternants
 

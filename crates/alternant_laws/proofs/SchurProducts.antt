@@ -13,6 +13,7 @@ use Rattle.sym_model.proofs.Exponents.{length-join}
 use Rattle.sym_model.proofs.Polynomials.{pair_each, pair_times_each, pair_determined, same_from_pair, times_respects, Same_refl, Same_sym, Same_trans, In_each, In_times}
 use Rattle.sym_model.proofs.PolynomialLaws.{times_assoc}
 use Rattle.sym_model.proofs.SortedParts.{IsPartition-none, IsPartition-without_last_zeros}
+use Rattle.sym_model.proofs.Parts.{length-without_last_zeros}
 use Rattle.tableau_laws.specs.PaddedRows.{fillings_over, padded}
 use Rattle.tableau_laws.specs.Grid.{is_chain, pass_by_place, first_line, may_stand_above, are_tableau_columns}
 use Rattle.tableau_laws.specs.ColumnFold.{column_lines}
@@ -26,7 +27,7 @@ use Rattle.tableau_laws.proofs.ColumnCounts.{contains_nothing}
 use Rattle.alternant_laws.specs.GoodSums.{good_alternants, start_plus_content, good_schurs}
 use Rattle.alternant_laws.proofs.Staircase.{staircase_cancels}
 use Rattle.alternant_laws.proofs.FailingColumns.{at_sum}
-use Rattle.alternant_laws.proofs.FallingAlternants.{join_padded, resize-without_last_zeros, length-without_last_zeros, falls_from_test}
+use Rattle.alternant_laws.proofs.FallingAlternants.{join_padded, resize-without_last_zeros, falls_from_test}
 use Rattle.alternant_laws.proofs.StraightShapes.{OnlyCells, leftmost_line, straight_columns, too_few_letters, leftmost_line_cells, leftmost_line_length}
 use Rattle.alternant_laws.proofs.GoodAlternants.{at_filling, good_sums, In-skew_schur, stembridge}
 

@@ -1,6 +1,6 @@
 -- An alternant with two equal exponents is 0; one without is the sign of sorting its exponents times the alternant of the
 -- sorted list.
-use Rattle.std.proofs.Common.{◌≡◌, ◌⊎◌, ℕ, suc, ◌+◌, ◌-◌, ◌≤◌, Bool, true, false, ◌||◌, ◌==◌, cond, nat_lt, List, [], ◌∷◌, ◌++◌, length, refl, sym, ◌∙◌, ap, ap₂, subst, inl, inr, arith, ℤ, pos, neg_ℤ, ◌*ℤ◌}
+use Rattle.std.proofs.Common.{◌≡◌, ◌⊎◌, ℕ, ◌+◌, ◌-◌, ◌≤◌, Bool, true, false, ◌||◌, ◌==◌, cond, nat_lt, List, [], ◌∷◌, ◌++◌, length, refl, sym, ◌∙◌, ap, ap₂, subst, inl, inr, arith, ℤ, pos, neg_ℤ, ◌*ℤ◌}
 use Rattle.std.proofs.lemmas.Int.{ints}
 use Rattle.std.proofs.lemmas.Bool.{cases_eq, eqb-true}
 use Rattle.std.proofs.lemmas.Bool.Decides.{nat_tests}
@@ -13,11 +13,12 @@ use Rattle.sym_model.specs.BetaList.{has_equal_entries, sorted_falling, greater,
 use Rattle.sym_model.proofs.Ring.{ring}
 use Rattle.sym_model.proofs.SortedParts.{Falls_tail}
 use Rattle.sym_model.proofs.Polynomials.{pair_determined, pair_negate}
+use Rattle.sym_model.proofs.Parts.{length-without_last_zeros}
 use Rattle.beta_list_laws.specs.StrictFall.{FallsStrictly}
 use Rattle.beta_list_laws.proofs.NeighbourExchanges.{KeptByExchanges, sort_back, sorted_falls, equal-exchange, sorting_sign-exchange}
-use Rattle.beta_list_laws.proofs.BetaLists.{strict_tail, rest_within}
+use Rattle.beta_list_laws.proofs.BetaLists.{strict_tail, rest_within, length-less}
 use Rattle.alternant_laws.proofs.Alternants.{alternant_exchange, alternant_equal}
-use Rattle.alternant_laws.proofs.FallingAlternants.{join_padded, resize-without_last_zeros, length-without_last_zeros}
+use Rattle.alternant_laws.proofs.FallingAlternants.{join_padded, resize-without_last_zeros}
 
 -- ---- equal exponents
 
@@ -100,10 +101,6 @@ alternant-sorted β φ = sort_back P β kept sorted
             ∙ turned (sorting_sign (left ++ (b ∷ a ∷ right))) (pair (alternant (sorted_falling β)) φ)
 
 -- ---- the sorted list as a partition plus ρ
-
-length-less : (b : List ℕ) → length (less_the_rest b) ≡ length b
-length-less [] = refl
-length-less (a ∷ b) = ap suc (length-less b)
 
 less-join : (b : List ℕ) → FallsStrictly b → join (less_the_rest b) (staircase (length b)) ≡ b
 less-join [] f = refl

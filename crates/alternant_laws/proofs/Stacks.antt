@@ -5,9 +5,9 @@ use Rattle.std.proofs.lemmas.Bool.{cases_lt, cases_eq, and_parts, and_from, ltb-
 use Rattle.sym_model.specs.Partition.{Falls}
 use Rattle.sym_model.specs.PlaceOrders.{smaller}
 use Rattle.sym_model.specs.Schur.{times_in, letters_of}
+use Rattle.sym_model.proofs.Contents.{times_in-append}
 use Rattle.tableau_laws.specs.Grid.{is_chain, pass_by_place, first_line, may_stand_above, is_padded_tableau}
 use Rattle.tableau_laws.proofs.Grids.{falls_below}
-use Rattle.tableau_laws.proofs.Contents.{times_in-append}
 use Rattle.tableau_laws.proofs.PatternFillings.{AllFit}
 use Rattle.alternant_laws.proofs.Rows.{RisesFrom, chain_tells, rises_chain, counts, passes, none_smaller, smaller_within, smaller_next, recut, length-recut, recut_rises, smaller-recut, smaller-recut_middle, recut_twice, recut_fits, AreAtMost, recut_at_most}
 

@@ -1,5 +1,5 @@
 -- a_ρ leads with the coefficient 1: each order of ρ but ρ itself is below ρ. So a_ρ cancels.
-use Rattle.std.proofs.Common.{◌≡◌, ℕ, zero, suc, ◌<◌, cond, List, [], ◌∷◌, length, ◌∙◌, ap, ap₂, subst, refl, inl, inr, arith, ℤ, pos, ◌-ℤ◌}
+use Rattle.std.proofs.Common.{◌≡◌, ℕ, zero, suc, ◌<◌, cond, List, [], ◌∷◌, ◌∙◌, ap, ap₂, subst, refl, inl, inr, arith, ℤ, pos, ◌-ℤ◌}
 use Rattle.std.proofs.lemmas.Int.{ints}
 use Rattle.sym_model.specs.Polynomial.{Poly, Same, In, coefficient, times}
 use Rattle.sym_model.specs.Leading.{Above, Leads}
@@ -7,13 +7,10 @@ use Rattle.sym_model.specs.Alternant.{alternant, staircase}
 use Rattle.sym_model.proofs.Exponents.{same_refl, same_apart}
 use Rattle.sym_model.proofs.Polynomials.{at_only, coefficient_pair}
 use Rattle.sym_model.proofs.LeadingTerms.{Above_irrefl, Above_trans, leading_cancel}
+use Rattle.sym_model.proofs.Parts.{length-staircase}
 use Rattle.alternant_laws.proofs.Alternating.{inserting, alternating}
 use Rattle.alternant_laws.proofs.OrderSums.{pair_alternant}
 use Rattle.alternant_laws.proofs.Alternants.{In_alternant}
-
-pub length_staircase : (n : ℕ) → length (staircase n) ≡ n
-length_staircase zero = refl
-length_staircase (suc n) = ap suc (length_staircase n)
 
 -- ---- alternating sums look at lists of the same entries alone
 
@@ -81,4 +78,4 @@ staircase_leads n = record {
 }
 
 pub staircase_cancels : (n : ℕ) (g h : Poly) → In n g → In n h → Same (times (alternant (staircase n)) g) (times (alternant (staircase n)) h) → Same g h
-staircase_cancels n g h i j = leading_cancel n (alternant (staircase n)) g h (staircase n) (In_alternant n (staircase n) (length_staircase n)) i j (staircase_leads n)
+staircase_cancels n g h i j = leading_cancel n (alternant (staircase n)) g h (staircase n) (In_alternant n (staircase n) (length-staircase n)) i j (staircase_leads n)

@@ -1,7 +1,7 @@
 -- A straight shape has one good tableau for the empty start: each column holds 1, 2, 3 and so on. So a_ρ times a Schur
 -- polynomial is one alternant.
 use Rattle.std.proofs.Common.{◌≡◌, ℕ, zero, suc, ◌+◌, ◌-◌, ◌<◌, ◌≤◌, ◌⊎◌, Bool, true, false, cond, ◌&&◌, List, [], ◌∷◌, ◌++◌, map, length, replicate, reverse, get_or, nat_le, nat_lt, sym, ◌∙◌, ap, ap₂, subst, refl, inl, inr, arith, ℤ, pos}
-use Rattle.std.proofs.lemmas.Bool.{cases_lt, cases_eq, cases_Bool, and_parts, and_from, leb-true, le-leb, ltb-true, lt-ltb, le-ltb, eq-eqb, ne_eqb, false_from_ne_true}
+use Rattle.std.proofs.lemmas.Bool.{cases_lt, cases_eq, cases_Bool, and_parts, and_from, leb-true, le-leb, ltb-true, lt-ltb, le-ltb, false_from_ne_true}
 use Rattle.std.proofs.lemmas.List.{reverse-append, reverse-reverse}
 use Rattle.sym_model.specs.Sum.{Among}
 use Rattle.sym_model.specs.Partition.{Falls, ArePositive, IsPartition, rows, after}
@@ -9,7 +9,9 @@ use Rattle.sym_model.specs.Polynomial.{join, resize}
 use Rattle.sym_model.specs.Schur.{times_in, content}
 use Rattle.sym_model.specs.GoodTableau.{is_falling}
 use Rattle.sym_model.proofs.Sums.{total_only}
-use Rattle.sym_model.proofs.Exponents.{length-join_same, length-resize}
+use Rattle.sym_model.proofs.Exponents.{length-join_same, length-resize, get_or-join}
+use Rattle.sym_model.proofs.Contents.{times_in-here, times_in-other}
+use Rattle.sym_model.proofs.Parts.{past_end}
 use Rattle.tableau_laws.specs.PaddedRows.{put_row, transposed, words_over, line_of, pattern_of}
 use Rattle.tableau_laws.specs.Grid.{is_chain, pass_by_place, may_stand_above}
 use Rattle.tableau_laws.specs.ColumnFold.{may_be_next, over_columns, column_lines}
@@ -19,7 +21,6 @@ use Rattle.tableau_laws.proofs.RowSums.{pattern_lengths}
 use Rattle.tableau_laws.proofs.ColumnCounts.{contains_nothing, falling-resize}
 use Rattle.tableau_laws.proofs.ColumnSums.{over_columns-last}
 use Rattle.alternant_laws.proofs.Exchanges.{length_content}
-use Rattle.alternant_laws.proofs.OrderSums.{part-join}
 use Rattle.alternant_laws.proofs.LeftColumns.{AreLong, falls_last, falls-transposed}
 use Rattle.alternant_laws.proofs.FailingColumns.{at_letter}
 
@@ -97,16 +98,10 @@ after_beside a (suc h) (suc k) = and_from (nat_le (a + 1) (a + 1)) (pass_by_plac
 
 -- ---- how often a letter stands in a column
 
-pub counted : (k v : ℕ) (w : List ℕ) → v ≡ k → times_in k (v ∷ w) ≡ suc (times_in k w)
-counted k v w e = ap (λ (b : Bool). cond {A = ℕ} b 1 0 + times_in k w) (eq-eqb v k e) ∙ omega arith
-
-pub passed : (k v : ℕ) (w : List ℕ) → (v ≡ k → ⊥) → times_in k (v ∷ w) ≡ times_in k w
-passed k v w n = ap (λ (b : Bool). cond {A = ℕ} b 1 0 + times_in k w) (ne_eqb v k n) ∙ omega arith
-
 none_at : (k a : ℕ) (w : List ℕ) → Ascends a w → k ≤ a → times_in k w ≡ 0
 unfolding Ascends
 none_at k a [] s h = refl
-none_at k a (v ∷ w) s h = let g = s.0 in passed k v w (λ e. absurd (omega arith)) ∙ none_at k v w s.1 (omega arith)
+none_at k a (v ∷ w) s h = let g = s.0 in times_in-other k v w (λ e. absurd (omega arith)) ∙ none_at k v w s.1 (omega arith)
 
 none_past : (n k : ℕ) (line : List Bool) (w : List ℕ) → Fits n line w → OnlyCells line → n < k → times_in k w ≡ 0
 none_past n k line [] f o h = refl
@@ -114,23 +109,23 @@ none_past n k [] (v ∷ w) f o h = absurd f
 none_past n k (p ∷ line) (v ∷ w) f o h =
     let m = subst (λ (b : Bool). MayStand n b v) o.0 f.0 in
     let g = m.1 in
-    passed k v w (λ e. absurd (omega arith)) ∙ none_past n k line w f.1 o.1 h
+    times_in-other k v w (λ e. absurd (omega arith)) ∙ none_past n k line w f.1 o.1 h
 
 after_below : (j b m : ℕ) → j ≤ b → times_in j (after b m) ≡ 0
 after_below j b zero g = refl
-after_below j b (suc m) g = passed j (b + 1) (after (b + 1) m) (λ e. absurd (omega arith)) ∙ after_below j (b + 1) m (omega arith)
+after_below j b (suc m) g = times_in-other j (b + 1) (after (b + 1) m) (λ e. absurd (omega arith)) ∙ after_below j (b + 1) m (omega arith)
 
 after_inside : (k a h : ℕ) → a < k → k ≤ a + h → times_in k (after a h) ≡ 1
 after_inside k a zero p q = absurd (omega arith)
 after_inside k a (suc h) p q = by (cases_eq (a + 1) k) (λ n. after_inside k (a + 1) h (omega arith) (omega arith))
   where
     by : (a + 1 ≡ k) ⊎ (a + 1 ≡ k → ⊥) → ((a + 1 ≡ k → ⊥) → times_in k (after (a + 1) h) ≡ 1) → times_in k (after a (suc h)) ≡ 1
-    by (inl e) later = counted k (a + 1) (after (a + 1) h) e ∙ ap suc (after_below k (a + 1) h (omega arith))
-    by (inr n) later = passed k (a + 1) (after (a + 1) h) n ∙ later n
+    by (inl e) later = times_in-here k (a + 1) (after (a + 1) h) e ∙ ap suc (after_below k (a + 1) h (omega arith))
+    by (inr n) later = times_in-other k (a + 1) (after (a + 1) h) n ∙ later n
 
 after_past : (k a h : ℕ) → a + h < k → times_in k (after a h) ≡ 0
 after_past k a zero p = refl
-after_past k a (suc h) p = passed k (a + 1) (after (a + 1) h) (λ e. absurd (omega arith)) ∙ after_past k (a + 1) h (omega arith)
+after_past k a (suc h) p = times_in-other k (a + 1) (after (a + 1) h) (λ e. absurd (omega arith)) ∙ after_past k (a + 1) h (omega arith)
 
 -- ---- the one column that may be next
 
@@ -142,7 +137,7 @@ only_column a m [] s p o = refl
 only_column a zero (v ∷ w) s p o =
     let e = first (cases_eq v (a + 1)) in
     ap₂ ◌∷◌ e (subst (λ b. w ≡ after b (length w)) e
-    (only_column v zero w s.1 (nothing_right w) (λ k h. let g = o k (omega arith) in let x = passed k v w (λ i. absurd (omega arith)) in let y = passed (suc k) v w (λ i. absurd (omega arith)) in omega arith)))
+    (only_column v zero w s.1 (nothing_right w) (λ k h. let g = o k (omega arith) in let x = times_in-other k v w (λ i. absurd (omega arith)) in let y = times_in-other (suc k) v w (λ i. absurd (omega arith)) in omega arith)))
   where
     nothing_right : (u : List ℕ) → pass_by_place nat_le u [] ≡ true
     nothing_right [] = refl
@@ -151,8 +146,8 @@ only_column a zero (v ∷ w) s p o =
     gap : (j : ℕ) → v ≡ suc j → a < j → ⊥
     gap j e h =
         let g = o j (omega arith) in
-        let x = counted (suc j) v w e in
-        let y = passed j v w (λ i. absurd (omega arith)) in
+        let x = times_in-here (suc j) v w e in
+        let y = times_in-other j v w (λ i. absurd (omega arith)) in
         let z = none_at j v w s.1 (omega arith) in
         absurd (omega arith)
 
@@ -166,7 +161,7 @@ only_column a (suc m) (v ∷ w) s p o =
     let e : v ≡ a + 1 = omega arith in
     ap₂ ◌∷◌ e (subst (λ b. w ≡ after b (length w)) e
     (only_column v m w s.1 (subst (λ b. pass_by_place nat_le w (after b m) ≡ true) (sym e) q.1)
-    (λ k g. let t = o k (omega arith) in let x = passed k v w (λ i. absurd (omega arith)) in let y = passed (suc k) v w (λ i. absurd (omega arith)) in omega arith)))
+    (λ k g. let t = o k (omega arith) in let x = times_in-other k v w (λ i. absurd (omega arith)) in let y = times_in-other (suc k) v w (λ i. absurd (omega arith)) in omega arith)))
 
 -- ---- the sums along the columns
 
@@ -176,12 +171,6 @@ EndsAt h ν = (i : ℕ) → h ≤ i → get_or ν i 0 ≡ 0
 
 pub at_content : (n i : ℕ) (w : List ℕ) → i < n → get_or (content n w) i 0 ≡ times_in (suc i) w
 at_content n i w h = let e : 0 + suc i ≡ suc i = omega arith in at_letter (λ k. times_in k w) 0 n i h ∙ ap (λ k. times_in k w) e
-
-pub past_end : (α : List ℕ) (i : ℕ) → length α ≤ i → get_or α i 0 ≡ 0
-past_end [] zero h = refl
-past_end [] (suc i) h = refl
-past_end (a ∷ α) zero h = absurd (omega arith)
-past_end (a ∷ α) (suc i) h = past_end α i (omega arith)
 
 pub past_content : (n i : ℕ) (w : List ℕ) → n ≤ i → get_or (content n w) i 0 ≡ 0
 past_content n i w h = past_end (content n w) i (omega (arith, length_content n w))
@@ -197,8 +186,8 @@ next_is n m line ν c o f ends e =
     falls zero h t b = absurd (omega arith)
     falls (suc k) h t (inl l) =
         let g = t k in
-        let a = part-join ν (content n c) k in
-        let b = part-join ν (content n c) (suc k) in
+        let a = get_or-join ν (content n c) k in
+        let b = get_or-join ν (content n c) (suc k) in
         let x = at_content n k c (omega arith) in
         let y = at_content n (suc k) c l in
         let z = ends k (omega arith) in
@@ -210,8 +199,8 @@ next_falls n m h ν f l =
     and_from (is_chain may_stand_above (after 0 h)) (pass_by_place nat_le (after 0 h) (after 0 m) && is_falling (join ν (content n (after 0 h)))) (chain_from_one h)
     (and_from (pass_by_place nat_le (after 0 h) (after 0 m)) (is_falling (join ν (content n (after 0 h)))) (after_beside 0 h m)
     (places_fall (join ν (content n (after 0 h))) (λ i.
-    let a = part-join ν (content n (after 0 h)) i in
-    let b = part-join ν (content n (after 0 h)) (suc i) in
+    let a = get_or-join ν (content n (after 0 h)) i in
+    let b = get_or-join ν (content n (after 0 h)) (suc i) in
     let g = falls_places ν f i in
     let t = falls i (cases_lt (suc i) n) (cases_lt (suc i) h) in
     omega arith)))
@@ -231,7 +220,7 @@ next_falls n m h ν f l =
 
 next_ends : (n m h : ℕ) (ν : List ℕ) → EndsAt m ν → m ≤ h → EndsAt h (join ν (content n (after 0 h)))
 next_ends n m h ν ends l i g =
-    let a = part-join ν (content n (after 0 h)) i in
+    let a = get_or-join ν (content n (after 0 h)) i in
     let z = ends i (omega arith) in
     let t = none (cases_lt i n) in
     omega arith
@@ -301,7 +290,7 @@ unfolding sum_along longer
 at_sum_along n i ν [] h = omega arith
 at_sum_along n i ν (line ∷ back) h =
     let e = at_sum_along n i (join ν (content n (after 0 (length line)))) back h in
-    let a = part-join ν (content n (after 0 (length line))) i in
+    let a = get_or-join ν (content n (after 0 (length line))) i in
     let b = at_content n i (after 0 (length line)) h in
     let c = test (cases_lt i (length line)) in
     omega arith

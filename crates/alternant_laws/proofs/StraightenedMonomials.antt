@@ -19,19 +19,20 @@ use Rattle.sym_model.proofs.Exponents.{join_comm, length-join_same}
 use Rattle.sym_model.proofs.Polynomials.{pair_ext, pair_zero, pair_factor, pair_total, pair_times, pair_monomials, pair_determined, same_from_pair, In_each, In_scale}
 use Rattle.sym_model.proofs.Monomials.{coefficient-monomial, members_of-exponent_lists, In-monomials}
 use Rattle.sym_model.proofs.WholeTerms.{pair_of_combined}
+use Rattle.sym_model.proofs.Parts.{length-staircase}
 use Rattle.monomial_laws.proofs.SchurMajorants.{In-schur}
 use Rattle.beta_list_laws.proofs.NeighbourExchanges.{length-exchange, length-sorted}
 use Rattle.beta_list_laws.proofs.SortedLists.{sorted_strict}
 use Rattle.beta_list_laws.proofs.BetaLists.{from_beta_partition, rows-from_beta}
 use Rattle.alternant_laws.proofs.AlternantProducts.{alternant_times, pair_alternants_over}
-use Rattle.alternant_laws.proofs.Staircase.{length_staircase, staircase_cancels}
+use Rattle.alternant_laws.proofs.Staircase.{staircase_cancels}
 use Rattle.alternant_laws.proofs.SchurProducts.{bialternant}
 use Rattle.alternant_laws.specs.StraightenedTerms.{straightened_term, straightened_terms}
 use Rattle.alternant_laws.proofs.SortedAlternants.{alternant-equal, alternant-sorted, from_beta-join}
 
 -- ---- m_λ is symmetric
 
-sorted-exchange : (left : List ℕ) (a b : ℕ) (right : List ℕ) → sorted_parts (left ++ (a ∷ b ∷ right)) ≡ sorted_parts (left ++ (b ∷ a ∷ right))
+pub sorted-exchange : (left : List ℕ) (a b : ℕ) (right : List ℕ) → sorted_parts (left ++ (a ∷ b ∷ right)) ≡ sorted_parts (left ++ (b ∷ a ∷ right))
 sorted-exchange [] a b right = insert_part_comm a b (sorted_parts right)
 sorted-exchange (c ∷ left) a b right = ap (insert_part c) (sorted-exchange left a b right)
 
@@ -80,7 +81,7 @@ straight n α φ e = ap (λ l. pair (alternant l) φ) is ∙ by (has_equal_entri
     is = join_comm (staircase n) α ∙ ap (λ k. join α (staircase k)) (sym e)
 
     long : length (shifted α) ≡ n
-    long = length-join_same n α (staircase (length α)) e (length_staircase (length α) ∙ e)
+    long = length-join_same n α (staircase (length α)) e (length-staircase (length α) ∙ e)
 
     by : (t : Bool) → has_equal_entries (shifted α) ≡ t
         → pair (alternant (shifted α)) φ ≡ pair (times (alternant (staircase n)) (combined (λ label. schur label n) (straightened_term (cond t None (Some (sorting_sign (shifted α), from_beta (sorted_falling (shifted α)))))))) φ
@@ -108,8 +109,8 @@ straightens n parts p =
     staircase_cancels n (monomial parts n) (combined (λ label. schur label n) (straightened_terms (arrangements parts n))) inside (In-combined n (straightened_terms (arrangements parts n)))
     (same_from_pair (times (alternant (staircase n)) (monomial parts n)) (times (alternant (staircase n)) (combined (λ label. schur label n) (straightened_terms (arrangements parts n)))) (λ φ.
     pair_determined (times (alternant (staircase n)) (monomial parts n)) (alternants_over (staircase n) (monomial parts n)) φ
-    (alternant_times n (staircase n) (monomial parts n) (length_staircase n) inside (symmetric-monomial parts n))
-    ∙ pair_alternants_over n (staircase n) (monomial parts n) φ (length_staircase n) inside
+    (alternant_times n (staircase n) (monomial parts n) (length-staircase n) inside (symmetric-monomial parts n))
+    ∙ pair_alternants_over n (staircase n) (monomial parts n) φ (length-staircase n) inside
     ∙ pair_monomials (arrangements parts n) (λ α. pair (alternant (join (staircase n) α)) φ)
     ∙ total_among (λ (α : List ℕ). pair (alternant (join (staircase n) α)) φ) (λ (α : List ℕ). pair (times (alternant (staircase n)) (combined (λ label. schur label n) (straightened_term (straightened α)))) φ) (arrangements parts n)
     (λ α m. straight n α φ (members_of-exponent_lists α n (size parts) (Among_from_select (λ α. same (sorted_parts α) parts) α (exponent_lists n (size parts)) m).0).0)

@@ -2,7 +2,7 @@
 --     arrangements-step     0 or one of the different parts stands there
 --     arrangements-none     there is one arrangement of no parts
 --     arrangements-few      and none of more parts than there are places
-use Rattle.std.proofs.Common.{◌≡◌, ◌⊎◌, ℕ, zero, suc, ◌+◌, ◌-◌, ◌<◌, ◌≤◌, Bool, true, false, cond, eqb, List, [], ◌∷◌, map, length, replicate, refl, sym, ap, ◌∙◌, inl, inr, arith, ℤ, pos}
+use Rattle.std.proofs.Common.{◌≡◌, ◌⊎◌, ℕ, zero, suc, ◌-◌, ◌<◌, ◌≤◌, Bool, true, false, cond, eqb, List, [], ◌∷◌, map, length, replicate, refl, sym, ap, ◌∙◌, inl, inr, arith, ℤ, pos}
 use Rattle.std.proofs.lemmas.Bool.{cases_eq, le-leb, eq-eqb, ne_eqb}
 use Rattle.sym_model.specs.Sum.{total, Among}
 use Rattle.sym_model.specs.Polynomial.{same}
@@ -13,10 +13,11 @@ use Rattle.sym_model.specs.Arrangement.{arrangements}
 use Rattle.sym_model.proofs.Sums.{total_ext, total_among, total_none, total_map, total_each, total_select, total_exchange, Among_from_select}
 use Rattle.sym_model.proofs.Exponents.{tests_agree, same_from, same_true, same_apart}
 use Rattle.sym_model.proofs.Monomials.{total_down_from-only, members_of-exponent_lists}
-use Rattle.sym_model.proofs.SortedParts.{without_one-insert_part, insert_part-without_one, has-insert_part, has-zero, without_one-zero, size-without_one, zero_or_has, has-zero_or, rows-sorted_parts}
+use Rattle.sym_model.proofs.SortedParts.{without_one-insert_part, insert_part-without_one, has-insert_part, has-zero, without_one-zero, zero_or_has, has-zero_or, rows-sorted_parts}
 use Rattle.monomial_laws.proofs.PowerSums.{total_distinct-only}
 use Rattle.monomial_laws.proofs.PowerSumLists.{has_from-distinct}
 use lib.IntN.{+ℤ_idr}
+use Rattle.sparse_polys.proofs.StepWays.{size-taken}
 
 -- the number put in front of what sorts to σ sorts to λ exactly where σ is λ without it
 put_test : (a : ℕ) (parts σ : List ℕ) → IsPartition parts → has a (0 ∷ parts) ≡ true → same (insert_part a σ) parts ≡ same σ (without_one a parts)
@@ -38,14 +39,6 @@ no_test (suc a) parts σ h =
     (λ e. let t : has (suc a) parts ≡ true = ap (has (suc a)) (sym e) ∙ has-insert_part (suc a) σ (omega arith) in
     let u = has-zero_or (suc a) parts (inr t) in absurd (cc))
 
-pub left_size : (a : ℕ) (parts : List ℕ) → IsPartition parts → has a (0 ∷ parts) ≡ true → a + size (without_one a parts) ≡ size parts
-left_size zero parts p h = let e = ap size (without_one-zero parts p.positive) in omega arith
-left_size (suc a) parts p h = by (zero_or_has (suc a) parts h)
-  where
-    by : (suc a ≡ 0) ⊎ (has (suc a) parts ≡ true) → suc a + size (without_one (suc a) parts) ≡ size parts
-    by (inl e) = absurd (omega arith)
-    by (inr e) = size-without_one (suc a) parts e
-
 -- the sum over the arrangements in which the number a stands in front
 abbrev beginning : (List ℕ → ℤ) → List ℕ → ℕ → ℕ → ℤ
 beginning F parts n a = total (λ α. F (a ∷ α)) (arrangements (without_one a parts) n)
@@ -59,7 +52,7 @@ chosen-is F parts n a p = by (has a (0 ∷ parts)) refl
   where
     by : (t : Bool) → has a (0 ∷ parts) ≡ t → chosen F parts n a ≡ cond t (beginning F parts n a) (pos 0)
     by true h =
-        let s : size parts - a ≡ size (without_one a parts) = let e = left_size a parts p h in omega arith in
+        let s : size parts - a ≡ size (without_one a parts) = let e = size-taken a parts p h in omega arith in
         ap (λ k. total (λ α. cond (same (insert_part a (sorted_parts α)) parts) (F (a ∷ α)) (pos 0)) (exponent_lists n k)) s
         ∙ total_ext (λ (α : List ℕ). cond (same (insert_part a (sorted_parts α)) parts) (F (a ∷ α)) (pos 0)) (λ (α : List ℕ). cond (same (sorted_parts α) (without_one a parts)) (F (a ∷ α)) (pos 0))
         (λ α. ap (λ t. cond t (F (a ∷ α)) (pos 0)) (put_test a parts (sorted_parts α) p h)) (exponent_lists n (size (without_one a parts)))
@@ -70,7 +63,7 @@ chosen-is F parts n a p = by (has a (0 ∷ parts)) refl
 
 -- a part, or 0, is no more than the size
 within_size : (b : ℕ) (parts : List ℕ) → IsPartition parts → has b (0 ∷ parts) ≡ true → b ≤ size parts
-within_size b parts p h = let e = left_size b parts p h in omega arith
+within_size b parts p h = let e = size-taken b parts p h in omega arith
 
 distinct-zero : (parts : List ℕ) → ArePositive parts → distinct (0 ∷ parts) ≡ 0 ∷ distinct parts
 distinct-zero parts p = ap (λ t. cond t (distinct parts) (0 ∷ distinct parts)) (has-zero parts p)

@@ -23,17 +23,18 @@ use Rattle.basis_expand.proofs.Quotients.{Quotients}
 use Rattle.basis_change.specs.declared.mixed.MixedLabel.{MixedLabel}
 use Rattle.basis_change.specs.Mixed.{Mixed, weight, converted_terms}
 use Rattle.basis_change.specs.Arranging.{at_label}
-use Rattle.basis_change.proofs.Tables.{abs-sum, at_label-itself}
+use Rattle.basis_change.proofs.Tables.{at_label-itself}
 use Rattle.std.proofs.lemmas.Nat.{le-div, mul-le}
 use Rattle.std.proofs.Common.{lit≤, pow-suc}
-use Rattle.std.proofs.Math.Nat.{pow-zero}
 use Rattle.sym_model.specs.Expansion.{Basis}
 use Rattle.sym_model.specs.Weight.{factorial, growth}
+use Rattle.sym_model.proofs.Numbers.{power-base, power-positive}
+use Rattle.sym_model.proofs.Integers.{nat_abs-sum}
 use Rattle.basis_change.specs.declared.factors.Family.{Family}
 use Rattle.basis_change.specs.declared.factors.Family.TheVariants.{Elementary, Complete, PowerSum}
 use Rattle.basis_change.specs.Factors.{basis_in}
-use Rattle.basis_change.proofs.PartLists.{factorial-mono}
-use native.Mathlib.Nat.{mul-pos, mul-le-mul_left, mul-le-mul_right}
+use native.Mathlib.Nat.{mul-le-mul_left, mul-le-mul_right}
+use Rattle.monomial_laws.proofs.Growths.{factorial-mono}
 
 pub itself : (es : Terms (List ℕ)) → terms_of (λ (r : Fraction). r) es ≡ es
 itself [] = refl
@@ -66,7 +67,7 @@ coefficient-size : (es : Mixed) (label : List ℕ) → nat_abs (coefficient (con
 coefficient-size [] label = omega (arith, ints)
 coefficient-size (t ∷ es) label =
     let r = coefficient-size es label in
-    let s = abs-sum (cond (same t.0.converted label) t.1 (pos 0)) (coefficient (converted_terms es) label) in
+    let s = nat_abs-sum (cond (same t.0.converted label) t.1 (pos 0)) (coefficient (converted_terms es) label) in
     let h = by (same t.0.converted label) t.1 in
     omega arith
   where
@@ -120,14 +121,6 @@ same_growth Complete zero = refl
 same_growth Complete (suc d) = refl
 same_growth PowerSum zero = refl
 same_growth PowerSum (suc d) = refl
-
-power-base : (a b d : ℕ) → a ≤ b → a ^ d ≤ b ^ d
-power-base a b zero h = rw (pow-zero a, pow-zero b) (omega arith)
-power-base a b (suc d) h = let p = mul-le (a ^ d) a (b ^ d) b (power-base a b d h) h in rw (pow-suc a d, pow-suc b d) p
-
-power-positive : (a d : ℕ) → 0 < a → 0 < a ^ d
-power-positive a zero h = rw (pow-zero a) (omega arith)
-power-positive a (suc d) h = rw (pow-suc a d) (mul-pos (power-positive a d h) h)
 
 growth-up : (d : ℕ) → growth Basis.completes d ≤ growth Basis.completes (suc d)
 growth-up zero = lit≤ tt

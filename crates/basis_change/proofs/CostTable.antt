@@ -10,23 +10,20 @@ use Rattle.sym_model.specs.Partition.{IsPartition, size}
 use Rattle.sym_model.specs.Bases.{down_from}
 use Rattle.sym_model.specs.PartitionList.{partitions_of, partitions_within}
 use Rattle.sym_model.specs.Expansion.{Basis, Fraction, Terms}
-use Rattle.sym_model.specs.Canonical.{is_reduced}
-use Rattle.sym_model.specs.LabelLimits.{is_label}
 use Rattle.sym_model.specs.ListWeight.{IsBounded, factorials}
 use Rattle.sym_model.specs.Weight.{factorial, growth}
 use Rattle.sym_model.proofs.Sums.{without, Among-without, Among-each, Within_tail}
 use Rattle.sym_model.proofs.PartitionLists.{Among-partitions_of}
-use Rattle.sym_model.proofs.CanonicalLists.{each_term-among}
-use Rattle.sym_model.proofs.Orders.{is_label-tells}
 use Rattle.basis_change_laws.specs.AugmentedMonomial.{multiplicity_factorials}
 use Rattle.basis_expand.specs.Tables.{IsTable}
 use Rattle.basis_expand.specs.LabelSizes.{AreWithin}
 use Rattle.basis_expand.proofs.WholeLists.{Once-keys}
+use Rattle.basis_expand.proofs.TableSums.{label-partition}
 use Rattle.basis_change.specs.Mixed.{mixed, weight}
 use Rattle.basis_change.specs.Clearing.{cleared_number, cleared_terms, HasFactors}
 use Rattle.basis_change.specs.Costs.{doubled, cost}
-use Rattle.basis_change.proofs.Costs.{factorial-positive}
 use native.Mathlib.Nat.{mul-pos, mul-le-mul_left, mul-le-mul_right}
+use Rattle.monomial_laws.proofs.Growths.{factorial-positive}
 
 -- ---- the table
 
@@ -131,7 +128,7 @@ pub factorials-positive : (parts : List ℕ) → 0 < factorials parts
 factorials-positive [] = omega arith
 factorials-positive (a ∷ parts) = mul-pos (factorial-positive a) (factorials-positive parts)
 
-cancel-le : (a b c : ℕ) → 0 < c → a * c ≤ b * c → a ≤ b
+pub cancel-le : (a b c : ℕ) → 0 < c → a * c ≤ b * c → a ≤ b
 cancel-le a b c p h = by (cases_lt b a)
   where
     by : (b < a) ⊎ (a ≤ b) → a ≤ b
@@ -181,12 +178,9 @@ module _ (N D d : ℕ) (low : d ≤ 15) where
   labels_among (t ∷ terms) p w x (inl e) = subst (λ l. Among l (partitions_to d)) (sym e) (among_to d t.0 (p t (inl refl)) (w t (inl refl)))
   labels_among (t ∷ terms) p w x (inr m) = labels_among terms (λ u n. p u (inr n)) (λ u n. w u (inr n)) x m
 
-pub label_partition : (terms : Terms (List ℕ)) → IsTable terms → (t : List ℕ × Fraction) → Among t terms → IsPartition t.0
-label_partition terms is t m = (is_label-tells t.0 (and_parts (is_reduced t.1) (is_label t.0) (each_term-among _ terms is.proper t m)).1).partition
-
 pub cost-within : (N D d : ℕ) (terms : Terms (List ℕ)) → d ≤ 15 → IsTable terms → AreWithin d terms → IsBounded N D terms → weight cost (cleared_terms D (factorial d) terms) ≤ N * growth Basis.completes d
 cost-within N D d terms low is w b =
-    let p = label_partition terms is in
+    let p = label-partition terms is in
     let x = list-cost N D d low terms p w b in
     let y = sum-within (label_cost d) (map (λ (t : List ℕ × Fraction). t.0) terms) (partitions_to d) (Once-keys terms is) (labels_among N D d low terms p w) in
     let z = costs-within d low in
@@ -195,7 +189,7 @@ cost-within N D d terms low is w b =
 
 pub has-factors : (d : ℕ) (terms : Terms (List ℕ)) → d ≤ 15 → IsTable terms → AreWithin d terms → HasFactors (factorial d) terms
 has-factors d terms low is w t m =
-    let div = divides-at d t.0 low (label_partition terms is t m) (w t m) in
+    let div = divides-at d t.0 low (label-partition terms is t m) (w t m) in
     let e = div.multiplicities in
     let f = factorial-positive d in
     small (factorial d / multiplicity_factorials t.0) (multiplicity_factorials t.0) (factorial d) e f

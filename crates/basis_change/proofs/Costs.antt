@@ -2,33 +2,30 @@
 -- times about 2 to the number of its cells, and converting costs no more than what is converted.
 --     weight-conversions      the cost of all terms does not rise
 --     ready-conversions       and their augmented monomials have one part less at most
-use Rattle.std.proofs.Common.{◌≡◌, ◌⊎◌, ℕ, zero, suc, ◌+◌, ◌-◌, ◌*◌, ◌^◌, ◌<◌, ◌≤◌, true, List, [], ◌∷◌, ◌++◌, length, refl, sym, ap, ap₂, ◌∙◌, subst, inl, inr, arith, ℤ, pos, neg_ℤ, ◌*ℤ◌}
+use Rattle.std.proofs.Common.{◌≡◌, ◌⊎◌, ℕ, zero, suc, ◌+◌, ◌-◌, ◌*◌, ◌^◌, ◌<◌, ◌≤◌, List, [], ◌∷◌, ◌++◌, length, refl, sym, ap, ap₂, ◌∙◌, subst, inl, inr, arith, ℤ, pos, neg_ℤ, ◌*ℤ◌}
 use Rattle.std.specs.Prelude.{nat_abs}
 use Rattle.std.proofs.lemmas.Int.{ints, unsigned_abs-mul}
 use Rattle.std.proofs.lemmas.Bool.{cases_eq}
 use Rattle.sym_model.specs.Sum.{Among}
 use Rattle.sym_model.specs.Partition.{IsPartition, size}
-use Rattle.sym_model.specs.Bases.{has}
 use Rattle.sym_model.specs.RaisedPart.{raise, without_one}
 use Rattle.sym_model.specs.Weight.{factorial}
-use Rattle.sym_model.proofs.SortedParts.{IsPartition-raise, size-raise, rows-insert_part, has-zero_or, has_here, has_past, without_one_here, without_one_past}
+use Rattle.sym_model.proofs.SortedParts.{IsPartition-raise, size-raise, rows-insert_part, has-zero_or, without_one_here, without_one_past, has-among, IsPartition_tail}
+use Rattle.sym_model.proofs.Integers.{zero_or_not}
 use Rattle.basis_change.specs.declared.mixed.MixedLabel.{MixedLabel}
 use Rattle.basis_change.specs.declared.factors.Family.{Family}
 use Rattle.basis_change.specs.Mixed.{Mixed, mixed, weight, is_past, AreLow, unready, AreReady, merged, products, raised, mixed_at, conversion_at, conversions}
 use Rattle.basis_change.specs.Costs.{doubled, cost}
 use Rattle.basis_change.specs.Factors.{IsPowerSum, ArePowerSums}
 use Rattle.basis_change.proofs.Tables.{weight-append}
-use Rattle.basis_change.proofs.PartLists.{factorial-mono, IsPartition-merged, size-merged}
-use Rattle.basis_change.proofs.Walks.{low_label, IsReadyLabel, ready_label, unready-from, zero_or_not, zero_weight}
+use Rattle.basis_change.proofs.PartLists.{IsPartition-merged, size-merged}
+use Rattle.basis_change.proofs.Walks.{low_label, IsReadyLabel, ready_label, unready-from, zero_weight}
 use Rattle.basis_change.proofs.Conversions.{conversion_at-zero, conversion_at-other, conversion_at-here}
-use Rattle.basis_change.proofs.Values.{tail}
 use Rattle.std.proofs.lemmas.Nat.{pow-add}
 use Rattle.std.proofs.Common.{pow-suc}
 use lib.IntN.{zero-*ℤ}
 use native.Mathlib.Nat.{mul-pos, mul-le-mul_left, mul-le-mul_right}
-
-pub factorial-positive : (k : ℕ) → 0 < factorial k
-factorial-positive k = let h = factorial-mono 0 k (omega arith) in omega arith
+use Rattle.monomial_laws.proofs.Growths.{factorial-positive, factorial-mono}
 
 pub pow-positive : (s : ℕ) → 0 < 2 ^ s
 pow-positive zero = omega arith
@@ -83,15 +80,6 @@ weight-raised c converted a rest (b ∷ numbers) B h =
     turned : (c : ℤ) → nat_abs (neg_ℤ c) ≡ nat_abs c
     turned c = omega (arith, ints)
 
-has_among : (b : ℕ) (l : List ℕ) → Among b l → has b l ≡ true
-has_among b [] m = absurd m
-has_among b (d ∷ l) (inl e) = has_here b d l (sym e)
-has_among b (d ∷ l) (inr m) = by (cases_eq d b) (has_among b l m)
-  where
-    by : (d ≡ b) ⊎ (d ≡ b → ⊥) → has b l ≡ true → has b (d ∷ l) ≡ true
-    by (inl e) r = has_here b d l e
-    by (inr n) r = has_past b d l n ∙ r
-
 rows-without : (b : ℕ) (l : List ℕ) → Among b l → length (without_one b l) + 1 ≡ length l
 rows-without b [] m = absurd m
 rows-without b (d ∷ l) m = by (cases_eq d b) m (rows-without b l)
@@ -105,7 +93,7 @@ pub rows-raise : (a b : ℕ) (rest : List ℕ) → Among b rest → length (rais
 rows-raise a b rest m = let h = rows-insert_part (a + b) (without_one b rest) in let k = rows-without b rest m in omega arith
 
 raise-size : (a b : ℕ) (rest : List ℕ) → IsPartition rest → Among b rest → size (raise a b rest) ≡ a + size rest
-raise-size a b rest p m = size-raise a b rest p (has-zero_or b rest (inr (has_among b rest m)))
+raise-size a b rest p m = size-raise a b rest p (has-zero_or b rest (inr (has-among b rest m)))
 
 cost-raised : (converted : List ℕ) (a b : ℕ) (rest : List ℕ) → IsPartition rest → Among b rest → cost (mixed converted (raise a b rest)) ≤ factorial (length rest) * doubled (a + size rest)
 cost-raised converted a b rest p m =
@@ -122,7 +110,7 @@ weight-converted family c factor converted a rest is p =
     let D = doubled (a + size rest) in
     let x = weight-append cost (products c factor converted rest) (raised c converted a rest rest) in
     let y = weight-products c factor converted rest in
-    let z = weight-raised c converted a rest rest (F * D) (λ b m. cost-raised converted a b rest (tail a rest p) m) in
+    let z = weight-raised c converted a rest rest (F * D) (λ b m. cost-raised converted a b rest (IsPartition_tail a rest p) m) in
     let d = doubled-times P a (size rest) is.few p.positive.0 in
     let e : (nat_abs c * F) * (P * doubled (size rest)) ≤ (nat_abs c * F) * D = mul-le-mul_left (nat_abs c * F) d in
     closing (weight cost (products c factor converted rest)) (weight cost (raised c converted a rest rest)) (weight cost (products c factor converted rest ++ raised c converted a rest rest)) P (nat_abs c) F (doubled (size rest)) D (length rest) x y z e
@@ -237,8 +225,8 @@ ready-conversion_at family d rows factors l z are ready = by (zero_or_not z)
                 let is : IsPowerSum family a (mixed_at factors (a - 1)) = subst (λ k. IsPowerSum family k (mixed_at factors (a - 1))) j (are (a - 1) i) in
                 let xs = products z (mixed_at factors (a - 1)) l.converted rest in
                 let ys = raised z l.converted a rest rest in
-                let x : AreReady d rows (products z (mixed_at factors (a - 1)) l.converted rest) = ready-products family d rows z a (mixed_at factors (a - 1)) l.converted rest is.low r.converted (tail a rest p) (omega arith) (omega arith) in
-                let y : AreReady d rows (raised z l.converted a rest rest) = ready-raised d rows z l.converted a rest rest r.converted (tail a rest p) (omega arith) (omega arith) (λ b h. h) in
+                let x : AreReady d rows (products z (mixed_at factors (a - 1)) l.converted rest) = ready-products family d rows z a (mixed_at factors (a - 1)) l.converted rest is.low r.converted (IsPartition_tail a rest p) (omega arith) (omega arith) in
+                let y : AreReady d rows (raised z l.converted a rest rest) = ready-raised d rows z l.converted a rest rest r.converted (IsPartition_tail a rest p) (omega arith) (omega arith) (λ b h. h) in
                 let w = weight-append (unready d rows) xs ys in
                 subst (λ (m : Mixed). AreReady d rows m) (sym (conversion_at-here factors (suc rows) l z a rest m k e)) (w ∙ ap₂ ◌+◌ x y ∙ omega arith)
 

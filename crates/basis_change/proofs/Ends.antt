@@ -1,15 +1,15 @@
 -- What the list and the answer stand for.
 --     expansion-by          from a list in m to an answer in another basis
 --     expansion-changed     to the answer in a family
-use Rattle.std.proofs.Common.{◌≡◌, ◌⊎◌, ℕ, ◌*◌, ◌/◌, ◌<◌, ◌≤◌, List, [], ◌∷◌, length, refl, sym, ap, ap₂, ◌∙◌, inl, inr, arith, ℤ, pos, ◌+ℤ◌, ◌*ℤ◌}
+use Rattle.std.proofs.Common.{◌≡◌, ℕ, ◌*◌, ◌/◌, ◌<◌, ◌≤◌, List, [], ◌∷◌, length, refl, sym, ap, ap₂, ◌∙◌, inl, inr, arith, ℤ, pos, ◌+ℤ◌, ◌*ℤ◌}
 use Rattle.std.proofs.lemmas.Int.{ints}
 use Rattle.std.proofs.Math.Nat.{div-mul_cancel}
 use Rattle.std.proofs.lemmas.Nat.Gcd.{dvd_of_mod-eq-zero}
 use Rattle.coeff_rings.specs.Proved.Fractions.{product_cancel}
 use Rattle.sym_model.specs.Sum.{total, Among}
-use Rattle.sym_model.specs.Polynomial.{Poly, coefficient, pair, times, one, scale, plus}
+use Rattle.sym_model.specs.Polynomial.{Poly, coefficient, pair, times, one}
 use Rattle.sym_model.specs.Bases.{monomial, product_over}
-use Rattle.sym_model.specs.Expansion.{Basis, basis_polynomial, Fraction, Terms, denominators, cleared, value_by, IsExpansionOf}
+use Rattle.sym_model.specs.Expansion.{Basis, basis_polynomial, Fraction, Terms, denominators, value_by, IsExpansionOf}
 use Rattle.sym_model.specs.ListWeight.{IsBounded}
 use Rattle.sym_model.specs.Weight.{factorial}
 use Rattle.sym_model.specs.WholeTerms.{WholeTerms, combined}
@@ -17,14 +17,15 @@ use Rattle.sym_model.proofs.Ring.{ring, product_assoc}
 use Rattle.sym_model.proofs.Sums.{total_map}
 use Rattle.sym_model.proofs.Polynomials.{pair_scale, pair_determined, coefficient_scale, at_only, coefficient_pair}
 use Rattle.sym_model.proofs.PolynomialLaws.{one-times}
-use Rattle.sym_model.proofs.WholeTerms.{pair_of_combined, coefficient-combined}
+use Rattle.sym_model.proofs.WholeTerms.{pair_of_combined}
 use Rattle.monomial_laws.specs.ExpressionTerms.{in_monomials, over}
-use Rattle.monomial_laws.proofs.DividedTerms.{labels_of, over-there, over-missing, among_or_not, divides-denominators, IsDivided}
+use Rattle.monomial_laws.proofs.DividedTerms.{over-there, over-missing, IsDivided, value-divided}
 use Rattle.basis_change_laws.specs.AugmentedMonomial.{augmented, multiplicity_factorials}
 use Rattle.basis_expand.specs.Tables.{IsTable}
 use Rattle.basis_expand.specs.LabelSizes.{AreWithin}
 use Rattle.basis_expand.proofs.WholeLists.{Once-keys}
 use Rattle.basis_expand.proofs.Quotients.{Quotients, IsDivided-quotients}
+use Rattle.basis_expand.proofs.TableSums.{label-partition}
 use Rattle.basis_change.specs.declared.mixed.MixedLabel.{MixedLabel}
 use Rattle.basis_change.specs.declared.factors.Family.{Family}
 use Rattle.basis_change.specs.declared.factors.Family.TheVariants.{Elementary, Complete, PowerSum}
@@ -34,9 +35,9 @@ use Rattle.basis_change.specs.Factors.{polynomial_of, basis_in, product_value}
 use Rattle.basis_change.proofs.Walks.{ready_label}
 use Rattle.basis_change.proofs.Values.{In-augmented, weighed-agree}
 use Rattle.basis_change.proofs.Newton.{label_value, label_value-is}
-use Rattle.basis_change.proofs.CostTable.{divides-at, label_partition}
+use Rattle.basis_change.proofs.CostTable.{divides-at}
 use native.Mathlib.Nat.{mul-pos}
-use lib.IntN.{*ℤ_comm, *ℤ-zero}
+use lib.IntN.{*ℤ-zero}
 
 -- ---- the start
 
@@ -83,45 +84,6 @@ end-value family n d φ es ready =
     none (a ∷ rest) l e h = absurd (let s = ap length e in omega arith)
 
 -- ---- a list and its whole multiple
-
-scaled-over : (D : ℕ) (W : WholeTerms) (terms : Terms (List ℕ)) → IsDivided D W terms → (label : List ℕ)
-    → pos D *ℤ coefficient (over (denominators terms) terms) label ≡ pos (denominators terms) *ℤ coefficient W label
-scaled-over D W terms d label = by (among_or_not label terms)
-  where
-    by : ((t : List ℕ × Fraction) × Among t terms × (t.0 ≡ label)) ⊎ (Among label (labels_of terms) → ⊥) → pos D *ℤ coefficient (over (denominators terms) terms) label ≡ pos (denominators terms) *ℤ coefficient W label
-    by (inl (t, m, e)) =
-        ap (λ l. pos D *ℤ coefficient (over (denominators terms) terms) l) (sym e)
-        ∙ ap (λ z. pos D *ℤ z) (over-there (denominators terms) terms d.once t m)
-        ∙ sum (t.1.0) (coefficient W t.0) D t.1.1 (denominators terms / t.1.1) (denominators terms) (d.there t m) (div-mul_cancel t.1.1 (divides-denominators terms t m))
-        ∙ ap (λ l. pos (denominators terms) *ℤ coefficient W l) e
-      where
-        sum : (n w : ℤ) (D den r q : ℕ) → n *ℤ pos D ≡ w *ℤ pos den → r * den ≡ q → pos D *ℤ (n *ℤ pos r) ≡ pos q *ℤ w
-        sum n w D den r q a b =
-            sym (product_assoc (pos D) n (pos r))
-            ∙ ap (λ z. z *ℤ pos r) (*ℤ_comm (pos D) n ∙ a)
-            ∙ product_assoc w (pos den) (pos r)
-            ∙ ap (λ k. w *ℤ pos k) (let c : den * r ≡ q = omega arith in c)
-            ∙ *ℤ_comm w (pos q)
-    by (inr n) =
-        ap (λ z. pos D *ℤ z) (over-missing (denominators terms) terms label n) ∙ *ℤ-zero (pos D)
-        ∙ sym (ap (λ z. pos (denominators terms) *ℤ z) (d.missing label n) ∙ *ℤ-zero (pos (denominators terms)))
-
-cleared-combined : (polynomial : List ℕ → Poly) (q : ℕ) (terms : Terms (List ℕ)) → cleared polynomial q terms ≡ combined polynomial (over q terms)
-cleared-combined polynomial q [] = refl
-cleared-combined polynomial q (t ∷ terms) = ap (plus (scale (t.1.0 *ℤ pos (q / t.1.1)) (polynomial t.0))) (cleared-combined polynomial q terms)
-
-value-divided : (polynomial : List ℕ → Poly) (D : ℕ) (W : WholeTerms) (terms : Terms (List ℕ)) → IsDivided D W terms → (α : List ℕ)
-    → pos D *ℤ coefficient (value_by polynomial terms) α ≡ pos (denominators terms) *ℤ coefficient (combined polynomial W) α
-value-divided polynomial D W terms d α =
-    let ψ : List ℕ → ℤ = λ l. coefficient (polynomial l) α in
-    let O = over (denominators terms) terms in
-    ap (λ f. pos D *ℤ coefficient f α) (cleared-combined polynomial (denominators terms) terms)
-    ∙ ap (λ z. pos D *ℤ z) (coefficient-combined polynomial O α)
-    ∙ sym (pair_scale (pos D) O ψ)
-    ∙ pair_determined (scale (pos D) O) (scale (pos (denominators terms)) W) ψ
-    (λ l. coefficient_scale (pos D) O l ∙ scaled-over D W terms d l ∙ sym (coefficient_scale (pos (denominators terms)) W l))
-    ∙ pair_scale (pos (denominators terms)) W ψ
-    ∙ ap (λ z. pos (denominators terms) *ℤ z) (sym (coefficient-combined polynomial W α))
 
 -- the list that is changed
 pub IsDivided-list : (N D : ℕ) (terms : Terms (List ℕ)) → 0 < denominators terms → IsTable terms → IsBounded N D terms → IsDivided D (over D terms) terms
@@ -205,5 +167,5 @@ expansion-changed family N D d terms answer end some low is w b same_value e rea
         ∙ coefficient_pair (combined (λ label. product_over (polynomial_of family) label n) (converted_terms end)) α
         ∙ sym (end-value family n e (at_only α) end ready)
         ∙ same_value n (at_only α)
-        ∙ start-value family n D (factorial d) (at_only α) terms (λ t m. (divides-at d t.0 low (label_partition terms is t m) (w t m)).multiplicities)
+        ∙ start-value family n D (factorial d) (at_only α) terms (λ t m. (divides-at d t.0 low (label-partition terms is t m) (w t m)).multiplicities)
         ∙ ap (λ z. pos (factorial d) *ℤ z) (sym (pair-over n D (at_only α) terms) ∙ sym (coefficient_pair (in_monomials (over D terms) n) α))

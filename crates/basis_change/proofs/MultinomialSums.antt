@@ -3,11 +3,11 @@
 --     multinomial            the coefficient of an exponent list in the power of x_1 + .. + x_n with its sum
 --     multinomials-within    those of the arrangements of different partitions of s add up to at most n^s
 --     arranged-within        a number bounded by a multinomial, once for each arrangement
-use Rattle.std.proofs.Common.{◌≡◌, ◌⊎◌, ℕ, zero, suc, ◌+◌, ◌*◌, ◌^◌, ◌<◌, ◌≤◌, Bool, true, false, cond, eqb, List, [], ◌∷◌, map, refl, sym, ap, ◌∙◌, subst, inl, inr, arith, pow-suc, ℤ, pos, ◌+ℤ◌, ◌*ℤ◌}
+use Rattle.std.proofs.Common.{◌≡◌, ◌⊎◌, ℕ, zero, suc, ◌*◌, ◌^◌, ◌≤◌, Bool, true, false, cond, eqb, List, [], ◌∷◌, map, refl, sym, ap, ◌∙◌, subst, inl, inr, arith, pow-suc, ℤ, pos, ◌+ℤ◌, ◌*ℤ◌}
 use Rattle.std.specs.Prelude.{◌≤ℤ◌, nat_le}
 use Rattle.std.proofs.Common.{negsuc}
 use Rattle.std.proofs.lemmas.Int.{ints}
-use Rattle.std.proofs.lemmas.Bool.{cases_eq, cases_lt, eq-eqb, ne_eqb}
+use Rattle.std.proofs.lemmas.Bool.{cases_eq, eq-eqb, ne_eqb}
 use Rattle.std.proofs.Math.Nat.{pow-zero}
 use Rattle.sym_model.specs.Sum.{total, Among, Once}
 use Rattle.sym_model.specs.Polynomial.{same, coefficient, pair}
@@ -26,7 +26,7 @@ use Rattle.monomial_laws.specs.Majorant.{power, factorials as plain_factorials}
 use Rattle.monomial_laws.proofs.Powers.{coefficient_power, power-nonnegative, factorials-positive}
 use Rattle.monomial_laws.proofs.SchurMajorants.{pair-power}
 use Rattle.basis_change.proofs.ArrangementSteps.{IsArrangement, arrangement}
-use native.Mathlib.Nat.{mul-le-mul_right}
+use Rattle.basis_change.proofs.CostTable.{cancel-le}
 use lib.IntN.{+ℤ_idl}
 
 -- ---- sums within sums
@@ -141,13 +141,6 @@ factorials-sorted (a ∷ α) = factorials-insert a (sorted_parts α) ∙ ap (λ 
 same_factorials : (parts : List ℕ) → plain_factorials parts ≡ factorials parts
 same_factorials [] = refl
 same_factorials (a ∷ parts) = ap (λ n. factorial a * n) (same_factorials parts)
-
-cancel-le : (a b c : ℕ) → 0 < c → a * c ≤ b * c → a ≤ b
-cancel-le a b c p h = by (cases_lt b a)
-  where
-    by : (b < a) ⊎ (a ≤ b) → a ≤ b
-    by (inl l) = absurd (let m : (b + 1) * c ≤ a * c = mul-le-mul_right c (let t : b + 1 ≤ a = omega arith in t) in let e : (b + 1) * c ≡ b * c + c = omega arith in omega arith)
-    by (inr l) = l
 
 -- a number bounded by the multinomial of a partition
 bounded_at : (x N n : ℕ) (parts α : List ℕ) → IsArrangement parts n α → x * factorials parts ≤ N * factorial (size parts) → pos x ≤ℤ (pos N *ℤ multinomial (size parts) n α)

@@ -14,7 +14,7 @@ use Rattle.sym_model.proofs.Sums.{total_ext, total_among, total_scale, total_app
 use Rattle.sym_model.proofs.Polynomials.{pair_each, pair_scale, pair_monomials, pair_determined, pair_one, same_from_pair, Same_refl, Same_trans, times_respects}
 use Rattle.sym_model.proofs.PolynomialLaws.{times-one}
 use Rattle.sym_model.proofs.Monomials.{total_exponent_lists-zero}
-use Rattle.sym_model.proofs.AfterLists.{after_among}
+use Rattle.sym_model.proofs.AfterLists.{after_among, after-last}
 use Rattle.monomial_laws.proofs.Powers.{In-product_over, In-power_sum_of}
 use Rattle.basis_change_laws.specs.AugmentedMonomial.{augmented}
 use Rattle.basis_change_laws.proofs.NewtonIdentities.{newton_complete, newton_elementary}
@@ -31,19 +31,17 @@ use Rattle.sym_model.specs.Polynomial.{same}
 use Rattle.sym_model.specs.Partition.{sorted_parts}
 use Rattle.sym_model.specs.Bases.{monomial}
 use Rattle.sym_model.proofs.SortedParts.{sorted_parts-zeros}
+use Rattle.sym_model.proofs.Signs.{minus_one_to_add}
+use Rattle.sym_model.proofs.Integers.{zero_or_not}
 use Rattle.basis_change.specs.Factors.{polynomial_of, sign, product_value, IsPowerSum, ArePowerSums, newton_products, newton_terms}
 use Rattle.basis_change.proofs.Tables.{weighed-append, weight-append}
 use Rattle.basis_change.proofs.PartLists.{IsPartition-merged, size-merged}
-use Rattle.basis_change.proofs.Walks.{low_label, is_past-from, zero_or_not, zero_weight}
+use Rattle.basis_change.proofs.Walks.{low_label, is_past-from, zero_weight}
 use Rattle.basis_change.proofs.Values.{value-products, In-family}
 use Rattle.basis_change.proofs.Costs.{pow-positive}
 use lib.IntN.{zero-*ℤ, +ℤ_idl}
 
 -- ---- the numbers 1, .., k, the last one apart
-
-pub after-last : (a k : ℕ) → after a (suc k) ≡ after a k ++ ((a + suc k) ∷ [])
-after-last a zero = ap (λ x. x ∷ []) (omega arith)
-after-last a (suc k) = let e : a + 1 + suc k ≡ a + suc (suc k) = omega arith in ap (λ l. (a + 1) ∷ l) (after-last (a + 1) k ∙ ap (λ x. after (a + 1) k ++ (x ∷ [])) e)
 
 total-last : (f : ℕ → ℤ) (k : ℕ) → total f (after 0 (suc k)) ≡ total f (after 0 k) +ℤ f (suc k)
 total-last f k =
@@ -89,18 +87,6 @@ times-zero_th f k n h =
 
 -- ---- signs
 
-minus-add : (a b : ℕ) → minus_one_to (a + b) ≡ minus_one_to a *ℤ minus_one_to b
-minus-add zero b = let e : 0 + b ≡ b = omega arith in ap minus_one_to e ∙ one_front (minus_one_to b)
-  where
-    one_front : (x : ℤ) → x ≡ pos 1 *ℤ x
-    one_front x = omega (arith, ints)
-minus-add (suc a) b =
-    let e : suc a + b ≡ suc (a + b) = omega arith in
-    ap minus_one_to e ∙ ap neg_ℤ (minus-add a b) ∙ pulled (minus_one_to a) (minus_one_to b)
-  where
-    pulled : (x y : ℤ) → neg_ℤ (x *ℤ y) ≡ neg_ℤ x *ℤ y
-    pulled x y = simp ring (omega (arith, ints))
-
 minus-square : (a : ℕ) → minus_one_to a *ℤ minus_one_to a ≡ pos 1
 minus-square zero = refl
 minus-square (suc a) = both (minus_one_to a) ∙ minus-square a
@@ -113,7 +99,7 @@ minus-difference : (i j : ℕ) → i ≤ j → minus_one_to j *ℤ minus_one_to 
 minus-difference i j h =
     let e : (j - i) + i ≡ j = omega arith in
     ap (λ k. minus_one_to k *ℤ minus_one_to i) (sym e)
-    ∙ ap (λ x. x *ℤ minus_one_to i) (minus-add (j - i) i)
+    ∙ ap (λ x. x *ℤ minus_one_to i) (minus_one_to_add (j - i) i)
     ∙ grouped (minus_one_to (j - i)) (minus_one_to i)
     ∙ ap (λ x. minus_one_to (j - i) *ℤ x) (minus-square i)
     ∙ one_behind (minus_one_to (j - i))

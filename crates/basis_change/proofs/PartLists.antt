@@ -1,7 +1,7 @@
 -- Partitions with parts put in, one place after another.
 use Rattle.std.proofs.Common.{◌≡◌, ℕ, zero, suc, ◌+◌, ◌*◌, ◌<◌, ◌≤◌, ◌^◌, Bool, cond, List, [], ◌∷◌, length, take, drop, get_or, refl, sym, ap, ◌∙◌, subst, arith}
 use Rattle.std.proofs.Math.Seq.{drop-cons}
-use Rattle.sym_model.specs.Partition.{IsPartition, ArePositive, size, insert_part}
+use Rattle.sym_model.specs.Partition.{IsPartition, size, insert_part}
 use Rattle.sym_model.specs.Weight.{factorial}
 use Rattle.sym_model.proofs.SortedParts.{IsPartition-insert_part, size-insert_part}
 use Rattle.std.proofs.Common.{◌-◌, lit<}
@@ -11,7 +11,8 @@ use Rattle.sym_model.specs.RaisedPart.{without_one}
 use Rattle.basis_change_laws.specs.AugmentedMonomial.{multiplicity_factorials}
 use Rattle.basis_change_laws.proofs.AugmentedMonomials.{multiplicity_factorials-cons}
 use Rattle.basis_change.specs.Mixed.{merged}
-use native.Mathlib.Nat.{mul-pos, mul-le-mul_left, mul-le-mul_right}
+use native.Mathlib.Nat.{mul-pos, mul-le-mul_left}
+use Rattle.monomial_laws.proofs.Growths.{factorial-mono}
 
 pub IsPartition-merged : (more parts : List ℕ) → IsPartition parts → IsPartition (merged more parts)
 IsPartition-merged [] parts p = p
@@ -21,26 +22,11 @@ pub size-merged : (more parts : List ℕ) → size (merged more parts) ≡ size 
 size-merged [] parts = omega arith
 size-merged (a ∷ more) parts = omega (arith, size-merged more (insert_part a parts), size-insert_part a parts)
 
-pub positive_at : (parts : List ℕ) (i : ℕ) → ArePositive parts → i < length parts → 0 < get_or parts i 0
-positive_at [] i p h = absurd (omega arith)
-positive_at (a ∷ parts) zero p h = p.0
-positive_at (a ∷ parts) (suc i) p h = positive_at parts i p.1 (omega arith)
-
 -- what is still to come of a copy without one part, which was found already or was not
 abbrev pub rest_of : Bool → ℕ → List ℕ → List ℕ
 rest_of found k xs = cond found xs (without_one k xs)
 
 -- ---- factorials
-
-factorial-more : (i : ℕ) → factorial i ≤ factorial (suc i)
-factorial-more i = let h : 1 * factorial i ≤ suc i * factorial i = mul-le-mul_right (factorial i) (omega arith) in omega arith
-
-factorial-up : (i j : ℕ) → factorial i ≤ factorial (j + i)
-factorial-up i zero = let e : 0 + i ≡ i = omega arith in rw e (omega arith)
-factorial-up i (suc j) = let e : suc j + i ≡ suc (j + i) = omega arith in let h = factorial-up i j in let k = factorial-more (j + i) in rw e (omega arith)
-
-pub factorial-mono : (i j : ℕ) → i ≤ j → factorial i ≤ factorial j
-factorial-mono i j h = let e : (j - i) + i ≡ j = omega arith in subst (λ k. factorial i ≤ factorial k) e (factorial-up i (j - i))
 
 pub factorial-fits : (i n : ℕ) → n ≡ factorial i → i < 20 → n * (i + 1) < 2 ^ 128
 factorial-fits i n e h =

@@ -18,7 +18,7 @@ use Rattle.sym_model.specs.Straightening.{shifted}
 use Rattle.sym_model.proofs.Sums.{total_ext, total_among, total_none}
 use Rattle.sym_model.proofs.Exponents.{join_zeros}
 use Rattle.sym_model.proofs.SortedParts.{has_below, without_one-zero}
-use Rattle.alternant_laws.proofs.Staircase.{length_staircase}
+use Rattle.sym_model.proofs.Parts.{length-staircase}
 use Rattle.monomial_laws.proofs.PowerSumLists.{has_from-distinct}
 use Rattle.basis_change.specs.Arranging.{HasZeros}
 use Rattle.basis_change.proofs.ArrangementSteps.{arrangements-step, arrangements-none, arrangement}
@@ -121,4 +121,4 @@ pub all_zeros : (G : List ℕ → ℤ) (front : List ℕ) (n : ℕ) → total (�
 all_zeros G front n =
     arrangements-none (λ α. G (front ++ shifted α)) n
     ∙ ap (λ l. G (front ++ l))
-    (ap (λ k. join (replicate n 0) (staircase k)) (length-replicate {A = ℕ} n 0) ∙ join_zeros n (staircase n) (let e = length_staircase n in omega arith))
+    (ap (λ k. join (replicate n 0) (staircase k)) (length-replicate {A = ℕ} n 0) ∙ join_zeros n (staircase n) (let e = length-staircase n in omega arith))

@@ -1,21 +1,18 @@
 -- A number times the sign of sorting a list.
-use Rattle.std.proofs.Common.{◌≡◌, ℕ, ◌%◌, ◌^◌, ◌≤◌, refl, sym, ap, ◌∙◌, subst, arith, ℤ, pos, negsuc, neg_ℤ, ◌*ℤ◌}
+use Rattle.std.proofs.Common.{◌≡◌, ℕ, ◌%◌, ◌^◌, ◌≤◌, refl, sym, ap, ◌∙◌, subst, arith, ℤ, negsuc, neg_ℤ, ◌*ℤ◌}
 use Rattle.std.specs.Prelude.{Option, Some, None, MatchOption, nat_abs}
 use Rattle.std.proofs.lemmas.Int.{ints}
 use Rattle.coeff_rings.specs.Checked.{checked_i128}
 use Rattle.sym_model.specs.PlaceOrders.{minus_one_to}
-use Rattle.sym_model.proofs.Ring.{ring}
+use Rattle.sym_model.proofs.Ring.{ring, one-product}
 use Rattle.basis_change.proofs.Signs.{sign-even, sign-odd}
 use Rattle.basis_change.proofs.Tables.{refused_sum, answered}
-
-one-times : (z : ℤ) → pos 1 *ℤ z ≡ z
-one-times z = omega (arith, ints)
 
 minus-times : (z : ℤ) → negsuc 0 *ℤ z ≡ neg_ℤ z
 minus-times z = simp ring (omega (arith, ints))
 
 pub even_sign : (m : ℕ) (z : ℤ) → m % 2 ≡ 0 → z ≡ minus_one_to m *ℤ z
-even_sign m z h = sym (ap (λ s. s *ℤ z) (sign-even m h) ∙ one-times z)
+even_sign m z h = sym (ap (λ s. s *ℤ z) (sign-even m h) ∙ one-product z)
 
 odd_sign : (m : ℕ) (z : ℤ) → (m % 2 ≡ 0 → ⊥) → neg_ℤ z ≡ minus_one_to m *ℤ z
 odd_sign m z n = sym (ap (λ s. s *ℤ z) (sign-odd m (omega (arith, n))) ∙ minus-times z)

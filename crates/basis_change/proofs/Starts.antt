@@ -10,11 +10,12 @@ use Rattle.sym_model.specs.Weight.{factorial, growth}
 use Rattle.sym_model.proofs.SortedParts.{rows_within_size, IsPartition-none}
 use Rattle.basis_expand.specs.Tables.{IsTable}
 use Rattle.basis_expand.specs.LabelSizes.{AreWithin}
+use Rattle.basis_expand.proofs.TableSums.{label-partition}
 use Rattle.basis_change.specs.Mixed.{Mixed, mixed, weight, Added, unready, AreReady}
 use Rattle.basis_change.specs.Clearing.{cleared_number, cleared_terms}
 use Rattle.basis_change.specs.Costs.{cost}
 use Rattle.basis_change.proofs.Walks.{unready-from}
-use Rattle.basis_change.proofs.CostTable.{cost-within, label_partition}
+use Rattle.basis_change.proofs.CostTable.{cost-within}
 
 pub none-large : (n : ℕ) (answer : Option ℕ) → SomeIff answer (n < 2 ^ 127) n → answer ≡ None → 2 ^ 127 ≤ n
 none-large n None h e = by (cases_lt n (2 ^ 127))
@@ -32,7 +33,7 @@ module _ (N D d factor : ℕ) (terms : Terms (List ℕ)) (is_factor : factor ≡
   table-cost es b a = let w = a.weights cost in let s = start-cost b in omega arith
 
   pub table-ready : (es : Mixed) → Added (cleared_terms D factor terms) [] es → AreReady d d es
-  table-ready es a = let w = a.weights (unready d d) in let z = ready-terms terms (label_partition terms is) within in (let r : weight (unready d d) es ≡ 0 = omega arith in r)
+  table-ready es a = let w = a.weights (unready d d) in let z = ready-terms terms (label-partition terms is) within in (let r : weight (unready d d) es ≡ 0 = omega arith in r)
     where
       ready-terms : (ts : Terms (List ℕ)) → ((t : List ℕ × Fraction) → Among t ts → IsPartition t.0) → AreWithin d ts → AreReady d d (cleared_terms D factor ts)
       ready-terms [] p w = refl

@@ -19,7 +19,6 @@ use Rattle.sym_model.specs.ListWeight.{IsBounded, factorials}
 use Rattle.sym_model.specs.Weight.{factorial, growth}
 use Rattle.sym_model.proofs.Sums.{total_ext, total_map, total_each, total_scale, total_zero}
 use Rattle.sym_model.proofs.Exponents.{same_true, size-join, length-join_same}
-use Rattle.alternant_laws.proofs.Staircase.{length_staircase}
 use Rattle.beta_list_laws.proofs.NeighbourExchanges.{size-sorted, length-sorted}
 use Rattle.beta_list_laws.proofs.SortedLists.{sorted_strict}
 use Rattle.beta_list_laws.proofs.BetaLists.{size-from_beta}
@@ -38,6 +37,7 @@ use Rattle.basis_change.proofs.MultinomialSums.{total-mono, multinomial, arrange
 use Rattle.basis_change.proofs.CostTable.{factorials-positive}
 use Rattle.sym_model.proofs.Ring.{distributes_right}
 use Rattle.sym_model.proofs.Sums.{total_among}
+use Rattle.sym_model.proofs.Parts.{length-staircase}
 use native.Mathlib.Nat.{mul-le-mul_left, mul-le-mul_right}
 use lib.IntN.{*ℤ-zero, zero-*ℤ}
 
@@ -60,7 +60,7 @@ straight-size α h =
     let a = size-from_beta (sorted_falling (shifted α)) strict in
     let b = size-sorted (shifted α) in
     let c = size-join α (staircase (length α)) in
-    let l : length (sorted_falling (shifted α)) ≡ length α = length-sorted (shifted α) ∙ length-join_same (length α) α (staircase (length α)) refl (length_staircase (length α)) in
+    let l : length (sorted_falling (shifted α)) ≡ length α = length-sorted (shifted α) ∙ length-join_same (length α) α (staircase (length α)) refl (length-staircase (length α)) in
     let s = ap (λ k. size (staircase k)) l in
     omega arith
 

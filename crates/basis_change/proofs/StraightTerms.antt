@@ -21,10 +21,8 @@ use Rattle.basis_change.proofs.Tables.{weight-append}
 use Rattle.basis_change.proofs.ArrangementSteps.{arrangements-few}
 use Rattle.basis_change.proofs.PrunedArrangements.{placed, placed_again, too_many_zeros, all_zeros, VanishesOnEqual}
 use Rattle.basis_change.proofs.Tables.{at_label-itself}
-use Rattle.basis_change.proofs.ArrangementSteps.{left_size}
 use Rattle.basis_change.proofs.PrunedArrangements.{HasZeros-more, HasZeros-none}
 use Rattle.partitions.specs.Limits.{IsWithinLimits}
-use Rattle.partitions.proofs.Parts.{size-append}
 use Rattle.basis_expand.proofs.PartitionTerms.{IsWithinLimits-low}
 use Rattle.beta_list_laws.proofs.NeighbourExchanges.{size-sorted}
 use Rattle.beta_list_laws.proofs.SortedLists.{sorted_strict}
@@ -35,14 +33,17 @@ use Rattle.std.proofs.Common.{take, drop, get_or, inl, inr, length-append}
 use Rattle.sym_model.specs.Sum.{Among}
 use Rattle.sym_model.proofs.SortedParts.{IsPartition-without_one, has-zero_or}
 use Rattle.monomial_laws.proofs.PowerSumLists.{has_from-distinct}
-use Rattle.basis_change.proofs.Walks.{each-next, each-whole, get-index}
+use Rattle.basis_change.proofs.Walks.{each-next, each-whole}
 use Rattle.std.proofs.Common.{append_assoc}
 use Rattle.std.proofs.lemmas.List.{nil_from_length}
 use Rattle.sym_model.specs.Expansion.{Fraction, Terms}
+use Rattle.sym_model.proofs.Lists.{slice_get-within}
+use Rattle.sym_model.proofs.Parts.{size-append}
 use Rattle.basis_change.specs.Clearing.{scaled}
 use Rattle.basis_change.specs.Straightening.{straightened_list}
 use native.Mathlib.Nat.{mul-le-mul_left}
 use lib.IntN.{+ℤ_idr}
+use Rattle.sparse_polys.proofs.StepWays.{size-taken}
 
 -- ---- lists with the same sums
 
@@ -151,7 +152,7 @@ sorted-limits entries h low =
 pub longer-low : (front parts : List ℕ) (n a : ℕ) → IsPartition parts → has a (0 ∷ parts) ≡ true → size front + size parts + size (staircase (suc n)) ≤ 512
     → size (front ++ (a + n) ∷ []) + size (without_one a parts) + size (staircase n) ≤ 512
 longer-low front parts n a p h low =
-    let e = left_size a parts p h in
+    let e = size-taken a parts p h in
     let s = size-append front ((a + n) ∷ []) in
     omega arith
 
@@ -187,7 +188,7 @@ number-has items parts i e h = by (subst (λ l. Among (get_or items i 0) l) e (a
     by (inr m) = has-zero_or (get_or items i 0) parts (inr (has_from-distinct (get_or items i 0) parts m))
 
 pub number-within : (parts : List ℕ) (a : ℕ) → IsPartition parts → has a (0 ∷ parts) ≡ true → a ≤ size parts
-number-within parts a p h = let e = left_size a parts p h in omega arith
+number-within parts a p h = let e = size-taken a parts p h in omega arith
 
 -- what the search asks for after a number is put
 pub next_ready : (front longer parts others : List ℕ) (places n many next a : ℕ) → places ≡ suc n → IsPartition parts → has a (0 ∷ parts) ≡ true
@@ -214,7 +215,7 @@ next_ready front longer parts others places n many next a s p h e o k z few shor
 -- the terms of one number more, by the place at which it stands among the numbers
 pub numbers-next : (c : ℤ) (front parts items : List ℕ) (n i : ℕ) → i < length items
     → each (terms_with c front parts n) (take (i + 1) items) ≡ each (terms_with c front parts n) (take i items) ++ terms_with c front parts n (get_or items i 0)
-numbers-next c front parts items n i h = each-next (terms_with c front parts n) items i (get_or items i 0) (get-index items i h)
+numbers-next c front parts items n i h = each-next (terms_with c front parts n) items i (get_or items i 0) (slice_get-within items i h)
 
 pub numbers-all : (c : ℤ) (front parts items : List ℕ) (places n : ℕ) → places ≡ suc n → IsPartition parts → items ≡ 0 ∷ distinct parts
     → SameTotals (each (terms_with c front parts n) items) (straight_terms c front parts places)
@@ -228,7 +229,7 @@ pub number-past : (c : ℤ) (front parts items : List ℕ) (places n i : ℕ) (o
 number-past c front parts items places n i old mid h s p e a o =
     let f = terms_with c front parts n in
     Somewhere-same (each f items) (straight_terms c front parts places) old (numbers-all c front parts items places n s p e)
-    (subst (λ (xs : Mixed). OverflowsSomewhere xs old) (each-whole f items i (get_or items i 0) (get-index items i h))
+    (subst (λ (xs : Mixed). OverflowsSomewhere xs old) (each-whole f items i (get_or items i 0) (slice_get-within items i h))
     (Somewhere-front (each f (take i items) ++ f (get_or items i 0)) (each f (drop (i + 1) items)) old
     (Somewhere-then (each f (take i items)) (f (get_or items i 0)) old mid a o)))
 

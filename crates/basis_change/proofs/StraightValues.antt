@@ -24,13 +24,13 @@ use Rattle.alternant_laws.proofs.EnoughPlaces.{enough_places}
 use Rattle.basis_expand.specs.Tables.{IsTable}
 use Rattle.basis_expand.specs.LabelSizes.{AreWithin}
 use Rattle.basis_expand.proofs.Quotients.{Quotients}
+use Rattle.basis_expand.proofs.TableSums.{label-partition}
 use Rattle.basis_change.specs.declared.mixed.MixedLabel.{MixedLabel}
 use Rattle.basis_change.specs.Mixed.{Mixed, weighed, Added, converted_terms}
 use Rattle.basis_change.specs.Clearing.{scaled}
 use Rattle.basis_change.specs.Arranging.{straight, times_straight, straight_term, straight_terms}
 use Rattle.basis_change.specs.Straightening.{straightened_list}
 use Rattle.basis_change.proofs.StraightTerms.{total-straight_terms}
-use Rattle.basis_change.proofs.CostTable.{label_partition}
 use Rattle.basis_change.proofs.Ends.{expansion-by, pair-over}
 use lib.IntN.{+ℤ_idl, *ℤ-zero}
 
@@ -70,7 +70,7 @@ straightened-value : (n d D : ℕ) (φ : List ℕ → ℤ) (terms : Terms (List 
 straightened-value n d D φ terms is w =
     total_each (term_value n φ) (λ (t : List ℕ × Fraction). straight_terms (scaled D t.1) [] t.0 d) terms
     ∙ total_among (λ (t : List ℕ × Fraction). total (term_value n φ) (straight_terms (scaled D t.1) [] t.0 d)) (λ (t : List ℕ × Fraction). scaled D t.1 *ℤ pair (monomial t.0 n) φ) terms
-    (λ t m. label-value n d φ (scaled D t.1) t.0 (label_partition terms is t m) (w t m))
+    (λ t m. label-value n d φ (scaled D t.1) t.0 (label-partition terms is t m) (w t m))
     ∙ sym (pair-over n D φ terms)
 
 pub expansion-straightened : (N D d : ℕ) (terms answer : Terms (List ℕ)) (end : Mixed) → 0 < D → IsTable terms → AreWithin d terms → IsBounded N D terms

@@ -21,12 +21,10 @@ use Rattle.std.specs.Cmp.Lexicographic.{pointwise}
 use Rattle.std.proofs.lemmas.Bool.{and_parts}
 use Rattle.std.proofs.lemmas.Slice.Eq.{bytes_eq-Decides}
 use Rattle.coeff_rings.specs.Checked.{checked_i128, where_fits}
+use Rattle.coeff_rings.proofs.Sizes.{refused_size}
 use Rattle.sym_model.specs.Canonical.{fits_128_bits}
-use Rattle.basis_expand.proofs.TableSums.{refused-size}
+use Rattle.sym_model.proofs.Integers.{nat_abs-sum}
 use Rattle.basis_change.specs.Mixed.{mixed}
-
-pub abs-sum : (a b : ℤ) → nat_abs (a +ℤ b) ≤ nat_abs a + nat_abs b
-abs-sum a b = omega (arith, ints)
 
 pub weighed-append : (f : MixedLabel → ℤ) (es ds : Mixed) → weighed f (es ++ ds) ≡ weighed f es +ℤ weighed f ds
 weighed-append f [] ds = sym (+ℤ_idl (weighed f ds))
@@ -68,7 +66,7 @@ one_more : (a c x r : ℤ) → (a +ℤ c) *ℤ x +ℤ r ≡ (a *ℤ x +ℤ r) +�
 one_more a c x r = simp ring (omega (arith, ints))
 
 weight_more : (a c : ℤ) (x : ℕ) → nat_abs (a +ℤ c) * x ≤ nat_abs a * x + nat_abs c * x
-weight_more a c x = let h = mul-le-mul_right x (abs-sum a c) in omega arith
+weight_more a c x = let h = mul-le-mul_right x (nat_abs-sum a c) in omega arith
 
 pub added_put : (es : Mixed) (i : ℕ) (label : MixedLabel) (had c v : ℤ) → slice_get es i ≡ Some (label, had) → v ≡ had +ℤ c → Added ((label, c) ∷ []) es (set_value_at es i v)
 added_put es i label had c v h e = record {
@@ -153,7 +151,7 @@ same_label a b h =
     ap₂ (λ (x y : List ℕ). mixed x y) ((bytes_eq-Decides a.converted b.converted).0 p.0) ((bytes_eq-Decides a.augmented b.augmented).0 p.1)
 
 pub refused_sum : (z : ℤ) (answer : Option ℤ) → answer ≡ checked_i128 z → answer ≡ None → 2 ^ 127 ≤ nat_abs z
-refused_sum z answer h e = refused-size z (sym h ∙ e)
+refused_sum z answer h e = refused_size z (sym h ∙ e)
 
 pub answered : (z v : ℤ) (answer : Option ℤ) → answer ≡ checked_i128 z → answer ≡ Some v → v ≡ z
 answered z v answer h e = by (fits_128_bits z) (sym h ∙ e)

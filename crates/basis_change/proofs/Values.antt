@@ -15,7 +15,8 @@ use Rattle.sym_model.proofs.Sums.{total_ext, total_map, total_scale}
 use Rattle.sym_model.proofs.Polynomials.{pair_ext, pair_plus, pair_each, pair_times, pair_total, pair_determined, Same_refl, Same_sym, Same_trans, times_respects, In_times, In_scale}
 use Rattle.sym_model.proofs.Monomials.{In-monomials}
 use Rattle.sym_model.proofs.PolynomialLaws.{times_comm, times_assoc, times-plus, one-times}
-use Rattle.sym_model.proofs.SortedParts.{insert_part-front, Falls_tail}
+use Rattle.sym_model.proofs.SortedParts.{insert_part-front, IsPartition_tail}
+use Rattle.sym_model.proofs.Integers.{zero_or_not}
 use Rattle.monomial_laws.proofs.Powers.{In-product_over}
 use Rattle.basis_change_laws.specs.AugmentedMonomial.{augmented, multiplicity_factorials}
 use Rattle.basis_change_laws.proofs.AugmentedMonomials.{power_sum_times_augmented}
@@ -25,7 +26,7 @@ use Rattle.basis_change.specs.declared.factors.Family.TheVariants.{Elementary, C
 use Rattle.basis_change.specs.Mixed.{Mixed, mixed, weighed, weight, is_past, unready, AreReady, merged, products, raised, mixed_at, conversion_at, conversions}
 use Rattle.basis_change.specs.Factors.{polynomial_of, product_value, IsPowerSum, ArePowerSums}
 use Rattle.basis_change.proofs.Tables.{weighed-append}
-use Rattle.basis_change.proofs.Walks.{low_label, IsReadyLabel, ready_label, zero_or_not, zero_weight}
+use Rattle.basis_change.proofs.Walks.{low_label, IsReadyLabel, ready_label, zero_weight}
 use Rattle.basis_change.proofs.Conversions.{conversion_at-zero, conversion_at-other, conversion_at-here}
 use lib.IntN.{zero-*ℤ}
 use native.Mathlib.Nat.{mul-pos}
@@ -160,9 +161,6 @@ value-power_sum n a C rest φ h p e =
         ∙ total_ext (λ (b : ℕ). pair C (λ α. pair (augmented (raise a b rest) n) (λ β. φ (join α β)))) (λ (b : ℕ). pair (times C (augmented (raise a b rest) n)) φ)
         (λ b. sym (pair_times C (augmented (raise a b rest) n) φ)) rest
 
-pub tail : (a : ℕ) (rest : List ℕ) → IsPartition (a ∷ rest) → IsPartition rest
-tail a rest p = record { falls = Falls_tail a rest p.falls; positive = p.positive.1 }
-
 -- ---- converting changes no value
 
 value-converted : (family : Family) (n : ℕ) (φ : List ℕ → ℤ) (c : ℤ) (factor : Mixed) (converted : List ℕ) (a : ℕ) (rest : List ℕ) → IsPowerSum family a factor → IsPartition (a ∷ rest)
@@ -171,7 +169,7 @@ value-converted family n φ c factor converted a rest is p =
     let f = product_value family n φ in
     let C = product_over (polynomial_of family) converted n in
     weighed-append f (products c factor converted rest) (raised c converted a rest rest)
-    ∙ ap₂ ◌+ℤ◌ (value-products family n φ c a factor converted rest is ∙ ap (λ z. c *ℤ z) (value-power_sum n a C rest φ p.positive.0 (tail a rest p) (insert_part-front a rest p.positive.0 p.falls)))
+    ∙ ap₂ ◌+ℤ◌ (value-products family n φ c a factor converted rest is ∙ ap (λ z. c *ℤ z) (value-power_sum n a C rest φ p.positive.0 (IsPartition_tail a rest p) (insert_part-front a rest p.positive.0 p.falls)))
     (value-raised f c converted a rest rest)
     ∙ left c (f (mixed converted (a ∷ rest))) (total (λ (b : ℕ). f (mixed converted (raise a b rest))) rest)
   where

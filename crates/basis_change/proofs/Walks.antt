@@ -57,11 +57,6 @@ take_all [] (suc i) h = refl
 take_all (x ∷ xs) zero h = absurd (omega arith)
 take_all (x ∷ xs) (suc i) h = ap (λ l. x ∷ l) (take_all xs i (omega arith))
 
-pub get-index : (xs : List ℕ) (i : ℕ) → i < length xs → slice_get xs i ≡ Some (get_or xs i 0)
-get-index [] i h = absurd (omega arith)
-get-index (x ∷ xs) zero h = refl
-get-index (x ∷ xs) (suc i) h = get-index xs i (omega arith)
-
 -- ---- parts at an index
 
 pub part-within : (xs : List ℕ) (i : ℕ) → i < length xs → get_or xs i 0 ≤ size xs
@@ -185,11 +180,6 @@ ready-at d rows (t ∷ es) zero l z h e =
 ready-at d rows (t ∷ es) (suc i) l z h e =
     let w : nat_abs t.1 * unready d rows t.0 + weight (unready d rows) es ≡ 0 = h in
     ready-at d rows es i l z (omega arith) e
-
-pub zero_or_not : (z : ℤ) → (z ≡ pos 0) ⊎ (z ≡ pos 0 → ⊥)
-zero_or_not (pos zero) = inl refl
-zero_or_not (pos (suc k)) = inr (λ e. let s = ap nat_abs e in omega arith)
-zero_or_not (negsuc k) = inr (λ e. let s = ap nat_abs e in omega arith)
 
 pub zero_weight : (z : ℤ) (n : ℕ) → (z ≡ pos 0 → ⊥) → nat_abs z * n ≡ 0 → n ≡ 0
 zero_weight z n m h = by (cases_lt 0 n)

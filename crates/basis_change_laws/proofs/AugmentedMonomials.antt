@@ -1,9 +1,9 @@
 -- A power sum times an augmented monomial symmetric polynomial.
-use Rattle.std.proofs.Common.{◌≡◌, ℕ, zero, suc, ◌+◌, ◌*◌, ◌<◌, ◌≤◌, ◌⊎◌, ◌==◌, Bool, true, false, cond, ◌||◌, List, [], ◌∷◌, map, nat_le, sym, ◌∙◌, ap, ap₂, refl, inl, inr, arith, ℤ, pos, ◌+ℤ◌, ◌*ℤ◌}
+use Rattle.std.proofs.Common.{◌≡◌, ℕ, zero, suc, ◌+◌, ◌*◌, ◌<◌, ◌≤◌, ◌⊎◌, ◌==◌, Bool, true, false, cond, List, [], ◌∷◌, map, nat_le, sym, ◌∙◌, ap, ap₂, refl, inl, inr, arith, ℤ, pos, ◌+ℤ◌, ◌*ℤ◌}
 use Rattle.std.proofs.lemmas.Int.{ints}
-use Rattle.std.proofs.lemmas.Bool.{cases_lt, cases_eq, cases_Bool, eq-eqb, eqb-true, ne_eqb, leb-false, or_right, both_ways}
+use Rattle.std.proofs.lemmas.Bool.{cases_lt, cases_eq, cases_Bool, ne_eqb, leb-false, both_ways}
 use Rattle.std.proofs.Math.Nat.{mul_left_comm}
-use Rattle.sym_model.specs.Sum.{total, each, Among}
+use Rattle.sym_model.specs.Sum.{total, each}
 use Rattle.sym_model.specs.Polynomial.{Same, scale, plus, times, pair}
 use Rattle.sym_model.specs.Partition.{IsPartition, insert_part}
 use Rattle.sym_model.specs.Bases.{has, monomial, power_sum_of}
@@ -17,21 +17,16 @@ use Rattle.basis_change_laws.specs.AugmentedMonomial.{multiplicity_factorials, a
 use Rattle.sym_model.proofs.Ring.{product_assoc, distributes_left}
 use lib.IntN.{*ℤ_comm}
 use Rattle.sym_model.proofs.Sums.{total_ext, total_among, total_map, total_exchange, total_scale}
-use Rattle.sym_model.proofs.Exponents.{tests_agree}
 use Rattle.sym_model.proofs.Polynomials.{pair_scale, pair_plus, pair_each, pair_determined, same_from_pair}
 use Rattle.sym_model.proofs.PolynomialLaws.{times-scale}
-use Rattle.sym_model.proofs.SortedParts.{times_in-insert_part, insert_part-without_one, has_from-times_in, has-zero, without_one-zero}
+use Rattle.sym_model.proofs.SortedParts.{times_in-insert_part, insert_part-without_one, has_from-times_in, has-zero, without_one-zero, has-among}
 use Rattle.sym_model.proofs.WholeTerms.{pair_of_combined}
+use Rattle.sym_model.proofs.Contents.{times_in-here, times_in-other}
+use Rattle.sym_model.proofs.Numbers.{equal-sym}
 use Rattle.monomial_laws.proofs.PowerSums.{total_distinct-only, total_times_in, power_sum_times_monomial}
 use Rattle.monomial_laws.proofs.PowerSumLists.{has_from-distinct}
 
 -- ---- multiplicities
-
-counted : (k c : ℕ) (l : List ℕ) → c ≡ k → times_in k (c ∷ l) ≡ suc (times_in k l)
-counted k c l e = ap (λ (b : Bool). cond {A = ℕ} b 1 0 + times_in k l) (eq-eqb c k e) ∙ omega arith
-
-passed : (k c : ℕ) (l : List ℕ) → (c ≡ k → ⊥) → times_in k (c ∷ l) ≡ times_in k l
-passed k c l n = ap (λ (b : Bool). cond {A = ℕ} b 1 0 + times_in k l) (ne_eqb c k n) ∙ omega arith
 
 same_whole : (m n : ℕ) → pos m ≡ pos n → m ≡ n
 same_whole m n e = omega (arith, ints)
@@ -50,8 +45,8 @@ factorials_without c l (b ∷ D) z = by (cases_eq b c) (factorials_without c l D
   where
     by : (b ≡ c) ⊎ (b ≡ c → ⊥) → (times_in c D ≡ 0 → factorials (map (λ d. times_in d (c ∷ l)) D) ≡ factorials (map (λ d. times_in d l) D))
         → factorial (times_in b (c ∷ l)) * factorials (map (λ d. times_in d (c ∷ l)) D) ≡ factorial (times_in b l) * factorials (map (λ d. times_in d l) D)
-    by (inl e) later = absurd (let t = counted c b D e in omega arith)
-    by (inr n) later = ap₂ ◌*◌ (ap factorial (passed b c l (λ e. n (sym e)))) (later (sym (passed c b D n) ∙ z))
+    by (inl e) later = absurd (let t = times_in-here c b D e in omega arith)
+    by (inr n) later = ap₂ ◌*◌ (ap factorial (times_in-other b c l (λ e. n (sym e)))) (later (sym (times_in-other c b D n) ∙ z))
 
 factorials_with : (c : ℕ) (l D : List ℕ) → times_in c D ≡ 1 → factorials (map (λ b. times_in b (c ∷ l)) D) ≡ times_in c (c ∷ l) * factorials (map (λ b. times_in b l) D)
 factorials_with c l [] z = absurd (omega arith)
@@ -59,20 +54,20 @@ factorials_with c l (b ∷ D) z = by (cases_eq b c) (factorials_with c l D)
   where
     here : (d : ℕ) → d ≡ c → factorial (times_in d (c ∷ l)) ≡ times_in c (c ∷ l) * factorial (times_in d l)
     here d e =
-        let x = counted d c l (sym e) in
-        let y = counted c c l refl in
+        let x = times_in-here d c l (sym e) in
+        let y = times_in-here c c l refl in
         ap factorial x ∙ ap₂ ◌*◌ (ap (λ i. suc (times_in i l)) e ∙ sym y) refl
 
     by : (b ≡ c) ⊎ (b ≡ c → ⊥) → (times_in c D ≡ 1 → factorials (map (λ d. times_in d (c ∷ l)) D) ≡ times_in c (c ∷ l) * factorials (map (λ d. times_in d l) D))
         → factorial (times_in b (c ∷ l)) * factorials (map (λ d. times_in d (c ∷ l)) D) ≡ times_in c (c ∷ l) * (factorial (times_in b l) * factorials (map (λ d. times_in d l) D))
     by (inl e) later =
-        let t = counted c b D e in
+        let t = times_in-here c b D e in
         ap₂ ◌*◌ (here b e) (factorials_without c l D (omega arith)) ∙ product_right (times_in c (c ∷ l)) (factorial (times_in b l)) (factorials (map (λ d. times_in d l) D))
       where
         product_right : (x y w : ℕ) → (x * y) * w ≡ x * (y * w)
         product_right x y w = omega arith
     by (inr n) later =
-        ap₂ ◌*◌ (ap factorial (passed b c l (λ e. n (sym e)))) (later (sym (passed c b D n) ∙ z))
+        ap₂ ◌*◌ (ap factorial (times_in-other b c l (λ e. n (sym e)))) (later (sym (times_in-other c b D n) ∙ z))
         ∙ mul_left_comm (factorial (times_in b l)) (times_in c (c ∷ l)) (factorials (map (λ d. times_in d l) D))
 
 -- one number more: the factor is how often it then stands there
@@ -84,7 +79,7 @@ multiplicity_factorials-cons c l = by (cases_Bool (has c l))
         ap (λ (t : Bool). factorials (map (λ b. times_in b (c ∷ l)) (cond t (distinct l) (c ∷ distinct l)))) e
         ∙ factorials_with c l (distinct l) (times_in-distinct c l ∙ ap (λ (t : Bool). cond t 1 0) e)
     by (inr e) =
-        let once = counted c c l refl in
+        let once = times_in-here c c l refl in
         let none : times_in c l ≡ 0 = no_more (cases_lt 0 (times_in c l)) in
         let single : times_in c (c ∷ l) ≡ 1 = omega arith in
         ap (λ (t : Bool). factorials (map (λ b. times_in b (c ∷ l)) (cond t (distinct l) (c ∷ distinct l)))) e
@@ -109,8 +104,8 @@ multiplicity_factorials-insert (suc a) (b ∷ parts) h = by (nat_le b (suc a)) r
         let x = multiplicity_factorials-cons b (insert_part (suc a) parts) in
         let y = multiplicity_factorials-cons b parts in
         let u : times_in b (b ∷ insert_part (suc a) parts) ≡ times_in b (b ∷ parts) =
-        counted b b (insert_part (suc a) parts) refl ∙ ap suc (times_in-insert_part b (suc a) parts (omega arith) ∙ ap (λ (t : Bool). cond {A = ℕ} t 1 0 + times_in b parts) (ne_eqb (suc a) b (λ d. absurd (omega arith))) ∙ omega arith) ∙ sym (counted b b parts refl) in
-        let v = passed (suc a) b (insert_part (suc a) parts) (λ d. absurd (omega arith)) in
+        times_in-here b b (insert_part (suc a) parts) refl ∙ ap suc (times_in-insert_part b (suc a) parts (omega arith) ∙ ap (λ (t : Bool). cond {A = ℕ} t 1 0 + times_in b parts) (ne_eqb (suc a) b (λ d. absurd (omega arith))) ∙ omega arith) ∙ sym (times_in-here b b parts refl) in
+        let v = times_in-other (suc a) b (insert_part (suc a) parts) (λ d. absurd (omega arith)) in
         x
         ∙ ap₂ ◌*◌ u later
         ∙ mul_left_comm (times_in b (b ∷ parts)) (times_in (suc a) (insert_part (suc a) parts)) (multiplicity_factorials parts)
@@ -134,17 +129,9 @@ raise_factor a (suc b) parts h p e =
 
 -- ---- sums over the parts
 
-test_sym : (a b : ℕ) → (a == b) ≡ (b == a)
-test_sym a b = tests_agree (a == b) (b == a) (λ e. eq-eqb b a (sym (eqb-true a b e))) (λ e. eq-eqb a b (sym (eqb-true b a e)))
-
 pull_factor : (t : Bool) (x : ℤ) → cond t (pos 1) (pos 0) *ℤ x ≡ cond t x (pos 0)
 pull_factor true x = omega (arith, ints)
 pull_factor false x = omega (arith, ints)
-
-has_member : (c : ℕ) (l : List ℕ) → Among c l → has c l ≡ true
-has_member c [] m = absurd m
-has_member c (d ∷ l) (inl e) = ap (λ (t : Bool). t || has c l) (eq-eqb d c (sym e))
-has_member c (d ∷ l) (inr m) = or_right (d == c) (has c l) (has_member c l m)
 
 -- a sum over the parts is a sum over the different parts, each as often as it stands there
 total_parts : (g : ℕ → ℤ) (l : List ℕ) → total (λ (b : ℕ). pos (times_in b l) *ℤ g b) (distinct l) ≡ total g l
@@ -152,7 +139,7 @@ total_parts g l =
     total_ext (λ (b : ℕ). pos (times_in b l) *ℤ g b) (λ (b : ℕ). total (λ (c : ℕ). cond (b == c) (g b) (pos 0)) l) spread (distinct l)
     ∙ total_exchange (λ (b c : ℕ). cond (b == c) (g b) (pos 0)) (distinct l) l
     ∙ total_among (λ (c : ℕ). total (λ (b : ℕ). cond (b == c) (g b) (pos 0)) (distinct l)) g l
-    (λ c m. total_distinct-only g c l ∙ ap (λ (t : Bool). cond t (g c) (pos 0)) (has_member c l m))
+    (λ c m. total_distinct-only g c l ∙ ap (λ (t : Bool). cond t (g c) (pos 0)) (has-among c l m))
   where
     spread : (b : ℕ) → pos (times_in b l) *ℤ g b ≡ total (λ (c : ℕ). cond (b == c) (g b) (pos 0)) l
     spread b =
@@ -160,7 +147,7 @@ total_parts g l =
         ∙ *ℤ_comm (total (λ (c : ℕ). cond (c == b) (pos 1) (pos 0)) l) (g b)
         ∙ sym (total_scale (g b) (λ (c : ℕ). cond (c == b) (pos 1) (pos 0)) l)
         ∙ total_ext (λ (c : ℕ). g b *ℤ cond (c == b) (pos 1) (pos 0)) (λ (c : ℕ). cond (b == c) (g b) (pos 0))
-        (λ c. *ℤ_comm (g b) (cond (c == b) (pos 1) (pos 0)) ∙ pull_factor (c == b) (g b) ∙ ap (λ (t : Bool). cond t (g b) (pos 0)) (test_sym c b)) l
+        (λ c. *ℤ_comm (g b) (cond (c == b) (pos 1) (pos 0)) ∙ pull_factor (c == b) (g b) ∙ ap (λ (t : Bool). cond t (g b) (pos 0)) (equal-sym c b)) l
 
 -- ---- the law
 

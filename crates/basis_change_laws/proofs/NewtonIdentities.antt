@@ -4,17 +4,17 @@ use Rattle.std.proofs.Common.{◌≡◌, ℕ, zero, suc, ◌+◌, ◌-◌, ◌<�
 use Rattle.std.proofs.lemmas.Int.{ints}
 use Rattle.std.proofs.lemmas.Bool.{cases_lt, le-leb, lt-leb, eq-eqb, eqb-true, ne_eqb, and_parts}
 use Rattle.sym_model.specs.Sum.{total, each, Among}
-use Rattle.sym_model.specs.Polynomial.{Poly, Term, Same, same, coefficient, scale, times}
+use Rattle.sym_model.specs.Polynomial.{Term, Same, same, coefficient, scale, times}
 use Rattle.sym_model.specs.Partition.{size, after}
 use Rattle.sym_model.specs.Bases.{monomials, at_most_one, elementary_of, complete_of, power_sum_of}
 use Rattle.sym_model.specs.PlaceOrders.{minus_one_to}
 use Rattle.monomial_laws.specs.LoweredPart.{lowered}
 use Rattle.sym_model.proofs.Ring.{product-one, one-product, distributes_left}
-use Rattle.sym_model.proofs.Sums.{total_ext, total_among, total_none, total_zero, total_add, total_append, total_map, total_each, total_constant, Among_from_append, Among_from_map}
-use Rattle.sym_model.proofs.AfterLists.{length_after, after_among}
+use Rattle.sym_model.proofs.Sums.{total_ext, total_among, total_none, total_zero, total_add, total_append, total_map, total_each, total_constant, Among_from_append, Among_from_map, total_cond}
+use Rattle.sym_model.proofs.AfterLists.{length_after, after_among, total_after}
 use Rattle.sym_model.proofs.Exponents.{tests_agree}
-use Rattle.sym_model.proofs.Polynomials.{at_only, coefficient_pair, pair_scale}
 use Rattle.sym_model.proofs.Monomials.{is_exponent_list, coefficient-monomials, In-monomials}
+use Rattle.sym_model.proofs.Polynomials.{coefficient_scale}
 use Rattle.monomial_laws.proofs.PowerSums.{length-lowered, coefficient-power_sum_times}
 use lib.IntN.{+ℤ_idr, *ℤ-zero}
 
@@ -45,17 +45,6 @@ total_lowered g i c α =
 
 -- ---- sums over 1, .., m
 
--- of the numbers up to m only those up to c count
-total_up_to : (a c m : ℕ) (g : ℕ → ℤ) → c ≤ m → total (λ (x : ℕ). cond (nat_le x (a + c)) (g x) (pos 0)) (after a m) ≡ total g (after a c)
-total_up_to a zero m g h =
-    total_none (λ (x : ℕ). cond (nat_le x (a + 0)) (g x) (pos 0)) (after a m)
-    (λ x n. let r = after_among a m x n in let l = r.0 in ap (λ (b : Bool). cond b (g x) (pos 0)) (lt-leb x (a + 0) (omega arith)))
-total_up_to a (suc c) zero g h = absurd (omega arith)
-total_up_to a (suc c) (suc m) g h =
-    let e : a + suc c ≡ a + 1 + c = omega arith in
-    ap₂ ◌+ℤ◌ (ap (λ (b : Bool). cond b (g (a + 1)) (pos 0)) (le-leb (a + 1) (a + suc c) (omega arith)))
-    (ap (λ (i : ℕ). total (λ (x : ℕ). cond (nat_le x i) (g x) (pos 0)) (after (a + 1) m)) e ∙ total_up_to (a + 1) c m g (omega arith))
-
 total_last : (a k : ℕ) (g : ℕ → ℤ) → total g (after a (suc k)) ≡ total g (after a k) +ℤ g (a + suc k)
 total_last a zero g = omega (arith, ints)
 total_last a (suc k) g =
@@ -80,15 +69,12 @@ total_places m (c ∷ α) h =
     counted =
         let e : c ≡ 0 + c = omega arith in
         ap (λ (j : ℕ). total (λ (i : ℕ). cond (nat_le i j) (pos 1) (pos 0)) (after 0 m)) e
-        ∙ total_up_to 0 c m (λ (i : ℕ). pos 1) (omega arith)
+        ∙ total_after 0 c m (λ (i : ℕ). pos 1) (omega arith)
         ∙ total_constant (pos 1) (after 0 c)
         ∙ one-product (pos (length (after 0 c)))
         ∙ ap pos (length_after 0 c)
 
 -- ---- both
-
-coefficient_scale : (c : ℤ) (f : Poly) (α : List ℕ) → coefficient (scale c f) α ≡ c *ℤ coefficient f α
-coefficient_scale c f α = coefficient_pair (scale c f) α ∙ pair_scale c f (at_only α) ∙ ap (λ x. c *ℤ x) (sym (coefficient_pair f α))
 
 -- whether γ, with i taken from a place of α, has the degree that is left
 left_degree : (n k i : ℕ) (α γ : List ℕ) → i ≤ k → Among γ (lowered i α) → is_exponent_list n (k - i) γ ≡ is_exponent_list n k α
@@ -100,10 +86,6 @@ left_degree n k i α γ h m =
     (λ e. let d = eqb-true (size γ) (k - i) e in eq-eqb (size α) k (omega arith))
     (λ e. let d = eqb-true (size α) k e in eq-eqb (size γ) (k - i) (omega arith)))
 
-total_pull : {A : Type 0} (b : Bool) (f : A → ℤ) (xs : List A) → total (λ (x : A). cond b (f x) (pos 0)) xs ≡ cond b (total f xs) (pos 0)
-total_pull true f xs = refl
-total_pull false f xs = total_zero xs
-
 -- the coefficient of p_i times the sum of the monomials of degree k - i that pass a test
 one_product : (test : List ℕ → Bool) (n k i : ℕ) (α : List ℕ) → 0 < i → i ≤ k
     → coefficient (times (power_sum_of i n) (monomials test n (k - i))) α ≡ cond (is_exponent_list n k α) (total (λ (γ : List ℕ). cond (test γ) (pos 1) (pos 0)) (lowered i α)) (pos 0)
@@ -111,7 +93,7 @@ one_product test n k i α p h =
     coefficient-power_sum_times i n (monomials test n (k - i)) α p (In-monomials test n (k - i))
     ∙ total_among (coefficient (monomials test n (k - i))) (λ (γ : List ℕ). cond (is_exponent_list n k α) (cond (test γ) (pos 1) (pos 0)) (pos 0)) (lowered i α)
     (λ γ m. coefficient-monomials test n (k - i) γ ∙ ap (λ (b : Bool). cond b (cond (test γ) (pos 1) (pos 0)) (pos 0)) (left_degree n k i α γ h m))
-    ∙ total_pull (is_exponent_list n k α) (λ (γ : List ℕ). cond (test γ) (pos 1) (pos 0)) (lowered i α)
+    ∙ total_cond (is_exponent_list n k α) (λ (γ : List ℕ). cond (test γ) (pos 1) (pos 0)) (lowered i α)
 
 size_of : (n k : ℕ) (α : List ℕ) → is_exponent_list n k α ≡ true → size α ≡ k
 size_of n k α e = let p = and_parts (length α == n) (size α == k) e in eqb-true (size α) k p.1
@@ -124,7 +106,7 @@ newton_complete k n α =
     ∙ sym (total_each (λ (t : Term). cond (same t.0 α) t.1 (pos 0)) (λ (i : ℕ). times (power_sum_of i n) (complete_of (k - i) n)) (after 0 k)
     ∙ total_among (λ (i : ℕ). coefficient (times (power_sum_of i n) (complete_of (k - i) n)) α) (λ (i : ℕ). cond (is_exponent_list n k α) (total (λ (γ : List ℕ). pos 1) (lowered i α)) (pos 0)) (after 0 k)
     (λ i m. let r = after_among 0 k i m in let l = r.1 in one_product (λ β. true) n k i α r.0 (omega arith))
-    ∙ total_pull (is_exponent_list n k α) (λ (i : ℕ). total (λ (γ : List ℕ). pos 1) (lowered i α)) (after 0 k))
+    ∙ total_cond (is_exponent_list n k α) (λ (i : ℕ). total (λ (γ : List ℕ). pos 1) (lowered i α)) (after 0 k))
   where
     by : (b : Bool) → (b ≡ true → size α ≡ k) → pos k *ℤ cond b (pos 1) (pos 0) ≡ cond b (total (λ (i : ℕ). total (λ (γ : List ℕ). pos 1) (lowered i α)) (after 0 k)) (pos 0)
     by true s = let e = s refl in product-one (pos k) ∙ ap pos (sym e) ∙ sym (total_places k α (omega arith))
@@ -171,7 +153,7 @@ one_peak : (m c : ℕ) → c ≤ m → total (λ (i : ℕ). cond (nat_le i c) (t
 one_peak m c h =
     let e : c ≡ 0 + c = omega arith in
     ap (λ (j : ℕ). total (λ (i : ℕ). cond (nat_le i j) (turn i *ℤ cond (nat_le (c - i) 1) (pos 1) (pos 0)) (pos 0)) (after 0 m)) e
-    ∙ total_up_to 0 c m (λ (i : ℕ). turn i *ℤ cond (nat_le (c - i) 1) (pos 1) (pos 0)) h
+    ∙ total_after 0 c m (λ (i : ℕ). turn i *ℤ cond (nat_le (c - i) 1) (pos 1) (pos 0)) h
     ∙ peak c
 
 first_place : (p q r : Bool) (t : ℤ) → t *ℤ cond p (cond (q && r) (pos 1) (pos 0)) (pos 0) ≡ cond r (cond p (t *ℤ cond q (pos 1) (pos 0)) (pos 0)) (pos 0)
@@ -214,8 +196,8 @@ elementary_places m (c ∷ α) h =
     (after 0 m)
     ∙ total_add (λ (i : ℕ). cond (at_most_one α) (cond (nat_le i c) (turn i *ℤ cond (nat_le (c - i) 1) (pos 1) (pos 0)) (pos 0)) (pos 0)) (λ (i : ℕ). cond (nat_le c 1) (turn i *ℤ total (λ (γ : List ℕ). cond (at_most_one γ) (pos 1) (pos 0)) (lowered i α)) (pos 0)) (after 0 m)
     ∙ ap₂ ◌+ℤ◌
-    (total_pull (at_most_one α) (λ (i : ℕ). cond (nat_le i c) (turn i *ℤ cond (nat_le (c - i) 1) (pos 1) (pos 0)) (pos 0)) (after 0 m) ∙ ap (λ (z : ℤ). cond (at_most_one α) z (pos 0)) (one_peak m c (omega arith)))
-    (total_pull (nat_le c 1) (λ (i : ℕ). turn i *ℤ total (λ (γ : List ℕ). cond (at_most_one γ) (pos 1) (pos 0)) (lowered i α)) (after 0 m) ∙ ap (λ (z : ℤ). cond (nat_le c 1) z (pos 0)) (elementary_places m α (omega arith)))
+    (total_cond (at_most_one α) (λ (i : ℕ). cond (nat_le i c) (turn i *ℤ cond (nat_le (c - i) 1) (pos 1) (pos 0)) (pos 0)) (after 0 m) ∙ ap (λ (z : ℤ). cond (at_most_one α) z (pos 0)) (one_peak m c (omega arith)))
+    (total_cond (nat_le c 1) (λ (i : ℕ). turn i *ℤ total (λ (γ : List ℕ). cond (at_most_one γ) (pos 1) (pos 0)) (lowered i α)) (after 0 m) ∙ ap (λ (z : ℤ). cond (nat_le c 1) z (pos 0)) (elementary_places m α (omega arith)))
     ∙ with_first c (size α) (at_most_one α)
 
 turn_inside : (b : Bool) (t x : ℤ) → t *ℤ cond b x (pos 0) ≡ cond b (t *ℤ x) (pos 0)
@@ -234,7 +216,7 @@ newton_elementary k n α =
     coefficient_scale (turn i) (times (power_sum_of i n) (elementary_of (k - i) n)) α
     ∙ ap (λ x. turn i *ℤ x) (one_product at_most_one n k i α r.0 (omega arith))
     ∙ turn_inside (is_exponent_list n k α) (turn i) (total (λ (γ : List ℕ). cond (at_most_one γ) (pos 1) (pos 0)) (lowered i α)))
-    ∙ total_pull (is_exponent_list n k α) (λ (i : ℕ). turn i *ℤ total (λ (γ : List ℕ). cond (at_most_one γ) (pos 1) (pos 0)) (lowered i α)) (after 0 k))
+    ∙ total_cond (is_exponent_list n k α) (λ (i : ℕ). turn i *ℤ total (λ (γ : List ℕ). cond (at_most_one γ) (pos 1) (pos 0)) (lowered i α)) (after 0 k))
   where
     scaled : (b : Bool) → pos k *ℤ cond b (pos 1) (pos 0) ≡ cond b (pos k) (pos 0)
     scaled true = product-one (pos k)

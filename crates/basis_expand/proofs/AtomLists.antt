@@ -1,7 +1,7 @@
 -- Products over the parts of a partition, factor by factor.
 --     IsBounded-one, -product        bounds of one factor and of the product
 --     list-rest, large-rest          one factor more
-use Rattle.std.proofs.Common.{◌≡◌, true, ℕ, ◌+◌, ◌^◌, ◌<◌, ◌≤◌, List, [], ◌∷◌, length, take, drop, sym, ap, subst, refl, inl, inr, arith, pos, append-nil, ◌-◌, get_or, take_all}
+use Rattle.std.proofs.Common.{◌≡◌, true, ℕ, ◌+◌, ◌^◌, ◌<◌, ◌≤◌, List, [], ◌∷◌, length, sym, subst, refl, inl, inr, arith, pos, append-nil}
 use Rattle.std.proofs.lemmas.Int.{ints}
 use Rattle.sym_model.specs.Sum.{Among, Once}
 use Rattle.sym_model.specs.Partition.{IsPartition, size}
@@ -62,12 +62,7 @@ large-later k s h = let g = growth-mono s (k + s) (omega arith) in three (2 ^ 12
     three : (a b c : ℕ) → a ≤ b → b ≤ c → a ≤ c
     three a b c h k = omega arith
 
--- the first part, and those behind it as a slice holds them
-pub split_parts : (parts : List ℕ) → 1 ≤ length parts → get_or parts 0 0 ∷ take (length parts - 1) (drop 1 parts) ≡ parts
-split_parts [] h = absurd (omega arith)
-split_parts (k ∷ rest) h = ap (λ r. k ∷ r) (take_all (length (k ∷ rest) - 1) rest (omega arith))
-
-no_parts : (parts : List ℕ) → length parts < 1 → [] ≡ parts
+pub no_parts : (parts : List ℕ) → length parts < 1 → [] ≡ parts
 no_parts [] h = refl
 no_parts (k ∷ rest) h = absurd (omega arith)
 

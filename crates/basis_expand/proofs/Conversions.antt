@@ -15,11 +15,11 @@ use Rattle.sym_model.specs.Expansion.{Basis}
 use Rattle.sym_model.specs.Expression.{Tree, number, fraction, negation, sum, difference, product, degree, lcm, denominator, cleared_value}
 use Rattle.sym_model.specs.Weight.{growth, numerator, weight}
 use Rattle.sym_model.specs.WholeTerms.{WholeTerms, numerators, labels}
-use Rattle.sym_model.proofs.Polynomials.{coefficient_scale, coefficient_negate, Same_sym, Same_refl, Same_trans, plus_respects, scale_respects}
+use Rattle.sym_model.proofs.Polynomials.{coefficient_scale, coefficient_negate, Same_sym, Same_refl, Same_trans, plus_respects}
 use Rattle.sym_model.proofs.Ring.{ring}
-use Rattle.monomial_laws.specs.ExpressionTerms.{in_monomials, IsList, IsCleared, HasDenominators}
+use Rattle.monomial_laws.specs.ExpressionTerms.{in_monomials, IsCleared, HasDenominators}
 use Rattle.monomial_laws.specs.MonomialProduct.{product_coefficient}
-use Rattle.monomial_laws.proofs.ExpressionTerms.{list-scale, list_respects, cleared-number, cleared-fraction, cleared-negation, cleared-sum, cleared-product}
+use Rattle.monomial_laws.proofs.ExpressionTerms.{list_respects, cleared-number, cleared-fraction, cleared-negation, cleared-sum, cleared-product, scaled}
 use Rattle.monomial_laws.proofs.Majorants.{bounded_value, bounded-scale, bounded_respects}
 use Rattle.monomial_laws.proofs.WeightBounds.{product_within_growth, growth-mono, growth-within_weight, denominator-within_weight}
 use Rattle.basis_expand.specs.declared.cleared.Cleared.{Cleared}
@@ -131,17 +131,10 @@ large-product e f A B i j o p h k (ν, is, l) =
     let w = growth-within_weight (product e f) (i, j) in
     omega (arith, ints)
 
--- a multiple of a part of a sum
-scaled_list : (q : ℕ) (A : WholeTerms) (e : Tree) → IsCleared A e → IsList (scale (pos q) A) (λ n. scale (pos q) (cleared_value e n))
-scaled_list q A e h n =
-    Same_trans (in_monomials (scale (pos q) A) n) (scale (pos q) (in_monomials A n)) (scale (pos q) (cleared_value e n))
-    (list-scale (pos q) A n)
-    (scale_respects (pos q) (in_monomials A n) (cleared_value e n) (h n))
-
 multiple-within : (e : Tree) (q N d : ℕ) (A : WholeTerms) → IsCleared A e → numerator e * q ≤ N → degree e ≤ d → (l : HasLarge (scale (pos q) A)) → 2 ^ 127 ≤ N * growth Basis.monomials d
 multiple-within e q N d A h n g l =
     let within =
-    coefficient-within (numerator e * q) (degree e) (scale (pos q) A) (λ k. scale (pos q) (cleared_value e k)) (scaled_list q A e h)
+    coefficient-within (numerator e * q) (degree e) (scale (pos q) A) (λ k. scale (pos q) (cleared_value e k)) (scaled q A e h)
     (λ k. bounded-scale (numerator e) (degree e) q k (cleared_value e k) (bounded_value e k)) l.label l.partition in
     let grown = mul-le (numerator e * q) (growth Basis.monomials (degree e)) N (growth Basis.monomials d) n (growth-mono (degree e) d g) in
     let large = l.large in

@@ -12,7 +12,8 @@ use Rattle.sym_model.proofs.Sums.{total_map, total_none}
 use Rattle.sym_model.proofs.Exponents.{same_apart}
 use Rattle.sym_model.proofs.SortedParts.{rows_within_size}
 use Rattle.sym_model.proofs.PartitionLists.{partitions_of-tells, Once-FallsLexicographically, FallsLexicographically-partitions_within}
-use Rattle.monomial_laws.proofs.AtomTerms.{size-ones, Falls-ones}
+use Rattle.sym_model.proofs.Parts.{size-ones}
+use Rattle.monomial_laws.proofs.AtomTerms.{Falls-ones}
 use Rattle.partitions.specs.Limits.{IsWithinLimits}
 
 -- the labels with the coefficient 1

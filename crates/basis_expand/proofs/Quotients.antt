@@ -30,9 +30,11 @@ use Rattle.std.proofs.lemmas.Bool.{false_from_ne_true}
 use Rattle.sparse_polys.specs.Combination.{terms_of, are_terms, HasMoreAt}
 use Rattle.sparse_polys.specs.Refusal.{IsRefused}
 use Rattle.sparse_polys.proofs.Steps.{fits-zero_left}
+use Rattle.sparse_polys.proofs.Coefficients.{numerators-terms}
 use Rattle.monomial_laws.proofs.DividedTerms.{IsDivided}
 use Rattle.basis_expand.specs.Tables.{equal, found, IsTable}
 use Rattle.basis_expand.proofs.WholeLists.{equal_from, equal_apart, found-among, found-absent, Once-keys, Once-labels}
+use Rattle.basis_expand.proofs.PartitionTerms.{once_before}
 use lib.IntN.{+ℤ_idr}
 use native.Mathlib.Nat.{mul-pos}
 
@@ -90,19 +92,6 @@ Quotients-next d old new W label c h q more l = more l ∙ by (same_or_not label
 
 -- ---- the list on the way through it
 
-pub numerators-whole : (es : WholeTerms) → numerators (terms_of whole es) ≡ es
-numerators-whole [] = refl
-numerators-whole (e ∷ es) = ap (λ t. e ∷ t) (numerators-whole es)
-
-Among-middle : (before : List (List ℕ)) (label : List ℕ) (new : List (List ℕ)) → Among label (before ++ (label ∷ new))
-Among-middle [] label new = inl refl
-Among-middle (l ∷ before) label new = inr (Among-middle before label new)
-
-once_before : (before new : List (List ℕ)) (label : List ℕ) → Once (before ++ (label ∷ new)) → Among label before → ⊥
-once_before [] new label o m = m
-once_before (l ∷ before) new label o (inl e) = o.0 (subst (λ x. Among x (before ++ (label ∷ new))) e (Among-middle before label new))
-once_before (l ∷ before) new label o (inr m) = once_before before new label o.1 m
-
 -- a label has no coefficient among those before it
 pub coefficient-before : (terms : Terms (List ℕ)) → IsTable terms → (done rest : WholeTerms) (k : List ℕ) (v : ℤ) → terms_of whole (done ++ (k, v) ∷ rest) ≡ terms → coefficient done k ≡ pos 0
 coefficient-before terms is done rest k v e =
@@ -110,7 +99,7 @@ coefficient-before terms is done rest k v e =
     (λ t m. ap (λ b. cond b t.1 (pos 0)) (same_apart t.0 k (λ i. once_before (labels done) (labels rest) k once (subst (λ l. Among l (labels done)) i (Among-map (λ (u : Term). u.0) t done m)))))
   where
     entries : numerators terms ≡ done ++ (k, v) ∷ rest
-    entries = ap numerators (sym e) ∙ numerators-whole (done ++ (k, v) ∷ rest)
+    entries = ap numerators (sym e) ∙ numerators-terms (done ++ (k, v) ∷ rest)
 
     once : Once (labels done ++ (k ∷ labels rest))
     once = subst (λ (ls : List (List ℕ)). Once ls) (ap labels entries ∙ map-append (λ (u : Term). u.0) done ((k, v) ∷ rest)) (Once-labels terms is)

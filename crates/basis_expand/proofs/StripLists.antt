@@ -2,27 +2,18 @@
 --     with_row_numbers     the numbers of a shape with a row above it
 --     below-limits         what stands below a shortened row is within the limits with it
 --     strips-next, -all    the strips by how many cells they have in the first row
-use Rattle.std.proofs.Common.{◌≡◌, ℕ, zero, suc, ◌+◌, ◌-◌, ◌<◌, ◌≤◌, min, List, [], ◌∷◌, ◌++◌, map, length, get_or, sym, ◌∙◌, ap, refl, inl, inr, arith, append_assoc, append-nil}
+use Rattle.std.proofs.Common.{◌≡◌, ℕ, suc, ◌+◌, ◌-◌, ◌≤◌, min, List, [], ◌∷◌, ◌++◌, map, sym, ◌∙◌, ap, arith, append-nil}
 use Rattle.sym_model.specs.Sum.{each, Among}
-use Rattle.sym_model.specs.Partition.{IsPartition, ArePositive, part, in_front, without_last_zeros}
+use Rattle.sym_model.specs.Partition.{IsPartition, part, in_front, without_last_zeros}
+use Rattle.sym_model.proofs.Parts.{without_last_zeros-positive, length-in_front, size-in_front}
+use Rattle.sym_model.proofs.Lists.{each-append}
 use Rattle.partitions.specs.Limits.{IsWithinLimits}
 use Rattle.schur_laws.specs.Kostka.{below, strips_off}
-use Rattle.schur_laws.proofs.KostkaNumbers.{partition_tail, strips_off-tell, IsPartition-in_front, rows-in_front, size-in_front}
-
-positive-without_last_zeros : (parts : List ℕ) → ArePositive parts → without_last_zeros parts ≡ parts
-positive-without_last_zeros [] h = refl
-positive-without_last_zeros (zero ∷ parts) h = absurd (let l = h.0 in omega arith)
-positive-without_last_zeros (suc a ∷ parts) h = ap (in_front (suc a)) (positive-without_last_zeros parts h.1)
+use Rattle.schur_laws.proofs.KostkaNumbers.{partition_tail, strips_off-tell, IsPartition-in_front}
 
 -- the numbers of a shape with a row above it
 pub with_row_numbers : (row : ℕ) (rest numbers : List ℕ) → IsPartition rest → numbers ≡ row ∷ rest → without_last_zeros numbers ≡ in_front row rest
-with_row_numbers row rest numbers p e = ap without_last_zeros e ∙ ap (in_front row) (positive-without_last_zeros rest p.positive)
-
--- an element of a list by its place
-pub among_place : {A : Type 0} (xs : List A) (i : ℕ) (x : A) → i < length xs → x ≡ get_or xs i x → Among x xs
-among_place [] i x h e = absurd (omega arith)
-among_place (y ∷ xs) zero x h e = inl e
-among_place (y ∷ xs) (suc i) x h e = inr (among_place xs i x (omega arith) e)
+with_row_numbers row rest numbers p e = ap without_last_zeros e ∙ ap (in_front row) (without_last_zeros-positive rest p.positive)
 
 pub below-limits : (k i row : ℕ) (rest left : List ℕ) → IsWithinLimits (row ∷ rest) → i ≤ row - part rest 1 → Among left (strips_off (k - i) rest) → IsWithinLimits (in_front (row - i) left)
 below-limits k i row rest left h l m =
@@ -32,13 +23,9 @@ below-limits k i row rest left h l m =
     let small = h.small in
     record {
       partition = IsPartition-in_front (row - i) left is.partition (let f = is.first in let g = t.1 in omega arith);
-      few = let r = rows-in_front (row - i) left in let f = is.few in omega arith;
+      few = let r = length-in_front (row - i) left in let f = is.few in omega arith;
       small = let s = size-in_front (row - i) left in let e = is.size_is in omega arith;
     }
-
-each-append : {A B : Type 0} (f : A → List B) (xs ys : List A) → each f (xs ++ ys) ≡ each f xs ++ each f ys
-each-append f [] ys = refl
-each-append f (x ∷ xs) ys = ap (λ l. f x ++ l) (each-append f xs ys) ∙ sym (append_assoc (f x) (each f xs) (each f ys))
 
 -- the strips by how many cells they have in the first row
 abbrev pub with_cells : ℕ → ℕ → List ℕ → ℕ → List (List ℕ)

@@ -1,5 +1,5 @@
 -- Tables of shapes with what led to them: their pairings with Kostka numbers, and what bounds them.
-use Rattle.std.proofs.Common.{mul-le-mul_left, ◌≡◌, ℕ, ◌^◌, ◌≤◌, Bool, true, false, cond, List, [], ◌∷◌, ◌++◌, replicate, sym, ◌∙◌, ap, subst, refl, inl, arith, append_assoc, append-nil, ℤ, pos, ◌+ℤ◌, ◌*ℤ◌, negsuc}
+use Rattle.std.proofs.Common.{◌≡◌, ℕ, ◌^◌, ◌≤◌, Bool, true, false, cond, List, [], ◌∷◌, ◌++◌, replicate, sym, ◌∙◌, ap, subst, refl, inl, arith, append_assoc, append-nil, ℤ, pos, ◌+ℤ◌, ◌*ℤ◌}
 use Rattle.std.specs.Prelude.{◌≤ℤ◌, nat_abs}
 use Rattle.std.proofs.lemmas.Int.{ints}
 use Rattle.sym_model.specs.Sum.{total}
@@ -17,6 +17,7 @@ use Rattle.basis_expand.specs.Tables.{found, IsTable}
 use Rattle.basis_expand.proofs.WholeLists.{coefficient-whole}
 use Rattle.basis_expand.proofs.StripTerms.{natural-rest, natural-table, coefficient-strip_terms}
 use Rattle.sym_model.proofs.Polynomials.{coefficient_pair, pair_each, pair_determined}
+use Rattle.sym_model.proofs.Integers.{product-at_least, product-nonnegative}
 use Rattle.schur_laws.specs.Kostka.{strips_off, kostka}
 use Rattle.schur_laws.proofs.SchurLists.{kostka-not_negative, kostka-within, kostka-ones}
 use Rattle.basis_expand.specs.Large.{HasLarge}
@@ -55,16 +56,6 @@ leads-end shape content terms h = coefficient_pair terms [] ∙ h [] ∙ ap (kos
 
 -- ---- bounds
 
-grown : (a b : ℤ) → pos 0 ≤ℤ a → pos 1 ≤ℤ b → a ≤ℤ (a *ℤ b)
-grown (negsuc m) b h k = absurd (omega (arith, ints))
-grown (pos m) (negsuc n) h k = absurd (omega (arith, ints))
-grown (pos m) (pos n) h k = let l : 1 ≤ n = omega (arith, ints) in let p = mul-le-mul_left m l in omega (arith, ints)
-
-natural-product : (a b : ℤ) → pos 0 ≤ℤ a → pos 0 ≤ℤ b → pos 0 ≤ℤ (a *ℤ b)
-natural-product (negsuc m) b h k = absurd (omega (arith, ints))
-natural-product (pos m) (negsuc n) h k = absurd (omega (arith, ints))
-natural-product (pos m) (pos n) h k = omega (arith, ints)
-
 -- a pairing with natural numbers is at least the coefficient of a label where the number is not 0
 pair-at_least : (terms : WholeTerms) (φ : List ℕ → ℤ) (label : List ℕ) → AreNatural terms → ((shape : List ℕ) → pos 0 ≤ℤ φ shape) → pos 1 ≤ℤ φ label → coefficient terms label ≤ℤ pair terms φ
 pair-at_least [] φ label h n one = omega (arith, ints)
@@ -72,9 +63,9 @@ pair-at_least (t ∷ terms) φ label h n one = by (same t.0 label) refl (pair-at
   where
     by : (b : Bool) → same t.0 label ≡ b → coefficient terms label ≤ℤ pair terms φ → (cond b t.1 (pos 0) +ℤ coefficient terms label) ≤ℤ (t.1 *ℤ φ t.0 +ℤ pair terms φ)
     by true e r =
-        let g = grown t.1 (φ t.0) (h t (inl refl)) (subst (λ l. pos 1 ≤ℤ φ l) (sym (same_true t.0 label e)) one) in
+        let g = product-at_least t.1 (φ t.0) (h t (inl refl)) (subst (λ l. pos 1 ≤ℤ φ l) (sym (same_true t.0 label e)) one) in
         omega (arith, ints)
-    by false e r = let g = natural-product t.1 (φ t.0) (h t (inl refl)) (n t.0) in omega (arith, ints)
+    by false e r = let g = product-nonnegative t.1 (φ t.0) (h t (inl refl)) (n t.0) in omega (arith, ints)
 
 natural-strip_terms : (k : ℕ) (terms : WholeTerms) → AreNatural terms → AreNatural (strip_terms k terms)
 natural-strip_terms k terms h t m =

@@ -18,6 +18,7 @@ use Rattle.sym_model.proofs.Sums.{Among-append_left, Among-append_right, Among_f
 use Rattle.sym_model.proofs.Exponents.{same_from}
 use Rattle.sparse_polys.specs.Combination.{terms_of, HasMoreAt}
 use Rattle.sparse_polys.specs.Refusal.{IsRefused}
+use Rattle.sparse_polys.proofs.Coefficients.{numerators-terms}
 use Rattle.basis_expand.specs.Tables.{equal, found, IsTable}
 use Rattle.basis_expand.specs.Large.{HasLarge}
 use Rattle.basis_expand.specs.Strips.{terms_at, strip_terms, AreNatural, ArePartitions}
@@ -25,7 +26,6 @@ use Rattle.schur_laws.specs.Kostka.{strips_off}
 use Rattle.basis_expand.proofs.WholeLists.{Finds, Finds-next, coefficient-whole, coefficient-numerators, found-among}
 use Rattle.basis_expand.proofs.TableSums.{IsRefused-size}
 use Rattle.basis_expand.proofs.PartitionTerms.{Among-after}
-use Rattle.basis_expand.proofs.Quotients.{numerators-whole}
 use Rattle.schur_laws.proofs.KostkaNumbers.{strips_off-tell}
 
 -- ---- one shape more
@@ -149,7 +149,7 @@ natural-table terms is h t m =
 
 -- the pairs that a table is shown as are its terms
 pub entries : (pairs : WholeTerms) (terms : Terms (List ℕ)) → terms_of whole pairs ≡ terms → pairs ≡ numerators terms
-entries pairs terms e = sym (numerators-whole pairs) ∙ ap numerators e
+entries pairs terms e = sym (numerators-terms pairs) ∙ ap numerators e
 
 -- the coefficient of a term that is listed is natural
 pub natural-at : (done rest all : WholeTerms) (shape : List ℕ) (c : ℤ) → done ++ ((shape, c) ∷ rest) ≡ all → AreNatural all → pos 0 ≤ℤ c

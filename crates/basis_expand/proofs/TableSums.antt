@@ -1,14 +1,14 @@
 -- What the operations of a table with whole coefficients do with its list of terms.
 --     Same-multiple, Same-sum        the values
 --     large_product, large_sum       where they are refused
-use Rattle.std.proofs.Common.{◌≡◌, ◌⊎◌, ℕ, ◌^◌, ◌<◌, ◌≤◌, Bool, true, false, List, sym, ◌∙◌, ap, ap₂, subst, refl, inl, inr, arith, ℤ, pos, negsuc, ◌+ℤ◌, ◌*ℤ◌}
-use Rattle.std.specs.Prelude.{nat_abs, FitsSigned, None, nat_lt}
+use Rattle.std.proofs.Common.{◌≡◌, ℕ, ◌^◌, ◌≤◌, Bool, true, false, List, sym, ◌∙◌, ap, ap₂, subst, refl, arith, ℤ, pos, ◌+ℤ◌, ◌*ℤ◌}
+use Rattle.std.specs.Prelude.{nat_abs, FitsSigned}
 use Rattle.std.specs.Int.{w128}
-use Rattle.std.proofs.lemmas.Bool.{and_parts, cases_lt, lt-ltb}
-use Rattle.std.proofs.lemmas.Int.{ints}
+use Rattle.std.proofs.lemmas.Bool.{and_parts}
 use Rattle.coeff_rings.specs.Fractions.{whole, fraction_sum, fraction_product}
-use Rattle.coeff_rings.specs.Checked.{checked_i128, where_fits}
-use Rattle.coeff_rings.specs.Proved.Whole.{same_whole, sum-whole, product-whole, where_fits-true}
+use Rattle.coeff_rings.specs.Checked.{checked_i128}
+use Rattle.coeff_rings.specs.Proved.Whole.{same_whole, sum-whole, product-whole}
+use Rattle.coeff_rings.proofs.Sizes.{refused_size}
 use Rattle.sym_model.specs.Sum.{Among}
 use Rattle.sym_model.specs.Partition.{IsPartition}
 use Rattle.sym_model.specs.Polynomial.{Same, coefficient, plus, scale}
@@ -48,27 +48,14 @@ Same-sum first second sum is w js v also sums =
 
 -- ---- refusals
 
--- a number that is refused is large
-pub refused-size : (z : ℤ) → checked_i128 z ≡ None → 2 ^ 127 ≤ nat_abs z
-refused-size (pos n) e = by (cases_lt n (2 ^ 127))
-  where
-    by : (n < 2 ^ 127) ⊎ (2 ^ 127 ≤ n) → 2 ^ 127 ≤ n
-    by (inl l) = absurd (let some = where_fits-true (nat_lt n (2 ^ 127)) (pos n) (lt-ltb n (2 ^ 127) l) in let none : where_fits (nat_lt n (2 ^ 127)) (pos n) ≡ None = e in cc)
-    by (inr l) = l
-refused-size (negsuc n) e = by (cases_lt n (2 ^ 127))
-  where
-    by : (n < 2 ^ 127) ⊎ (2 ^ 127 ≤ n) → 2 ^ 127 ≤ nat_abs (negsuc n)
-    by (inl l) = absurd (let some = where_fits-true (nat_lt n (2 ^ 127)) (negsuc n) (lt-ltb n (2 ^ 127) l) in let none : where_fits (nat_lt n (2 ^ 127)) (negsuc n) ≡ None = e in cc)
-    by (inr l) = omega (arith, ints)
-
 -- a refused sum or product of whole numbers
 pub IsRefused-size : (op : ℤ → ℤ → ℤ) (a b : ℤ) → IsRefused (FitsSigned w128) whole (λ (x y : ℤ). checked_i128 (op x y)) (whole a) (whole b) → 2 ^ 127 ≤ nat_abs (op a b)
 IsRefused-size op a b r =
     let left : r.left ≡ a = same_whole r.left a r.left_value in
     let right : r.right ≡ b = same_whole r.right b r.right_value in
-    refused-size (op a b) (ap (λ z. checked_i128 z) (ap₂ op (sym left) (sym right)) ∙ r.refused)
+    refused_size (op a b) (ap (λ z. checked_i128 z) (ap₂ op (sym left) (sym right)) ∙ r.refused)
 
-label-partition : (terms : Terms (List ℕ)) → IsTable terms → (t : List ℕ × Fraction) → Among t terms → IsPartition t.0
+pub label-partition : (terms : Terms (List ℕ)) → IsTable terms → (t : List ℕ × Fraction) → Among t terms → IsPartition t.0
 label-partition terms is t m = (is_label-tells t.0 (and_parts _ (is_label t.0) (each_term-among _ terms is.proper t m)).1).partition
 
 pub large_product : (old : Terms (List ℕ)) (q : ℤ) → IsTable old → AreWhole old

@@ -27,7 +27,7 @@ use Rattle.sym_model.specs.WholeTerms.{WholeTerms, AreWhole, numerators, labels}
 use Rattle.sym_model.proofs.Polynomials.{coefficient_plus}
 use Rattle.sym_model.proofs.Sums.{Among-map}
 use Rattle.sym_model.proofs.Exponents.{same_from, same_apart, same_or_not}
-use Rattle.sparse_polys.specs.Combination.{are_terms, terms_of, HasMoreAt}
+use Rattle.sparse_polys.specs.Combination.{are_terms, HasMoreAt}
 use Rattle.sparse_polys.specs.Refusal.{IsRefused}
 use Rattle.sparse_polys.proofs.Steps.{fits-zero_left}
 use Rattle.basis_expand.specs.Tables.{equal, found, IsTable}
@@ -115,10 +115,6 @@ Once-labels terms is = subst Once (sym (labels-numerators terms)) (Once-distinct
 
 -- ---- tables that are made term by term
 
-pub AreWhole-terms_of : (es : List (List ℕ × ℤ)) → AreWhole (terms_of whole es)
-AreWhole-terms_of [] = tt
-AreWhole-terms_of (e ∷ es) = (refl, AreWhole-terms_of es)
-
 -- the look-ups find the coefficients of the list
 abbrev pub Finds : Terms (List ℕ) → WholeTerms → Type 0
 Finds terms W = (label : List ℕ) → found terms label ≡ whole (coefficient_of W label)
@@ -171,11 +167,6 @@ found-among (u ∷ terms) d t (inr m) =
     apart : (b : Bool) → equal t.0 u.0 ≡ b → equal t.0 u.0 ≡ false
     apart true e = absurd ((Once-distinct (keys_of (u ∷ terms)) d).0 (subst (λ k. Among k (keys_of terms)) (equal_tells t.0 u.0 e) (Among-map (λ (v : List ℕ × Fraction). v.0) t terms m)))
     apart false e = e
-
--- what follows for each list that is answered
-pub if_ok : {T E : Type 0} {P Q : T → Type 0} (r : Result T E) → IfOk r P → ((x : T) → P x → Q x) → IfOk r Q
-if_ok (Ok x) h f = f x h
-if_ok (Err e) h f = tt
 
 pub if_ok_both : {T E : Type 0} {P Q R : T → Type 0} (r : Result T E) → IfOk r P → IfOk r Q → ((x : T) → P x → Q x → R x) → IfOk r R
 if_ok_both (Ok x) h k f = f x h k

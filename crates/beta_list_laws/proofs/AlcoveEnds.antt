@@ -20,7 +20,8 @@ use Rattle.beta_list_laws.proofs.SortedLists.{sorted_strict}
 use Rattle.beta_list_laws.specs.AlcoveEnd.{remainders, match_in, IsAlcoveEnd, up}
 use Rattle.beta_list_laws.proofs.Remainders.{alike_same, test_unlike}
 use Rattle.beta_list_laws.proofs.Lowest.{strict_pairs}
-use Rattle.beta_list_laws.proofs.Windows.{LieIn, up_low, up_high, up-remainder, up_is, map_append, sorted-map-sorted, last_of, spread_is, last_below, narrow_lie, alcove_only}
+use Rattle.beta_list_laws.proofs.Windows.{LieIn, up_low, up_high, up-remainder, up_is, sorted-map-sorted, last_of, spread_is, last_below, narrow_lie, alcove_only}
+use Rattle.beta_list_laws.proofs.BetaLowerings.{map_append}
 
 -- ---- equal entries
 
@@ -38,7 +39,7 @@ equal_map f (a ∷ b) e = elim (or_cases (has a b) (has_equal_entries b) e) [
   | inr h ↦ ap (λ t. has (f a) (map f b) || t) (equal_map f b h) ∙ or-true (has (f a) (map f b))
 ]
 
-equal_inside : (left : List ℕ) (x y : ℕ) (right : List ℕ) → x ≡ y → has_equal_entries (left ++ (x ∷ y ∷ right)) ≡ true
+pub equal_inside : (left : List ℕ) (x y : ℕ) (right : List ℕ) → x ≡ y → has_equal_entries (left ++ (x ∷ y ∷ right)) ≡ true
 equal_inside [] x y right e = ap (λ t. t || has_equal_entries (y ∷ right)) (has_here x y right (sym e))
 equal_inside (c ∷ left) x y right e = or_either (has c (left ++ (x ∷ y ∷ right))) (has_equal_entries (left ++ (x ∷ y ∷ right))) (equal_inside left x y right e)
 

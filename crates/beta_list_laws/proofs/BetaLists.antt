@@ -11,13 +11,14 @@ use Rattle.sym_model.proofs.SortedParts.{IsPartition-without_last_zeros, size-wi
 use Rattle.strip_laws.proofs.Strips.{falls_part}
 use Rattle.beta_list_laws.specs.StrictFall.{FallsStrictly}
 use Rattle.sym_model.proofs.AfterLists.{length_after}
+use Rattle.sym_model.proofs.Parts.{length-without_last_zeros, get_or-without_last_zeros}
 
 -- ---- lists of values at the places
 
 pub length-beta : (k : ℕ) (parts : List ℕ) → length (beta k parts) ≡ k
 length-beta k parts = length-map (after 0 k) (λ i. part parts i + (k - i)) ∙ length_after 0 k
 
-map_after_ext : (f g : ℕ → ℕ) (a k : ℕ) → ((i : ℕ) → a < i → i ≤ a + k → f i ≡ g i) → map f (after a k) ≡ map g (after a k)
+pub map_after_ext : (f g : ℕ → ℕ) (a k : ℕ) → ((i : ℕ) → a < i → i ≤ a + k → f i ≡ g i) → map f (after a k) ≡ map g (after a k)
 map_after_ext f g a zero e = refl
 map_after_ext f g a (suc k) e = ap₂ ◌∷◌ (e (a + 1) (omega arith) (omega arith)) (map_after_ext f g (a + 1) k (λ i h l. e i (omega arith) (omega arith)))
 
@@ -106,36 +107,15 @@ less_falls (a ∷ c ∷ b) f = let l = f.0 in (omega arith, less_falls (c ∷ b)
 pub from_beta_partition : (b : List ℕ) → FallsStrictly b → IsPartition (from_beta b)
 from_beta_partition b f = IsPartition-without_last_zeros (less_the_rest b) (less_falls b f)
 
-length-less : (b : List ℕ) → length (less_the_rest b) ≡ length b
+pub length-less : (b : List ℕ) → length (less_the_rest b) ≡ length b
 length-less [] = refl
 length-less (a ∷ b) = ap suc (length-less b)
 
-front_rows : (a : ℕ) (l : List ℕ) → length (in_front a l) ≤ suc (length l)
-front_rows zero [] = omega arith
-front_rows zero (b ∷ l) = omega arith
-front_rows (suc a) l = omega arith
-
-dropped_rows : (l : List ℕ) → length (without_last_zeros l) ≤ length l
-dropped_rows [] = omega arith
-dropped_rows (a ∷ l) = let e = dropped_rows l in let f = front_rows a (without_last_zeros l) in omega arith
-
 pub rows-from_beta : (b : List ℕ) → rows (from_beta b) ≤ length b
-rows-from_beta b = let e = dropped_rows (less_the_rest b) in let l = length-less b in omega arith
-
--- dropping zeros changes no part
-get-front : (a n : ℕ) (l : List ℕ) → get_or (in_front a l) n 0 ≡ get_or (a ∷ l) n 0
-get-front zero zero [] = refl
-get-front zero (suc n) [] = refl
-get-front zero n (b ∷ l) = refl
-get-front (suc a) n l = refl
-
-get-dropped : (l : List ℕ) (n : ℕ) → get_or (without_last_zeros l) n 0 ≡ get_or l n 0
-get-dropped [] n = refl
-get-dropped (a ∷ l) zero = get-front a zero (without_last_zeros l)
-get-dropped (a ∷ l) (suc n) = get-front a (suc n) (without_last_zeros l) ∙ get-dropped l n
+rows-from_beta b = let e = length-without_last_zeros (less_the_rest b) in let l = length-less b in omega arith
 
 pub part-from_beta : (b : List ℕ) (i : ℕ) → part (from_beta b) i ≡ part (less_the_rest b) i
-part-from_beta b i = get-dropped (less_the_rest b) (i - 1)
+part-from_beta b i = get_or-without_last_zeros (less_the_rest b) (i - 1)
 
 beta_less : (b : List ℕ) (k : ℕ) → FallsStrictly b → length b ≡ k → map (λ i. part (less_the_rest b) i + (k - i)) (after 0 k) ≡ b
 beta_less [] zero f e = refl

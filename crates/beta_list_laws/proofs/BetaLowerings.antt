@@ -3,22 +3,23 @@
 --     fewer_rows          a removal leaves no row more
 --     lowers_or_full      a strictly falling list has an entry that can be lowered, or is full
 --     full_none           nothing can be lowered in a full list
-use Rattle.std.proofs.Common.{◌≡◌, ℕ, zero, suc, ◌+◌, ◌-◌, ◌<◌, ◌≤◌, ◌⊎◌, ◌↔◌, inl, inr, true, false, List, [], ◌∷◌, ◌++◌, map, length, get_or, refl, sym, ◌∙◌, ap, ap₂, subst, arith}
+use Rattle.std.proofs.Common.{◌≡◌, ℕ, zero, suc, ◌+◌, ◌-◌, ◌<◌, ◌≤◌, ◌⊎◌, ◌↔◌, inl, inr, true, false, List, [], ◌∷◌, ◌++◌, map, length, refl, sym, ◌∙◌, ap, ap₂, subst, arith}
 use Rattle.std.proofs.lemmas.Bool.{cases_lt, cases_eq, cases_Bool}
-use Rattle.sym_model.specs.Partition.{ArePositive, IsPartition, rows, part, after}
+use Rattle.sym_model.specs.Partition.{IsPartition, rows, part, after}
 use Rattle.sym_model.specs.Bases.{has}
 use Rattle.sym_model.specs.BetaList.{beta, from_beta}
 use Rattle.sym_model.specs.Strip.{height}
 use Rattle.sym_model.specs.RimHookReduction.{IsRemoval, HasNoRemoval}
-use Rattle.sym_model.proofs.AfterLists.{length_after}
+use Rattle.sym_model.proofs.AfterLists.{length_after, after-append}
 use Rattle.sym_model.proofs.SortedParts.{has_here, has_past}
+use Rattle.sym_model.proofs.Parts.{past_end, at_least_one, part-get_or}
 use Rattle.std.proofs.lemmas.List.{length-map}
 use Rattle.strip_laws.specs.HookRows.{IsHookRows}
-use Rattle.strip_laws.proofs.RimHooks.{hook_rows, height_of_rows, past_end}
+use Rattle.strip_laws.proofs.RimHooks.{hook_rows, height_of_rows}
 use Rattle.strip_laws.proofs.HookSizes.{hook_size}
 use Rattle.beta_list_laws.specs.StrictFall.{FallsStrictly}
 use Rattle.beta_list_laws.specs.FullBetaList.{IsFull}
-use Rattle.beta_list_laws.proofs.BetaLists.{beta_strict, from_beta-beta, strict_tail}
+use Rattle.beta_list_laws.proofs.BetaLists.{beta_strict, from_beta-beta, strict_tail, map_after_ext}
 use Rattle.beta_list_laws.proofs.BetaRemovals.{before, lowered, shown_removal}
 
 -- b with an entry lowered by n, past the entries of middle, is c
@@ -33,40 +34,21 @@ pub record Lowers (n : ℕ) (b c : List ℕ) (passed : ℕ) : Type 0 where
 
 -- ---- from a removal to the lowered entry
 
-positive_at : (parts : List ℕ) → ArePositive parts → (i : ℕ) → i < length parts → 1 ≤ get_or parts i 0
-positive_at [] p i h = absurd (omega arith)
-positive_at (a ∷ parts) p zero h = p.0
-positive_at (a ∷ parts) p (suc i) h = positive_at parts p.1 i (omega arith)
-
-part_of : (parts : List ℕ) (i : ℕ) → part parts (i + 1) ≡ get_or parts i 0
-part_of parts i = let e : i + 1 - 1 ≡ i = omega arith in ap (λ k. get_or parts k 0) e
-
 pub fewer_rows : (n : ℕ) (shape left : List ℕ) → IsRemoval n shape left → rows left ≤ rows shape
 fewer_rows n shape left r = elim (cases_lt (length shape) (length left)) [
   | inr h ↦ h
   | inl h ↦ (
-      let a = positive_at left r.partition.positive (length shape) h in
+      let a = at_least_one left r.partition.positive (length shape) h in
       let b = past_end shape (length shape) (omega arith) in
       let c = r.hook.holds (length shape + 1) in
-      let d = part_of left (length shape) in
-      let e = part_of shape (length shape) in
+      let d = part-get_or left (length shape) in
+      let e = part-get_or shape (length shape) in
       absurd (omega (arith, a, b, c, d, e)))
 ]
 
-after_append : (a m k : ℕ) → after a (m + k) ≡ after a m ++ after (a + m) k
-after_append a zero k = let e : zero + k ≡ k = omega arith in let d : a ≡ a + 0 = omega arith in ap (after a) e ∙ ap (λ c. after c k) d
-after_append a (suc m) k =
-    let e : suc m + k ≡ suc (m + k) = omega arith in
-    let d : a + 1 + m ≡ a + suc m = omega arith in
-    ap (after a) e ∙ ap (λ l. (a + 1) ∷ l) (after_append (a + 1) m k) ∙ ap (λ c. (a + 1) ∷ (after (a + 1) m ++ after c k)) d
-
-map_append : (f : ℕ → ℕ) (s t : List ℕ) → map f (s ++ t) ≡ map f s ++ map f t
+pub map_append : (f : ℕ → ℕ) (s t : List ℕ) → map f (s ++ t) ≡ map f s ++ map f t
 map_append f [] t = refl
 map_append f (x ∷ s) t = ap (λ l. f x ∷ l) (map_append f s t)
-
-map_after_same : (f g : ℕ → ℕ) (a k : ℕ) → ((i : ℕ) → a < i → i ≤ a + k → f i ≡ g i) → map f (after a k) ≡ map g (after a k)
-map_after_same f g a zero e = refl
-map_after_same f g a (suc k) e = ap₂ ◌∷◌ (e (a + 1) (omega arith) (omega arith)) (map_after_same f g (a + 1) k (λ i h l. e i (omega arith) (omega arith)))
 
 map_after_next : (f g : ℕ → ℕ) (a k : ℕ) → ((i : ℕ) → a < i → i ≤ a + k → f (i + 1) ≡ g i) → map f (after (a + 1) k) ≡ map g (after a k)
 map_after_next f g a zero e = refl
@@ -76,10 +58,10 @@ map_after_next f g a (suc k) e = ap₂ ◌∷◌ (e (a + 1) (omega arith) (omega
 split_at : (f : ℕ → ℕ) (k a d c : ℕ) → k ≡ a + suc (d + c) → map f (after 0 k) ≡ map f (after 0 a) ++ (f (a + 1) ∷ (map f (after (a + 1) d) ++ map f (after (a + 1 + d) c)))
 split_at f k a d c e =
     ap (λ m. map f (after 0 m)) e
-    ∙ ap (map f) (after_append 0 a (suc (d + c)))
+    ∙ ap (map f) (after-append 0 a (suc (d + c)))
     ∙ map_append f (after 0 a) (after (0 + a) (suc (d + c)))
     ∙ ap (λ z. map f (after 0 a) ++ map f (after z (suc (d + c)))) zero_plus
-    ∙ ap (λ l. map f (after 0 a) ++ (f (a + 1) ∷ map f l)) (after_append (a + 1) d c)
+    ∙ ap (λ l. map f (after 0 a) ++ (f (a + 1) ∷ map f l)) (after-append (a + 1) d c)
     ∙ ap (λ l. map f (after 0 a) ++ (f (a + 1) ∷ l)) (map_append f (after (a + 1) d) (after (a + 1 + d) c))
   where
     zero_plus : 0 + a ≡ a
@@ -89,10 +71,10 @@ split_at f k a d c e =
 split_later : (f : ℕ → ℕ) (k a d c : ℕ) → k ≡ a + suc (d + c) → map f (after 0 k) ≡ map f (after 0 a) ++ (map f (after a d) ++ (f (a + d + 1) ∷ map f (after (a + 1 + d) c)))
 split_later f k a d c e =
     ap (λ m. map f (after 0 m)) length_is
-    ∙ ap (map f) (after_append 0 a (d + suc c))
+    ∙ ap (map f) (after-append 0 a (d + suc c))
     ∙ map_append f (after 0 a) (after (0 + a) (d + suc c))
     ∙ ap (λ z. map f (after 0 a) ++ map f (after z (d + suc c))) zero_plus
-    ∙ ap (λ l. map f (after 0 a) ++ map f l) (after_append a d (suc c))
+    ∙ ap (λ l. map f (after 0 a) ++ map f l) (after-append a d (suc c))
     ∙ ap (λ l. map f (after 0 a) ++ l) (map_append f (after a d) (after (a + d) (suc c)))
     ∙ ap (λ z. map f (after 0 a) ++ (map f (after a d) ++ (f (a + d + 1) ∷ map f (after z c)))) place
   where
@@ -111,9 +93,9 @@ lowered_values : (f g : ℕ → ℕ) (n y k a d c : ℕ) → k ≡ a + suc (d + 
     → ((i : ℕ) → 0 < i → i ≤ a → f i ≡ g i) → ((i : ℕ) → a < i → i ≤ a + d → f (i + 1) ≡ g i) → ((i : ℕ) → a + 1 + d < i → i ≤ a + 1 + d + c → f i ≡ g i)
     → Lowers n (map f (after 0 k)) (map g (after 0 k)) d
 lowered_values f g n y k a d c e top low above between below =
-    let fronts = map_after_same f g 0 a (λ i h l. above i h (omega arith)) in
+    let fronts = map_after_ext f g 0 a (λ i h l. above i h (omega arith)) in
     let middles = map_after_next f g a d between in
-    let backs = map_after_same f g (a + 1 + d) c below in
+    let backs = map_after_ext f g (a + 1 + d) c below in
     record {
       front = map f (after 0 a);
       entry = y;
@@ -237,7 +219,7 @@ lowers_or_full n (x ∷ b) f = by (lowers_or_full n b (strict_tail x b f)) (case
     by (inr g) (inr l) (inr e) = inl (here l e)
 
 -- an entry of a list whose first entry is smaller does not stand in it
-not_below : (y z : ℕ) (b : List ℕ) → FallsStrictly (y ∷ b) → y ≤ z → has z b ≡ false
+pub not_below : (y z : ℕ) (b : List ℕ) → FallsStrictly (y ∷ b) → y ≤ z → has z b ≡ false
 not_below y z [] f l = refl
 not_below y z (x ∷ b) f l = let h = f.0 in has_past z x b (λ e. omega (arith, e, h, l)) ∙ not_below x z b f.1 (omega (arith, h, l))
 

@@ -6,6 +6,7 @@ use Rattle.sym_model.specs.Alternant.{staircase}
 use Rattle.sym_model.specs.BetaList.{less_the_rest, from_beta}
 use Rattle.sym_model.specs.Strip.{height}
 use Rattle.sym_model.specs.RimHookReduction.{IsRemoval}
+use Rattle.sym_model.proofs.Parts.{size-append}
 use Rattle.strip_laws.specs.HookRows.{IsHookRows}
 use Rattle.strip_laws.proofs.RimHooks.{hook_from_rows, height_of_rows}
 use Rattle.beta_list_laws.specs.StrictFall.{FallsStrictly}
@@ -109,10 +110,6 @@ shown_rows n y left middle right h f = record {
       let l = below_last (y + n) y middle right (omega arith) (strict_drop left (middle ++ (y ∷ right)) f) in
       omega arith;
 }
-
-size-append : (a b : List ℕ) → size (a ++ b) ≡ size a + size b
-size-append [] b = let e : size b ≡ 0 + size b = omega arith in e
-size-append (x ∷ a) b = let e = size-append a b in omega arith
 
 -- ---- the removal, and its height
 

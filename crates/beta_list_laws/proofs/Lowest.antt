@@ -1,14 +1,14 @@
 -- The lowest list: what lowering an entry changes in it, and that a full list is its own.
 --     lowest_moves      lowering an entry moves one entry past those between
 --     full_lowest       the lowest list of a full list is that list
-use Rattle.std.proofs.Common.{◌≡◌, ℕ, suc, ◌+◌, ◌-◌, ◌*◌, ◌%◌, ◌<◌, ◌≤◌, ◌⊎◌, inl, inr, true, false, nat_lt, cond, List, [], ◌∷◌, ◌++◌, length, refl, sym, ◌∙◌, ap, ap₂, subst, arith}
+use Rattle.std.proofs.Common.{◌≡◌, ℕ, suc, ◌+◌, ◌-◌, ◌*◌, ◌%◌, ◌<◌, ◌≤◌, ◌⊎◌, inl, inr, true, List, [], ◌∷◌, ◌++◌, length, refl, sym, ◌∙◌, ap, ap₂, subst, arith}
 use Rattle.std.proofs.lemmas.Bool.{cases_lt, cases_eq}
-use Rattle.std.proofs.lemmas.Bool.Decides.{nat_tests}
 use Rattle.std.proofs.Math.Nat.{add-mod_right, mod-eq_of_lt, mod-le}
 use Rattle.sym_model.specs.Partition.{Falls}
 use Rattle.sym_model.specs.Bases.{has}
 use Rattle.sym_model.specs.BetaList.{greater, rising_pairs}
 use Rattle.sym_model.proofs.SortedParts.{has_past}
+use Rattle.sym_model.proofs.Numbers.{counts-not_less}
 use Rattle.beta_list_laws.specs.StrictFall.{FallsStrictly}
 use Rattle.beta_list_laws.specs.FullBetaList.{IsFull}
 use Rattle.beta_list_laws.proofs.BetaLists.{strict_tail}
@@ -16,6 +16,7 @@ use Rattle.beta_list_laws.proofs.BetaRemovals.{before, lowered}
 use Rattle.beta_list_laws.proofs.NeighbourExchanges.{Resorts, resorts_itself, resorts_then, resorts_under, resorts_exchange}
 use Rattle.beta_list_laws.specs.LowestList.{alike, lowest}
 use Rattle.beta_list_laws.proofs.Remainders.{alike_far, between_unlike, alike-here, alike-past, alike-remainder, alike-append, lowered_remainder}
+use Rattle.beta_list_laws.proofs.BetaLowerings.{not_below}
 
 -- ---- an entry lowered past others
 
@@ -92,10 +93,6 @@ lowest_moves n y (x ∷ front) middle back f g =
 
 -- ---- full lists
 
-not_below : (y z : ℕ) (b : List ℕ) → FallsStrictly (y ∷ b) → y ≤ z → has z b ≡ false
-not_below y z [] f l = refl
-not_below y z (x ∷ b) f l = let h = f.0 in has_past z x b (λ e. omega (arith, e, h, l)) ∙ not_below x z b f.1 (omega (arith, h, l))
-
 count_full : (n x : ℕ) (b : List ℕ) → FallsStrictly (x ∷ b) → IsFull n (x ∷ b) → x % n + alike n x b * n ≡ x
 count_full n x [] f g = elim (cases_lt x n) [
   | inl l ↦ (let e = mod-eq_of_lt l in omega arith)
@@ -144,12 +141,9 @@ strict_falls [] f = tt
 strict_falls (a ∷ []) f = tt
 strict_falls (a ∷ c ∷ b) f = let h = f.0 in (omega arith, strict_falls (c ∷ b) f.1)
 
-not_counted : (x a : ℕ) → a ≤ x → cond {A = ℕ} (nat_lt x a) 1 0 ≡ 0
-not_counted x a h = grind (arith, nat_tests)
-
 none_greater : (x a : ℕ) (b : List ℕ) → FallsStrictly (a ∷ b) → a ≤ x → greater x b ≡ 0
 none_greater x a [] f h = refl
-none_greater x a (c ∷ b) f h = let l = f.0 in let e = not_counted x c (omega arith) in let g = none_greater x c b f.1 (omega arith) in omega arith
+none_greater x a (c ∷ b) f h = let l = f.0 in let e = counts-not_less x c (omega arith) in let g = none_greater x c b f.1 (omega arith) in omega arith
 
 pub strict_pairs : (b : List ℕ) → FallsStrictly b → rising_pairs b ≡ 0
 strict_pairs [] f = refl

@@ -33,7 +33,7 @@ pub are_reductions : (k n : ℕ) (terms : WholeTerms) → 1 ≤ n → EachLabel 
 are_reductions k n [] h e = tt
 are_reductions k n (t ∷ terms) h e = (reduces_by_remainders k n t.0 h e.0.0 e.0.1, are_reductions k n terms h e.1)
 
-times_chosen : (b : Bool) (c s : ℤ) → cond b (c *ℤ s) (pos 0) ≡ c *ℤ cond b s (pos 0)
+pub times_chosen : (b : Bool) (c s : ℤ) → cond b (c *ℤ s) (pos 0) ≡ c *ℤ cond b s (pos 0)
 times_chosen true c s = refl
 times_chosen false c s = sym (*ℤ-zero c)
 

@@ -17,6 +17,7 @@ use Rattle.beta_list_laws.specs.LowestList.{alike}
 use Rattle.beta_list_laws.specs.AlcoveEnd.{remainders, IsAlcoveEnd, past, up}
 use Rattle.beta_list_laws.proofs.Remainders.{alike_same, test_unlike, alike-here, alike-past}
 use Rattle.beta_list_laws.proofs.Lowest.{strict_falls}
+use Rattle.beta_list_laws.proofs.BetaLowerings.{map_append}
 
 -- ---- the least number past t with a remainder
 
@@ -83,10 +84,6 @@ same_where_sums n t (x ∷ s) d e =
     let a = up_rises n t d x in
     let b = map_up_same n t s d in
     ap₂ ◌∷◌ (omega arith) (same_where_sums n t s d (omega arith))
-
-pub map_append : (f : ℕ → ℕ) (s t : List ℕ) → map f (s ++ t) ≡ map f s ++ map f t
-map_append f [] t = refl
-map_append f (x ∷ s) t = ap (λ l. f x ∷ l) (map_append f s t)
 
 -- sorting before values are taken changes no sorted list of values
 pub sorted-map-exchange : (f : ℕ → ℕ) (left : List ℕ) (a b : ℕ) (right : List ℕ) → sorted_falling (map f (left ++ (a ∷ b ∷ right))) ≡ sorted_falling (map f (left ++ (b ∷ a ∷ right)))

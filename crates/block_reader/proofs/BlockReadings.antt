@@ -3,19 +3,20 @@ use Rattle.std.proofs.Common.{◌≡◌, ◌≢◌, ℕ, arith, ℤ, pos, List, 
 use Rattle.std.specs.Prelude.{Err}
 use Rattle.std.specs.Int.{w128}
 use Rattle.std.specs.Fmt.{signed_decimal}
-use Rattle.std.proofs.lemmas.Bool.{and_parts, and_from, eq-eqb, eqb-true, ne_eqb, cond-true, cond-false, false_from_ne_true}
+use Rattle.std.proofs.lemmas.Bool.{and_parts, and_from, eqb-true, cond-true, cond-false, false_from_ne_true}
 use Rattle.sym_model.specs.Polynomial.{same}
 use Rattle.sym_model.specs.Expansion.{Fraction, Terms}
 use Rattle.sym_model.specs.Answer.{Answer as PlainAnswer, answer, answer_text}
 use Rattle.sym_model.specs.Kind.{Kind, Label, LabelRules, label_rules}
 use Rattle.sym_model.specs.Kind as kinds
 use Rattle.sym_model.specs.Canonical.{is_coefficient, is_reduced, is_ordered, each_term, fits_128_bits, is_canonical_by, is_printable}
-use Rattle.sym_model.specs.NumberText.{Lacks, cut_at, before_cut, signed_value, fraction_text}
+use Rattle.sym_model.specs.NumberText.{cut_at, signed_value, fraction_text}
 use Rattle.sym_model.specs.PrintedBlock.{terms_of, read_by, block_by}
 use Rattle.coeff_rings.specs.Proved.Whole.{fits_from_test, zero_fits_128_bits}
 use Rattle.expansion_printer.specs.Answers.{number_terms}
 use Rattle.printing_laws.proofs.Decimals.{signed_decimal-lacks, signed_value-signed_decimal}
 use Rattle.printing_laws.proofs.Blocks.{read_by-tells, are_short-from_tests}
+use Rattle.printing_laws.proofs.Pieces.{cut_at-front}
 use Rattle.block_reader.specs.declared.fault.ReadBackFault.{ReadBackFault}
 use Rattle.block_reader.specs.declared.fault.ReadBackFault.TheVariants.{NotPrinted, NoMemory}
 use Rattle.block_reader.specs.Fitting.{fits, all_fit}
@@ -64,11 +65,6 @@ reading-refused kind text NoMemory h = tt
 
 -- ---- numbers
 
-cut-front : (s : ℕ) (front rest : List ℕ) → Lacks s front → cut_at s (front ++ (s ∷ rest)) ≡ (front, s ∷ rest)
-cut-front s [] rest h = cond-true (s == s) ([], s ∷ rest) (before_cut s (cut_at s rest)) (eq-eqb s s refl)
-cut-front s (b ∷ front) rest h =
-    cond-false (b == s) ([], b ∷ (front ++ (s ∷ rest))) (before_cut b (cut_at s (front ++ (s ∷ rest)))) (ne_eqb b s h.0) ∙ ap (before_cut b) (cut-front s front rest h.1)
-
 -- a number with the line that it stands on
 record IsOnLine (text : List ℕ) (terms : Terms (Label kinds.number)) : Type 0 where
   fits : FitsSigned w128 (signed_value (cut_at 10 text).0)
@@ -88,7 +84,7 @@ number-block (t ∷ []) h k =
     append-nil (fraction_text t.1 ++ (10 ∷ [])) ∙ ap (λ s. s ++ (10 ∷ [])) (cond-true (t.1.1 == 1) (signed_decimal t.1.0) _ whole.0) in
     let value : signed_value (cut_at 10 (block_by (label_rules kinds.number) (t ∷ []))).0 ≡ t.1.0 =
     ap (λ s. signed_value (cut_at 10 s).0) text
-    ∙ ap (λ (p : List ℕ × List ℕ). signed_value p.0) (cut-front 10 (signed_decimal t.1.0) [] (signed_decimal-lacks 10 t.1.0 (omega arith) (λ e. omega arith) short))
+    ∙ ap (λ (p : List ℕ × List ℕ). signed_value p.0) (cut_at-front 10 (signed_decimal t.1.0) [] (signed_decimal-lacks 10 t.1.0 (omega arith) (λ e. omega arith) short))
     ∙ signed_value-signed_decimal t.1.0 short in
     record {
       fits = subst (FitsSigned w128) (sym value) (fits_from_test t.1.0 bits);
@@ -106,7 +102,7 @@ pub number-candidate : (text : List ℕ) (value : ℤ) → value ≡ signed_valu
     → answer kinds.number (number_terms value) ≡ answer kinds.number terms
 number-candidate text value is terms e = ap (λ z. answer kinds.number (number_terms z)) is ∙ ap (answer kinds.number) (number-line text terms e).told
 
-none_else : {A : Type 0} (o : Option A) → ((x : A) → o ≡ Some x → ⊥) → o ≡ None
+pub none_else : {A : Type 0} (o : Option A) → ((x : A) → o ≡ Some x → ⊥) → o ≡ None
 none_else None h = refl
 none_else (Some x) h = absurd (h x refl)
 

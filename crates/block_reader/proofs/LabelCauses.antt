@@ -1,12 +1,12 @@
 -- Why a list of numbers is no label.
-use Rattle.std.proofs.Common.{◌≡◌, ℕ, zero, suc, ◌+◌, ◌-◌, ◌^◌, ◌≤◌, ◌<◌, length, arith, List, [], ◌∷◌, ◌++◌, append-nil, length-append, ◌&&◌, ◌==◌, Bool, true, false, Option, Some, None, refl, sym, ◌∙◌, ap, subst, take, inl, inr}
+use Rattle.std.proofs.Common.{◌≡◌, ℕ, zero, suc, ◌+◌, ◌-◌, ◌^◌, ◌≤◌, ◌<◌, length, arith, List, [], ◌∷◌, ◌++◌, append-nil, length-append, ◌&&◌, ◌==◌, Bool, true, false, Option, Some, None, sym, ◌∙◌, ap, subst, take, inl, inr}
 use Rattle.std.specs.Prelude.{Result, Ok, Err, OnOk, is_err, slice_index, MatchOption, not, nat_lt, nat_le}
 use Rattle.std.proofs.lemmas.Bool.{and_parts, leb-true, ltb-true, eq-eqb, false_from_ne_true, not-true, or_parts}
 use Rattle.sym_model.specs.Sum.{Among}
 use Rattle.sym_model.specs.Polynomial.{same}
 use Rattle.sym_model.specs.Bases.{has}
 use Rattle.sym_model.specs.BetaList.{has_equal_entries}
-use Rattle.sym_model.specs.Partition.{ArePositive, Falls, size, rows, without_last_zeros, in_front}
+use Rattle.sym_model.specs.Partition.{Falls, size, rows, without_last_zeros}
 use Rattle.sym_model.specs.Partition.{after}
 use Rattle.sym_model.proofs.AfterLists.{length_after}
 use Rattle.schubert_laws.proofs.LowerPermutations.{kept_whole}
@@ -14,6 +14,7 @@ use Rattle.sym_model.specs.Permutation.{kept}
 use Rattle.sym_model.specs.LabelLimits.{is_label, are_letters, is_permutation_label, is_monomial_label}
 use Rattle.sym_model.proofs.Exponents.{same_true}
 use Rattle.sym_model.proofs.Orders.{is_label-tells}
+use Rattle.sym_model.proofs.Parts.{without_last_zeros-positive}
 use Rattle.partitions.specs.Limits.{RisesFirstAt}
 use Rattle.perm_codes.specs.Limits.{OffendsFirstAt}
 use Rattle.block_reader.specs.Parts.{AreSmall}
@@ -30,11 +31,6 @@ at_ok P (Err e) b is well h = let clash : true ≡ false = sym is ∙ well in cc
 
 -- ---- partitions
 
-trimmed : (parts : List ℕ) → ArePositive parts → without_last_zeros parts ≡ parts
-trimmed [] p = refl
-trimmed (zero ∷ parts) p = absurd (omega (arith, p.0))
-trimmed (suc a ∷ parts) p = ap (in_front (suc a)) (trimmed parts p.1)
-
 falls-at : (parts : List ℕ) (k : ℕ) → Falls parts → slice_index parts (suc k) ≤ slice_index parts k
 falls-at [] k f = omega arith
 falls-at (a ∷ []) k f = omega arith
@@ -42,19 +38,19 @@ falls-at (a ∷ b ∷ parts) zero f = f.0
 falls-at (a ∷ b ∷ parts) (suc k) f = falls-at (b ∷ parts) k f.1
 
 pub not_label-cut : (parts : List ℕ) → (without_last_zeros parts ≡ parts → ⊥) → is_label parts ≡ false
-not_label-cut parts other = false_from_ne_true (is_label parts) (λ h. other (trimmed parts (is_label-tells parts h).partition.positive))
+not_label-cut parts other = false_from_ne_true (is_label parts) (λ h. other (without_last_zeros-positive parts (is_label-tells parts h).partition.positive))
 
 pub not_label-many : (parts : List ℕ) → 512 < rows (without_last_zeros parts) → is_label parts ≡ false
 not_label-many parts many = false_from_ne_true (is_label parts) (λ h.
     let l = is_label-tells parts h in
-    let e : length (without_last_zeros parts) ≡ length parts = ap length (trimmed parts l.partition.positive) in
+    let e : length (without_last_zeros parts) ≡ length parts = ap length (without_last_zeros-positive parts l.partition.positive) in
     let few = l.rows in
     omega arith)
 
 pub not_label-rising : (parts : List ℕ) (at : ℕ) → RisesFirstAt (without_last_zeros parts) at → is_label parts ≡ false
 not_label-rising parts at rising = false_from_ne_true (is_label parts) (λ h.
     let l = is_label-tells parts h in
-    let r : RisesFirstAt parts at = subst (λ (ps : List ℕ). RisesFirstAt ps at) (trimmed parts l.partition.positive) rising in
+    let r : RisesFirstAt parts at = subst (λ (ps : List ℕ). RisesFirstAt ps at) (without_last_zeros-positive parts l.partition.positive) rising in
     falls_not parts at r.later r.rises l.partition.falls)
   where
     falls_not : (parts : List ℕ) (at : ℕ) → 0 < at → slice_index parts (at - 1) < slice_index parts at → Falls parts → ⊥
@@ -67,7 +63,7 @@ not_label-rising parts at rising = false_from_ne_true (is_label parts) (λ h.
 pub not_label-big : (parts : List ℕ) → 4096 < size (without_last_zeros parts) → is_label parts ≡ false
 not_label-big parts big = false_from_ne_true (is_label parts) (λ h.
     let l = is_label-tells parts h in
-    let e : size (without_last_zeros parts) ≡ size parts = ap size (trimmed parts l.partition.positive) in
+    let e : size (without_last_zeros parts) ≡ size parts = ap size (without_last_zeros-positive parts l.partition.positive) in
     let small = l.size in
     omega arith)
 

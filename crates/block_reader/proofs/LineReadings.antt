@@ -1,5 +1,5 @@
 -- A line is read by the block that it comes to.
-use Rattle.std.proofs.Common.{◌≡◌, ◌≢◌, ℕ, List, Option, Some, None, true, false, refl, sym, ap, ◌∙◌, subst}
+use Rattle.std.proofs.Common.{◌≡◌, ◌≢◌, ℕ, List, Some, None, true, false, refl, sym, ap, ◌∙◌, subst}
 use Rattle.std.proofs.lemmas.Bool.{and_parts}
 use Rattle.std.proofs.lemmas.Option.{same_Some}
 use Rattle.sym_model.specs.Expansion.{Basis, Terms}
@@ -16,10 +16,7 @@ use Rattle.expansion_printer.specs.declared.answer.Answer.TheVariants.{Number, E
 use Rattle.expansion_printer.specs.Answers.{kind_of_answer, plain_answer}
 use Rattle.block_reader.specs.Lines.{HasAtoms, block_from}
 use Rattle.block_reader.proofs.Blocks.{line-rewritten}
-
-none_else : {A : Type 0} (o : Option A) → ((x : A) → o ≡ Some x → ⊥) → o ≡ None
-none_else None h = refl
-none_else (Some x) h = absurd (h x refl)
+use Rattle.block_reader.proofs.BlockReadings.{none_else}
 
 -- the kind of a plain answer
 abbrev pub plain_kind : PlainAnswer → Kind

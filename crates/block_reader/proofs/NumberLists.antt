@@ -2,6 +2,7 @@
 use Rattle.std.proofs.Common.{◌≡◌, ℕ, ◌^◌, ◌<◌, length, arith, List, [], ◌∷◌, ◌++◌, refl, sym, ◌∙◌, ap, subst, map, append_assoc}
 use Rattle.sym_model.specs.Kind.{after_one}
 use Rattle.sym_model.specs.NumberText.{cut_at, decimal_value, split_at, numbers_of}
+use Rattle.printing_laws.proofs.NumberTexts.{numbers_of-nonempty}
 use Rattle.block_reader.specs.Parts.{AreSmall}
 use Rattle.block_reader.proofs.Cuts.{pieces_after, split-cut}
 
@@ -22,10 +23,6 @@ pieces-last s text none = split-cut s text ∙ ap (λ ps. (cut_at s text).0 ∷ 
     behind [] none = refl
     behind (b ∷ tail) none = absurd (omega arith)
 
-numbers_of-some : (text : List ℕ) → 0 < length text → numbers_of text ≡ map decimal_value (split_at 44 text)
-numbers_of-some [] some = absurd (omega arith)
-numbers_of-some (b ∷ text) some = refl
-
 small-behind : (xs ys : List ℕ) → AreSmall (xs ++ ys) → AreSmall ys
 small-behind [] ys h = h
 small-behind (x ∷ xs) ys h = small-behind xs ys h.1
@@ -33,7 +30,7 @@ small-behind (x ∷ xs) ys h = small-behind xs ys h.1
 module _ (text : List ℕ) (some : 0 < length text) (numbers : List ℕ) (rest : List ℕ)
     (so_far : numbers ++ map decimal_value (split_at 44 rest) ≡ map decimal_value (split_at 44 text)) where
   all_numbers : (n : ℕ) (others : List ℕ) → map decimal_value (split_at 44 rest) ≡ n ∷ others → numbers ++ n ∷ others ≡ numbers_of text
-  all_numbers n others e = ap (λ ns. numbers ++ ns) (sym e) ∙ so_far ∙ sym (numbers_of-some text some)
+  all_numbers n others e = ap (λ ns. numbers ++ ns) (sym e) ∙ so_far ∙ sym (numbers_of-nonempty text some)
 
   -- a number that is too large
   pub numbers-past : (piece : List ℕ) → piece ≡ (cut_at 44 rest).0 → (decimal_value piece < 2 ^ 16 → ⊥) → AreSmall (numbers_of text) → ⊥

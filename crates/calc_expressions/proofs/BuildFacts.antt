@@ -1,6 +1,7 @@
 -- What the reader builds, tied to the phrase that is read.
 use Rattle.std.proofs.Common.{◌≡◌, ℕ, zero, suc, ◌+◌, ◌*◌, ◌<◌, ◌≤◌, List, [], ◌∷◌, ◌++◌, length, refl, sym, ap, ◌∙◌, arith, None}
 use Rattle.sym_model.specs.Partition.{Falls, size, rows, without_last_zeros, in_front}
+use Rattle.sym_model.proofs.Parts.{length-without_last_zeros, size-in_front}
 use Rattle.expression_laws.specs.LeftToRight.{Opened, outermost, inside, BeforeTerm, no_term, BeforeFactor, no_factor, State, at, awaited, closed, opens, closes, join, Piece, found, after_factor, before_factor}
 use Rattle.calc_expressions.specs.declared.builder.Frame.{Frame}
 use Rattle.calc_expressions.specs.Building.{Built, builds, terms_in, factors_in, opened_from, opened_in, AreAtMost, AreEntries}
@@ -10,26 +11,17 @@ pub opened-snoc : (o : Opened Built) (fs : List Frame) (f : Frame) → opened_fr
 opened-snoc o [] f = refl
 opened-snoc o (g ∷ fs) f = opened-snoc (inside o (terms_in g.terms) (factors_in g.factors)) fs f
 
-size-in_front : (a : ℕ) (xs : List ℕ) → size (in_front a xs) ≡ a + size xs
-size-in_front zero [] = refl
-size-in_front zero (b ∷ xs) = refl
-size-in_front (suc a) xs = refl
-
 length-in_front : (a : ℕ) (xs : List ℕ) → length (in_front a xs) ≤ length xs + 1
 length-in_front zero [] = omega arith
 length-in_front zero (b ∷ xs) = omega arith
 length-in_front (suc a) xs = omega arith
-
-rows-within : (ns : List ℕ) → length (without_last_zeros ns) ≤ length ns
-rows-within [] = omega arith
-rows-within (n ∷ ns) = omega (arith, length-in_front n (without_last_zeros ns), rows-within ns)
 
 size-within : (ns : List ℕ) → AreAtMost 20 ns → size (without_last_zeros ns) ≤ 20 * length ns
 size-within [] h = omega arith
 size-within (n ∷ ns) h = omega (arith, size-in_front n (without_last_zeros ns), size-within ns h.1, h.0)
 
 pub few_rows : (ns : List ℕ) → AreEntries ns → rows (without_last_zeros ns) ≤ 512
-few_rows ns h = omega (arith, rows-within ns, h.few)
+few_rows ns h = omega (arith, length-without_last_zeros ns, h.few)
 
 pub small_size : (ns : List ℕ) → AreEntries ns → size (without_last_zeros ns) ≤ 4096
 small_size ns h = omega (arith, size-within ns h.low, h.few)

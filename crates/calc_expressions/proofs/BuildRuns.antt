@@ -18,6 +18,7 @@ use Rattle.calc_expressions.specs.ScanSteps.{capped, IsSoundDigit}
 use Rattle.calc_expressions.specs.Building.{Built, builds, AreAtMost, AreEntries, IsFine, AreMild, IsBuildable}
 use Rattle.calc_expressions.proofs.ScanFacts.{IsByte, value-next, value-first}
 use Rattle.calc_expressions.proofs.ScanRuns.{read-more, sound-digit, byte-symbol, at-end}
+use Rattle.calc_expressions.proofs.FirstOffences.{small as not_wide}
 
 -- the trees of what has been read
 abbrev pub tree_in : Phrase → Built
@@ -71,10 +72,6 @@ after_factor-state closes x t f (inside o t' f') =
     ap (λ y. at (closed y) (terms_state t') (factors_state f') (opened_state o)) (join-state t f x)
 after_factor-state closes x t f outermost = refl
 after_factor-state _ x t f o = refl
-
--- what a mild mark says of its numbers
-not_wide : (n : ℕ) → is_wide n ≡ false → n < 2 ^ 127
-not_wide n h = grind (arith, nat_tests)
 
 uncapped : (n : ℕ) → n < 2 ^ 127 → capped n ≡ n
 uncapped n h = omega arith

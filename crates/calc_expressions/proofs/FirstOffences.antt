@@ -4,6 +4,7 @@ use Rattle.std.proofs.Math.Bool.{or_assoc}
 use Rattle.std.proofs.lemmas.Bool.Decides.{nat_tests}
 use Rattle.sym_model.specs.Sum.{each}
 use Rattle.sym_model.specs.ExpressionOffence.{OffenceKind, literal, range, shape, Mark, value, denominator, entry, opening, is_wide, rises, is_offence, WordOffence, offences_at, rank, comes_first, earlier, first_of}
+use Rattle.sym_model.proofs.Numbers.{nat_le-trans, not_le-trans}
 use Rattle.calc_expressions.specs.Offences.{first_kind}
 use Rattle.calc_expressions.specs.ScanSteps.{capped, is_high, any_high, first_at}
 
@@ -22,19 +23,13 @@ comes_first-key o p = by (rank o.1) (rank p.1) (rank-small o.1) (rank-small p.1)
     by : (r s : ℕ) → r < 3 → s < 3 → (nat_lt o.0 p.0 || ((o.0 == p.0) && nat_le r s)) ≡ nat_le (3 * o.0 + r) (3 * p.0 + s)
     by r s h k = grind (arith, nat_tests)
 
-le-all : (a b c : ℕ) → nat_le a b ≡ true → nat_le b c ≡ true → nat_le a c ≡ true
-le-all a b c h k = grind (arith, nat_tests)
-
-not_le-all : (a b c : ℕ) → nat_le a b ≡ false → nat_le b c ≡ false → nat_le a c ≡ false
-not_le-all a b c h k = grind (arith, nat_tests)
-
 comes_first-all : (o p q : WordOffence) → comes_first o p ≡ true → comes_first p q ≡ true → comes_first o q ≡ true
 comes_first-all o p q h k =
-    comes_first-key o q ∙ le-all (key o) (key p) (key q) (sym (comes_first-key o p) ∙ h) (sym (comes_first-key p q) ∙ k)
+    comes_first-key o q ∙ nat_le-trans (key o) (key p) (key q) (sym (comes_first-key o p) ∙ h) (sym (comes_first-key p q) ∙ k)
 
 not_first-all : (o p q : WordOffence) → comes_first o p ≡ false → comes_first p q ≡ false → comes_first o q ≡ false
 not_first-all o p q h k =
-    comes_first-key o q ∙ not_le-all (key o) (key p) (key q) (sym (comes_first-key o p) ∙ h) (sym (comes_first-key p q) ∙ k)
+    comes_first-key o q ∙ not_le-trans (key o) (key p) (key q) (sym (comes_first-key o p) ∙ h) (sym (comes_first-key p q) ∙ k)
 
 -- the first of three
 first_of_three : (o p q : WordOffence) (a b : Bool) → comes_first o p ≡ a → comes_first p q ≡ b
@@ -110,7 +105,7 @@ wide-capped n = grind (arith, nat_tests)
 zero-capped : (n : ℕ) → (capped n == 0) ≡ (n == 0)
 zero-capped n = grind (arith, nat_tests)
 
-small : (n : ℕ) → is_wide n ≡ false → n < 2 ^ 127
+pub small : (n : ℕ) → is_wide n ≡ false → n < 2 ^ 127
 small n h = grind (arith, nat_tests)
 
 below-capped : (p n : ℕ) → n < 2 ^ 127 → nat_lt (capped p) (capped n) ≡ nat_lt p n

@@ -1,17 +1,14 @@
 -- How fast factorials and the growth of a conversion grow, and when a product of three is past 128 bits.
 use Rattle.std.proofs.Common.{◌≡◌, ℕ, zero, suc, ◌*◌, ◌^◌, ◌<◌, ◌≤◌, refl, ap, arith, inl, inr, ⊎_elim, ◌⊎◌}
-use Rattle.std.proofs.Math.Nat.{mul-le-mul, pow-suc, pow-zero}
+use Rattle.std.proofs.Math.Nat.{mul-le-mul}
 use Rattle.sym_model.specs.Expansion.{Basis, monomials, elementaries, completes, power_sums, schurs}
 use Rattle.sym_model.specs.Expression.{Tree, denominator, degree}
 use Rattle.sym_model.specs.Weight.{numerator, factorial, growth, weight}
+use Rattle.sym_model.proofs.Numbers.{power-positive, times-more}
 use Rattle.calc_base.specs.declared.words.Basis.{Basis as Letter}
 use Rattle.calc_base.specs.declared.words.Basis.TheVariants.{E, H, P}
 use Rattle.calc_expressions.specs.Trees.{basis_of}
-use Rattle.calc_expressions.proofs.WeightFacts.{Positive, Wide, times-grows, times-positive}
-
-pub pow-positive : (n k : ℕ) → 0 < n → 0 < n ^ k
-pow-positive n zero h = rw pow-zero (omega arith)
-pow-positive n (suc k) h = rw pow-suc (times-positive (n ^ k) n (pow-positive n k h) h)
+use Rattle.calc_expressions.proofs.WeightFacts.{Positive, Wide, times-positive}
 
 factorial-positive : (k : ℕ) → 0 < factorial k
 factorial-positive zero = omega arith
@@ -27,11 +24,11 @@ factorial-small k h = factorial-rises k 20 h
 
 pub growth-positive : (b : Basis) (d : ℕ) → 0 < growth b d
 growth-positive b zero = omega arith
-growth-positive monomials (suc d) = pow-positive (suc d) (suc d) (omega arith)
-growth-positive schurs (suc d) = pow-positive (suc d) (suc d) (omega arith)
-growth-positive elementaries (suc d) = times-positive _ _ (factorial-positive (suc d)) (pow-positive (2 * suc d) (suc d) (omega arith))
-growth-positive completes (suc d) = times-positive _ _ (factorial-positive (suc d)) (pow-positive (2 * suc d) (suc d) (omega arith))
-growth-positive power_sums (suc d) = times-positive _ _ (factorial-positive (suc d)) (pow-positive (2 * suc d) (suc d) (omega arith))
+growth-positive monomials (suc d) = power-positive (suc d) (suc d) (omega arith)
+growth-positive schurs (suc d) = power-positive (suc d) (suc d) (omega arith)
+growth-positive elementaries (suc d) = times-positive _ _ (factorial-positive (suc d)) (power-positive (2 * suc d) (suc d) (omega arith))
+growth-positive completes (suc d) = times-positive _ _ (factorial-positive (suc d)) (power-positive (2 * suc d) (suc d) (omega arith))
+growth-positive power_sums (suc d) = times-positive _ _ (factorial-positive (suc d)) (power-positive (2 * suc d) (suc d) (omega arith))
 
 -- the growth into p, h and e
 pub growth-with_factorial : (b : Basis) → (b ≡ power_sums) ⊎ (b ≡ completes) ⊎ (b ≡ elementaries) → (d : ℕ) → growth b d ≡ factorial d * (2 * d) ^ d
@@ -46,24 +43,24 @@ wide-weight b e h (inl w) =
     omega (
       arith,
       w,
-      times-grows (numerator e) (denominator e) h.1,
-      times-grows (numerator e * denominator e) (growth b (degree e)) (growth-positive b (degree e)),
+      times-more (numerator e) (denominator e) h.1,
+      times-more (numerator e * denominator e) (growth b (degree e)) (growth-positive b (degree e)),
     )
 wide-weight b e h (inr w) =
     omega (
       arith,
       w,
-      times-grows (denominator e) (numerator e) h.0,
-      times-grows (numerator e * denominator e) (growth b (degree e)) (growth-positive b (degree e)),
+      times-more (denominator e) (numerator e) h.0,
+      times-more (numerator e * denominator e) (growth b (degree e)) (growth-positive b (degree e)),
     )
 
 pub high-weight : (b : Basis) (e : Tree) → Positive e → 2 ^ 127 ≤ growth b (degree e) → 2 ^ 127 ≤ weight b e
 high-weight b e h w =
-    omega (arith, w, times-grows (growth b (degree e)) (numerator e * denominator e) (times-positive (numerator e) (denominator e) h.0 h.1))
+    omega (arith, w, times-more (growth b (degree e)) (numerator e * denominator e) (times-positive (numerator e) (denominator e) h.0 h.1))
 
 pub wide-product : (b : Basis) (e : Tree) → 2 ^ 127 ≤ numerator e * denominator e → 2 ^ 127 ≤ weight b e
 wide-product b e w =
-    omega (arith, w, times-grows (numerator e * denominator e) (growth b (degree e)) (growth-positive b (degree e)))
+    omega (arith, w, times-more (numerator e * denominator e) (growth b (degree e)) (growth-positive b (degree e)))
 
 -- where the power alone is past 128 bits, so is the growth
 pub growth-past : (target : Letter) → (target ≡ P) ⊎ ((target ≡ H) ⊎ (target ≡ E)) → (d b k : ℕ) → b ≡ d → k ≡ d
@@ -74,5 +71,5 @@ growth-past target h d b k e f past small =
       arith,
       small,
       growth-with_factorial (basis_of target) letters d,
-      times-grows ((2 * d) ^ d) (factorial d) (factorial-positive d),
+      times-more ((2 * d) ^ d) (factorial d) (factorial-positive d),
     )))

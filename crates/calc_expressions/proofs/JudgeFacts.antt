@@ -1,17 +1,19 @@
 -- What the offences of an expression's word come to.
-use Rattle.std.proofs.Common.{◌≡◌, ℕ, zero, suc, ◌+◌, ◌<◌, ◌≤◌, nat_lt, max, Bool, true, false, ◌||◌, cond, List, [], ◌∷◌, ◌++◌, length, length-append, map, refl, sym, ap, ◌∙◌, arith, Option, Some, None, option_map, ◌⊎◌, inl, inr, ⊎_elim}
+use Rattle.std.proofs.Common.{◌≡◌, ℕ, ◌+◌, ◌<◌, ◌≤◌, nat_lt, max, Bool, true, false, ◌||◌, cond, List, [], ◌∷◌, ◌++◌, length, length-append, map, refl, sym, ap, ◌∙◌, arith, Option, Some, None, option_map, ◌⊎◌, inl, inr, ⊎_elim}
 use Rattle.std.proofs.lemmas.Bool.Decides.{nat_tests}
 use Rattle.std.proofs.lemmas.Bool.{cases_lt, or_cases}
 use Rattle.std.specs.Prelude.{codes, Result, Ok, Err, IfOk}
 use Rattle.std.specs.Bool.{then_some}
 use Rattle.sym_model.specs.Sum.{each}
 use Rattle.sym_model.specs.Expansion.{Basis, monomials, elementaries, completes, power_sums, schurs}
-use Rattle.sym_model.specs.Partition.{size, without_last_zeros, in_front}
+use Rattle.sym_model.specs.Partition.{size, without_last_zeros}
 use Rattle.sym_model.specs.Expression.{Tree, degree, nesting}
 use Rattle.sym_model.specs.PrintedBlock.{decimal_value}
 use Rattle.sym_model.specs.NumberWord.{AreNumberWords, comma_separated}
 use Rattle.sym_model.specs.Phrase.{Operator, plus, minus, times, Phrase, numeral, ratio, label, brackets, minus_first, operation, Level, expression, term, level_of, level_after, Is, tree, join_trees, sign, spelling, SpellsPhrase}
 use Rattle.sym_model.specs.ExpressionOffence.{OffenceKind, range, Mark, marks, entry_marks, offences_at, offences_of_whole, offences, WordOffence, earlier, first_of, comes_first, degree_limit}
+use Rattle.sym_model.proofs.Parts.{size-in_front}
+use Rattle.sym_model.proofs.Numbers.{nat_lt-false}
 use Rattle.calc_expressions.specs.declared.reading.ExpressionFault.{ExpressionFault}
 use Rattle.calc_expressions.specs.declared.reading.ExpressionFault.TheVariants.{Syntax, Literal, Range as FRange, Shape, NoMemory}
 use Rattle.calc_expressions.specs.declared.formula.Formula.{Formula}
@@ -64,11 +66,6 @@ mild-from (m ∷ ms) h k =
 
 above : (n : ℕ) → nat_lt 20 n ≡ true → 20 < n
 above n h = grind (arith, nat_tests)
-
-size-in_front : (a : ℕ) (xs : List ℕ) → size (in_front a xs) ≡ a + size xs
-size-in_front zero [] = refl
-size-in_front zero (b ∷ xs) = refl
-size-in_front (suc a) xs = refl
 
 high-entries : (b k : ℕ) (before : Option ℕ) (ws : List (List ℕ)) → any_high (entry_marks b k before ws) ≡ true → 20 < size (without_last_zeros (map decimal_value ws))
 high-entries b k before [] h = cc
@@ -264,9 +261,6 @@ judge-some target e o a h =
 high_test : (l d : ℕ) → l < d → nat_lt l d ≡ true
 high_test l d h = grind (arith, nat_tests)
 
-low_test : (l d : ℕ) → d ≤ l → nat_lt l d ≡ false
-low_test l d h = grind (arith, nat_tests)
-
 pub judge-high : (target : Basis) (e : Phrase) → first_before_degree e ≡ None → degree_limit target < degree (tree e) → first_of (offences target e) ≡ Some (length (spelling e), range)
 judge-high target e h k =
     all_offences target e ∙ ap (λ f. earlier f (high_offence target e)) h
@@ -275,7 +269,7 @@ judge-high target e h k =
 pub judge-none : (target : Basis) (e : Phrase) → first_before_degree e ≡ None → degree (tree e) ≤ degree_limit target → first_of (offences target e) ≡ None
 judge-none target e h k =
     all_offences target e ∙ ap (λ f. earlier f (high_offence target e)) h
-    ∙ ap (λ b. cond b (Some (length (spelling e), range)) None) (low_test (degree_limit target) (degree (tree e)) k)
+    ∙ ap (λ b. cond b (Some (length (spelling e), range)) None) (nat_lt-false (degree_limit target) (degree (tree e)) k)
 
 -- no degree past the limit where there is no offence
 pub none-low : (target : Basis) (e : Phrase) → first_of (offences target e) ≡ None → degree (tree e) ≤ degree_limit target

@@ -1,23 +1,21 @@
 -- The numbers of a weight are positive, and no part of an expression has a greater one than the whole.
-use Rattle.std.proofs.Common.{◌≡◌, ℕ, zero, suc, ◌+◌, ◌*◌, ◌/◌, ◌^◌, ◌<◌, ◌≤◌, ◌⊎◌, inl, inr, max, Bool, ◌&&◌, IsTrue, Option, None, refl, sym, ap, ◌∙◌, subst, arith, pos, ℤ, negsuc}
+use Rattle.std.proofs.Common.{◌≡◌, ℕ, ◌+◌, ◌*◌, ◌/◌, ◌^◌, ◌<◌, ◌≤◌, ◌⊎◌, inl, inr, max, Bool, ◌&&◌, IsTrue, Option, None, refl, sym, ap, ◌∙◌, subst, arith, pos, ℤ, negsuc}
 use Rattle.std.specs.Prelude.{nat_abs}
 use lib.Signed.{le_z, lt_z}
 use Rattle.std.proofs.lemmas.Bool.{and_parts, false≢true, ltb-true}
-use Rattle.std.proofs.Math.Nat.{div-mul_cancel, mul-div_cancel, mul-le-mul_left}
+use Rattle.std.proofs.Math.Nat.{div-mul_cancel, mul-div_cancel}
 use Rattle.calc_base.specs.declared.words.Weight.{Weight}
 use Rattle.sym_model.specs.Canonical.{gcd}
 use Rattle.sym_model.specs.Expression.{Tree, sum, product, denominator, lcm}
 use Rattle.sym_model.specs.Weight.{numerator}
 use Rattle.sym_model.proofs.GreatestCommonDivisors.{IsGcd-gcd, gcd-positive}
+use Rattle.sym_model.proofs.Numbers.{times-more, positive_factor}
 use Rattle.calc_expressions.specs.declared.expr.Expr.{Expr, Number, Fraction, Atom, Negation', Sum', Difference', Product'}
 use Rattle.calc_expressions.specs.Trees.{tree_of, has_no_signs}
 use Rattle.calc_expressions.specs.Weights.{IsWeighed}
 
-pub times-grows : (a b : ℕ) → 0 < b → a ≤ a * b
-times-grows a b h = omega (arith, mul-le-mul_left a h)
-
 pub times-positive : (a b : ℕ) → 0 < a → 0 < b → 0 < a * b
-times-positive a b h k = omega (arith, times-grows a b k)
+times-positive a b h k = omega (arith, times-more a b k)
 
 -- the two numbers over their greatest common divisor
 record Parts (d k : ℕ) : Type 0 where
@@ -27,10 +25,6 @@ record Parts (d k : ℕ) : Type 0 where
   first_positive : 0 < d / gcd d k
   second_positive : 0 < k / gcd d k
 
-quotient-positive : (a g d : ℕ) → a * g ≡ d → 0 < d → 0 < a
-quotient-positive zero g d e h = absurd (omega (arith, e, h))
-quotient-positive (suc a) g d e h = omega arith
-
 parts_of : (d k : ℕ) → 0 < d → 0 < k → Parts d k
 parts_of d k hd hk =
     let a = div-mul_cancel (gcd d k) (IsGcd-gcd d k).0 in
@@ -39,8 +33,8 @@ parts_of d k hd hk =
       first = a;
       second = b;
       positive = gcd-positive d k hd;
-      first_positive = quotient-positive _ _ _ a hd;
-      second_positive = quotient-positive _ _ _ b hk;
+      first_positive = positive_factor _ _ _ a hd;
+      second_positive = positive_factor _ _ _ b hk;
     }
 
 cross : (a b g d k : ℕ) → a * g ≡ d → b * g ≡ k → d * b ≡ a * k
@@ -63,11 +57,11 @@ lcm-at_least_first : (d k : ℕ) → 0 < d → 0 < k → d ≤ lcm d k
 lcm-at_least_first d k hd hk =
     let p = parts_of d k hd hk in
     let q : d * (k / gcd d k) ≡ lcm d k = cross (d / gcd d k) (k / gcd d k) (gcd d k) d k p.first p.second in
-    omega (arith, times-grows d (k / gcd d k) p.second_positive, q)
+    omega (arith, times-more d (k / gcd d k) p.second_positive, q)
 
 lcm-at_least_second : (d k : ℕ) → 0 < d → 0 < k → k ≤ lcm d k
 lcm-at_least_second d k hd hk =
-    let p = parts_of d k hd hk in omega (arith, times-grows k (d / gcd d k) p.first_positive)
+    let p = parts_of d k hd hk in omega (arith, times-more k (d / gcd d k) p.first_positive)
 
 abbrev pub Positive : Tree → Type 0
 Positive e = (0 < numerator e) × (0 < denominator e)
@@ -96,12 +90,12 @@ joined n m d k = n * (lcm d k / d) + m * (lcm d k / k)
 joined-at_least_first : (n m d k : ℕ) → 0 < d → 0 < k → n ≤ joined n m d k
 joined-at_least_first n m d k hd hk =
     let one : 0 < lcm d k / d = rw (lcm-over_first d k hd hk) (parts_of d k hd hk).second_positive in
-    omega (arith, times-grows n (lcm d k / d) one)
+    omega (arith, times-more n (lcm d k / d) one)
 
 joined-at_least_second : (n m d k : ℕ) → 0 < d → 0 < k → m ≤ joined n m d k
 joined-at_least_second n m d k hd hk =
     let one : 0 < lcm d k / k = rw (lcm-over_second d k hd hk) (parts_of d k hd hk).first_positive in
-    omega (arith, times-grows m (lcm d k / k) one)
+    omega (arith, times-more m (lcm d k / k) one)
 
 pub joined-by_parts : (n m d k : ℕ) → 0 < d → 0 < k → joined n m d k ≡ n * (k / gcd d k) + m * (d / gcd d k)
 joined-by_parts n m d k hd hk = rw (lcm-over_first d k hd hk, lcm-over_second d k hd hk) refl
@@ -135,12 +129,12 @@ positive (Product' p left q right) h =
 
 -- where a part is too wide, so is the whole
 pub wide-product_left : (e f : Tree) → Positive f → Wide e → Wide (product e f)
-wide-product_left e f h (inl w) = inl (omega (arith, w, times-grows (numerator e) (numerator f) h.0))
-wide-product_left e f h (inr w) = inr (omega (arith, w, times-grows (denominator e) (denominator f) h.1))
+wide-product_left e f h (inl w) = inl (omega (arith, w, times-more (numerator e) (numerator f) h.0))
+wide-product_left e f h (inr w) = inr (omega (arith, w, times-more (denominator e) (denominator f) h.1))
 
 pub wide-product_right : (e f : Tree) → Positive e → Wide f → Wide (product e f)
-wide-product_right e f h (inl w) = inl (omega (arith, w, times-grows (numerator f) (numerator e) h.0))
-wide-product_right e f h (inr w) = inr (omega (arith, w, times-grows (denominator f) (denominator e) h.1))
+wide-product_right e f h (inl w) = inl (omega (arith, w, times-more (numerator f) (numerator e) h.0))
+wide-product_right e f h (inr w) = inr (omega (arith, w, times-more (denominator f) (denominator e) h.1))
 
 abbrev pub WideJoined : Tree → Tree → Type 0
 WideJoined e f =

@@ -1,7 +1,6 @@
 -- The column reading of rows that were read, and the tableau that has it.
 use Rattle.std.proofs.Common.{◌≡◌, ◌≤◌, ◌<◌, ℕ, zero, suc, ◌+◌, true, ◌&&◌, List, [], ◌∷◌, map, length, get_or, refl, sym, ap, ◌∙◌, arith}
 use Rattle.std.proofs.lemmas.List.{length-append}
-use Rattle.partitions.proofs.BetaSteps.{at-within-size}
 use Rattle.partitions.specs.Limits.{IsWithinLimits}
 use Rattle.sym_model.proofs.SortedParts.{rows_within_size}
 use Rattle.sym_model.specs.CommandOffence.{most_letters}
@@ -9,6 +8,7 @@ use Rattle.sym_model.specs.GoodTableau.{column_reading}
 use Rattle.sym_model.specs.Partition.{size}
 use Rattle.sym_model.specs.Schur.{letters_of, semistandard}
 use Rattle.sym_model.specs.Tableau.{IsTableau, IsStraightTableau, shape_of, are_letters}
+use Rattle.sym_model.proofs.Parts.{get_or-le-size}
 use Rattle.skew_shapes.specs.CellFillings.{filled_with, is_tableau}
 use Rattle.tableau_iter.proofs.EntryLimits.{filling_back}
 
@@ -34,7 +34,7 @@ few_letters rows t h = record {
 }
 
 pub row_within : (rows : List (List ℕ)) (i : ℕ) → length (letters_of rows) ≤ most_letters → get_or (shape_of rows) i 0 ≤ 256
-row_within rows i h = omega (arith, at-within-size (shape_of rows) i, letters_count rows, h)
+row_within rows i h = omega (arith, get_or-le-size (shape_of rows) i, letters_count rows, h)
 
 pub row_length : {A : Type 0} (f : A → List ℕ) (xs : List A) (i : ℕ) (x : A) → i < length xs → x ≡ get_or xs i x
     → length (f x) ≡ get_or (shape_of (map f xs)) i 0

@@ -5,7 +5,7 @@ use Rattle.sym_model.specs.Sum.{Among}
 use Rattle.sym_model.proofs.Sums.{Among_from_append, Among_from_map}
 use Rattle.sym_model.specs.ExpressionOffence.{OffenceKind, literal, range, shape, rank}
 use Rattle.sym_model.specs.CommandOffence.{Offence, is_no_later, earlier_of, first_offence, when, Rule, offences_after}
-use Rattle.word_laws.proofs.FirstOffences.{first-among, empty-none}
+use Rattle.word_laws.proofs.FirstOffences.{first-among, first_none}
 
 -- an offence before which none of the others comes
 pub first-head : (o : Offence) (os : List Offence) → ((p : Offence) → Among p os → is_no_later o p ≡ true) → first_offence (o ∷ os) ≡ Some o
@@ -106,10 +106,10 @@ first-append (x ∷ xs) ys o h b =
         → ((p : Offence) → first_offence xs ≡ Some p → first_offence (xs ++ ys) ≡ Some p)
         → first_offence (x ∷ (xs ++ ys)) ≡ Some o
     by None e h again =
-        ap (λ zs. first_offence (x ∷ (zs ++ ys))) (empty-none xs e)
+        ap (λ zs. first_offence (x ∷ (zs ++ ys))) (first_none xs e)
         ∙ first-head x ys (λ q m. no_later_word x q (b x q (inl refl) m))
         ∙ h
     by (Some y) e h again = ap (earlier_of x) (again y e) ∙ h
 
 pub none-append : (xs ys : List Offence) → first_offence xs ≡ None → first_offence (xs ++ ys) ≡ first_offence ys
-none-append xs ys h = ap (λ zs. first_offence (zs ++ ys)) (empty-none xs h)
+none-append xs ys h = ap (λ zs. first_offence (zs ++ ys)) (first_none xs h)

@@ -6,8 +6,8 @@ use Rattle.std.proofs.lemmas.List.{take_all, take_more, take_more_set}
 use Rattle.sym_model.specs.Sum.{Among}
 use Rattle.sym_model.specs.ExpressionOffence.{is_wide, literal, range}
 use Rattle.sym_model.specs.CommandOffence.{Offence, first_offence, offences_by, offences_after, letter_rule, when, is_outside, greatest_letter, most_letters}
-use Rattle.word_laws.proofs.FirstOffences.{empty-none}
 use Rattle.calc_base.specs.declared.words.WordsFault.{WordsFault}
+use Rattle.word_laws.proofs.FirstOffences.{first_none}
 use Rattle.calc_words.specs.declared.offence.Kind.TheVariants.{Literal, Range}
 use Rattle.calc_words.specs.Faults.{fault_of}
 use Rattle.calc_words.specs.NumberRuns.{narrow}
@@ -128,5 +128,5 @@ letters_fit before k (a ∷ ns) f h =
 
 pub written_word : (k : ℕ) (ns : List ℕ) → first_offence (offences_by letter_rule k ns) ≡ None → IsWrittenWord ns
 written_word k ns h =
-    let f = letters_fit [] k ns (omega arith) (empty-none (offences_by letter_rule k ns) h) in
+    let f = letters_fit [] k ns (omega arith) (first_none (offences_by letter_rule k ns) h) in
     record { letters = f.letters; few = (let x = f.few in omega (arith, x)) }

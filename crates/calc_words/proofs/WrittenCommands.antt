@@ -16,7 +16,7 @@ use Rattle.sym_model.specs.Entry.{Entry, SpellsFreely, SpellsWithoutOffence}
 use Rattle.sym_model.specs.WordForms.{optional, rows_words, form_words, factors_words, from_words, tableau_rows, numbers, factors, factor_numbers, row_limit, row_limit_offences, partition}
 use Rattle.sym_model.specs.Grammar.{entries_of, two_partitions, option_words, mult_entry, skew_entry, coef_entry, coprod_entry, tab_entry, last_reading, not_listed, from_entries, quantum_entry, fusion_entry, schubert_entry, schubmult_entry, expand_entry, work_entry, rsk_entry}
 use Rattle.word_laws.proofs.CommandFacts.{within_degree}
-use Rattle.word_laws.proofs.FirstOffences.{empty-none}
+use Rattle.word_laws.proofs.FirstOffences.{first_none}
 use Rattle.calc_words.specs.WrittenLimits.{IsWritten, KeepsLimits, IsInList, IsRowLimit, AreWrittenFactors}
 use Rattle.calc_words.proofs.WrittenLetters.{written_letters}
 use Rattle.calc_words.proofs.WordJudging.{written_word}
@@ -57,7 +57,7 @@ factors_keep count k (n ∷ ns) c h =
 factors_written : (k : ℕ) (x : Written factors_words) → first_offence (factor_offences 0 k (factor_numbers x)) ≡ None → AreWrittenFactors (factors x)
 factors_written k (first, (second, others)) h =
     let ns = factor_numbers (first, (second, others)) in
-    let r = factors_keep 0 k ns (omega arith) (empty-none (factor_offences 0 k ns) h) in
+    let r = factors_keep 0 k ns (omega arith) (first_none (factor_offences 0 k ns) h) in
     let l = length-map ns without_last_zeros in
     let few = r.0 in
     record { some = omega arith; few = omega (arith, few, l); written = r.1 }
@@ -124,7 +124,7 @@ expand_keeps : (bases : List Basis) → Keeps (expand_entry bases)
 expand_keeps bases (name, (form, (basis, phrase))) h =
     let k = 2 + length (words_of (optional form_words) form) in
     within_degree basis phrase
-    (none_map (λ (o : WordOffence). (k, o.0, o.1)) (offences basis phrase) (empty-none (expression_offences k basis phrase) h))
+    (none_map (λ (o : WordOffence). (k, o.0, o.1)) (offences basis phrase) (first_none (expression_offences k basis phrase) h))
 
 schubert_keeps : Keeps schubert_entry
 schubert_keeps (name, (t, ts)) h = written_letters 1 (numbers (t ∷ ts)) (omega arith) h

@@ -5,9 +5,9 @@ use Rattle.sym_model.specs.Sum.{Among, Once}
 use Rattle.sym_model.specs.ExpressionOffence.{is_wide, literal, range, shape}
 use Rattle.sym_model.specs.CommandOffence.{first_offence, permutation_offences, permutation_rule, offences_after, when, is_outside, stands_in, most_permuted}
 use Rattle.sym_model.specs.Permutation.{in_front_unless_fixed, without_fixed_from, kept}
-use Rattle.word_laws.proofs.FirstOffences.{empty-none}
 use Rattle.perm_codes.specs.Limits.{IsShortPermutation}
 use Rattle.perm_codes.proofs.WithinLimits.{kept_limits}
+use Rattle.word_laws.proofs.FirstOffences.{first_none}
 use Rattle.calc_words.specs.WrittenLimits.{IsWrittenPermutation}
 use Rattle.calc_words.proofs.WrittenLists.{none_append, none_next, not_when, not_either, inside}
 
@@ -54,7 +54,7 @@ letters_fine count before k (a ∷ ns) f h =
 pub short_letters : (k : ℕ) (ns : List ℕ) → 0 < length ns → first_offence (permutation_offences k ns) ≡ None
     → IsShortPermutation ns × (length ns ≤ most_permuted)
 short_letters k ns s h =
-    let f = letters_fine (length ns) [] k ns (omega arith) (empty-none (permutation_offences k ns) h) in
+    let f = letters_fine (length ns) [] k ns (omega arith) (first_none (permutation_offences k ns) h) in
     let few = f.few in
     (record { one_line = record { letters = f.letters; once = f.once }; some = s; few = omega (arith, few) }, omega (arith, few))
 

@@ -7,8 +7,8 @@ use Rattle.sym_model.specs.ExpressionOffence.{OffenceKind, is_wide, rises, liter
 use Rattle.sym_model.specs.CommandOffence.{Offence, Rule, first_offence, part_offences, part_rule, rows_rule, lines_rule, seed_rule, offences_by, offences_after, left_of, judged_against, when, is_outside, most_parts, most_cells, most_rows, most_lines, greatest_seed}
 use Rattle.sym_model.specs.Grammar.{two_partitions}
 use Rattle.sym_model.specs.WordForms.{numbers, partition}
-use Rattle.word_laws.proofs.FirstOffences.{empty-none}
 use Rattle.partitions.specs.Limits.{IsWithinLimits}
+use Rattle.word_laws.proofs.FirstOffences.{first_none}
 use Rattle.calc_words.specs.WrittenLimits.{IsWritten, IsRowNumber}
 
 abbrev Words : Type 0
@@ -25,7 +25,7 @@ none_map f [] h = refl
 none_map f (x ∷ xs) h = cc
 
 pub none_judged : (xs ys : List Offence) → first_offence xs ≡ None → judged_against xs ys ≡ ys
-none_judged xs ys h = ap (λ zs. judged_against zs ys) (empty-none xs h)
+none_judged xs ys h = ap (λ zs. judged_against zs ys) (first_none xs h)
 
 pub not_when : (test : Bool) (kind : OffenceKind) → when test kind ≡ [] → test ≡ false
 not_when true kind h = cc
@@ -33,7 +33,7 @@ not_when false kind h = refl
 
 pub none_first : (xs ys : List Offence) → first_offence (xs ++ ys) ≡ None → (first_offence xs ≡ None) × (first_offence ys ≡ None)
 none_first xs ys h =
-    let p = none_append xs ys (empty-none (xs ++ ys) h) in (ap first_offence p.0, ap first_offence p.1)
+    let p = none_append xs ys (first_none (xs ++ ys) h) in (ap first_offence p.0, ap first_offence p.1)
 
 -- the first of a list of numbers offends by nothing, and the others neither
 pub none_next : (rule : Rule) (before : List ℕ) (k a : ℕ) (ns : List ℕ) → offences_after rule before k (a ∷ ns) ≡ []
@@ -100,7 +100,7 @@ rows-without_last_zeros (a ∷ ns) = front a (without_last_zeros ns) (length ns)
 -- numbers of a partition without an offence
 pub written : (k : ℕ) (ns : List ℕ) → first_offence (part_offences k ns) ≡ None → IsWritten (without_last_zeros ns)
 written k ns h =
-    let f = fits [] k ns (omega arith) (omega arith) (empty-none (part_offences k ns) h) in
+    let f = fits [] k ns (omega arith) (omega arith) (first_none (part_offences k ns) h) in
     record {
       partition = IsPartition-without_last_zeros ns f.falls;
       few = let x = f.few in let y = rows-without_last_zeros ns in omega (arith, x, y);
@@ -127,19 +127,19 @@ inside limit a h = let o = not_either (a == 0) (nat_lt limit a) h in (not_zero a
 
 pub row_number : (k a : ℕ) → first_offence (offences_by rows_rule k (a ∷ [])) ≡ None → IsRowNumber a
 row_number k a h =
-    let n = none_next rows_rule [] k a [] (empty-none (offences_by rows_rule k (a ∷ [])) h) in
+    let n = none_next rows_rule [] k a [] (first_none (offences_by rows_rule k (a ∷ [])) h) in
     let p = none_append (when (is_wide a) literal) (when (is_outside most_rows a) range) n.0 in
     let i = inside most_rows a (not_when (is_outside most_rows a) range p.1) in
     record { positive = i.0; small = i.1 }
 
 pub lines_number : (k a : ℕ) → first_offence (offences_by lines_rule k (a ∷ [])) ≡ None → (1 ≤ a) × (a ≤ most_lines)
 lines_number k a h =
-    let n = none_next lines_rule [] k a [] (empty-none (offences_by lines_rule k (a ∷ [])) h) in
+    let n = none_next lines_rule [] k a [] (first_none (offences_by lines_rule k (a ∷ [])) h) in
     let p = none_append (when (is_wide a) literal) (when (is_outside most_lines a) range) n.0 in
     inside most_lines a (not_when (is_outside most_lines a) range p.1)
 
 pub seed_number : (k a : ℕ) → first_offence (offences_by seed_rule k (a ∷ [])) ≡ None → a ≤ greatest_seed
 seed_number k a h =
-    let n = none_next seed_rule [] k a [] (empty-none (offences_by seed_rule k (a ∷ [])) h) in
+    let n = none_next seed_rule [] k a [] (first_none (offences_by seed_rule k (a ∷ [])) h) in
     let p = none_append (when (is_wide a) literal) (when (nat_lt greatest_seed a) range) n.0 in
     ltb-false greatest_seed a (not_when (nat_lt greatest_seed a) range p.1)

@@ -1,11 +1,12 @@
 -- Fractions by sign and sizes: what the steps of the functions of `Frac` come to.
-use Rattle.std.proofs.Common.{◌≡◌, ◌≢◌, ℕ, zero, suc, ◌*◌, ◌/◌, ◌<◌, ◌≤◌, ◌^◌, sym, refl, ap, ◌∙◌, subst, arith, ℤ, pos, negsuc, ◌*ℤ◌, neg_ℤ, unsigned_abs, int_div, int_lt, Bool, true, false, FitsSigned, Option, Some, None, nat_lt, cond, IfSome, nat_eq, IsTrue, ◌↔◌}
+use Rattle.std.proofs.Common.{◌≡◌, ◌≢◌, ℕ, zero, suc, ◌*◌, ◌/◌, ◌<◌, ◌≤◌, ◌^◌, sym, refl, ap, ◌∙◌, subst, arith, ℤ, pos, negsuc, ◌*ℤ◌, neg_ℤ, unsigned_abs, int_div, int_lt, Bool, true, false, FitsSigned, Option, Some, None, nat_lt, cond, IfSome, nat_eq, IsTrue, ◌↔◌, inl, inr, ◌⊎◌}
 use Rattle.std.specs.Int.{w128, cast_unsigned, IsGcd, ◌∣◌}
 use Rattle.std.specs.Ordering.{int_eq}
 use Rattle.std.proofs.lemmas.Int.{ints}
-use Rattle.std.proofs.lemmas.Bool.{ltb-true, eqb-true, eq-eqb, le-ltb, both_ways, and_left, and_right, false_from_ne_true, cond-false}
+use Rattle.std.proofs.lemmas.Bool.{ltb-true, eqb-true, eq-eqb, le-ltb, both_ways, and_left, and_right, false_from_ne_true, cond-false, cases_lt, lt-ltb}
 use Rattle.std.proofs.lemmas.Bool.Decides.{Decides-int_eq}
 use Rattle.std.proofs.lemmas.Option.{cond_some}
+use Rattle.std.specs.Prelude.{nat_abs}
 use native.Mathlib.Nat.{dvd_trans, dvd-mul_right, zero-div, mul-one, one-mul, mul-pos, div-mul_cancel}
 use Rattle.sym_model.proofs.Ring.{negation-product}
 use Rattle.sym_model.specs.Expansion.{Fraction}
@@ -16,7 +17,7 @@ use Rattle.coeff_rings.specs.Checked.{where_fits, checked_i128, checked_fraction
 use Rattle.coeff_rings.specs.Proved.Divisors.{coprime_from, greatest_common_divisor-is, coprime-products, coprime_without, quotient_positive, divisor_positive}
 use Rattle.coeff_rings.specs.Proved.Fractions.{Stands-same, Stands-itself, Stands-lowest_terms, InLowestTerms-whole}
 use Rattle.coeff_rings.specs.Proved.FractionLaws.{num-zero, reciprocal-lowest}
-use Rattle.coeff_rings.specs.Proved.Whole.{fits_from_test}
+use Rattle.coeff_rings.specs.Proved.Whole.{fits_from_test, where_fits-true}
 use Rattle.coeff_rings.specs.Proved.FractionAnswers.{checked_fraction-held}
 
 -- ---- signs
@@ -254,3 +255,22 @@ checked_fraction_of-held num den = by (int_eq den (pos 0)) refl
         let l = reciprocal-lowest (whole den) (InLowestTerms-whole den) other in
         checked_fraction-held (fraction_quotient (whole num) (whole den))
         (Stands-lowest_terms (num *ℤ (reciprocal (whole den)).0) (1 * (reciprocal (whole den)).1) (mul-pos (omega arith) l.positive)).lowest
+
+pub refused_size : (z : ℤ) → checked_i128 z ≡ None → 2 ^ 127 ≤ nat_abs z
+refused_size (pos n) e = by (cases_lt n (2 ^ 127))
+  where
+    by : (n < 2 ^ 127) ⊎ (2 ^ 127 ≤ n) → 2 ^ 127 ≤ n
+    by (inl l) = absurd (let some = where_fits-true (nat_lt n (2 ^ 127)) (pos n) (lt-ltb n (2 ^ 127) l) in let none : where_fits (nat_lt n (2 ^ 127)) (pos n) ≡ None = e in cc)
+    by (inr l) = l
+refused_size (negsuc n) e = by (cases_lt n (2 ^ 127))
+  where
+    by : (n < 2 ^ 127) ⊎ (2 ^ 127 ≤ n) → 2 ^ 127 ≤ nat_abs (negsuc n)
+    by (inl l) = absurd (let some = where_fits-true (nat_lt n (2 ^ 127)) (negsuc n) (lt-ltb n (2 ^ 127) l) in let none : where_fits (nat_lt n (2 ^ 127)) (negsuc n) ≡ None = e in cc)
+    by (inr l) = omega (arith, ints)
+
+pub answered_is : (z s : ℤ) → Some s ≡ checked_i128 z → s ≡ z
+answered_is z s e = by (fits_128_bits z) e
+  where
+    by : (b : Bool) → Some s ≡ where_fits b z → s ≡ z
+    by true h = cc
+    by false h = absurd (cc)

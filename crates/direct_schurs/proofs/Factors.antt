@@ -1,5 +1,5 @@
 -- Lists times the polynomials of a family, one part after another.
-use Rattle.std.proofs.Common.{◌≡◌, true, ℕ, ◌+◌, ◌<◌, ◌≤◌, List, [], ◌∷◌, ◌++◌, inl, inr, length, sym, ◌∙◌, ap, subst, refl, arith}
+use Rattle.std.proofs.Common.{◌≡◌, true, ℕ, ◌+◌, ◌<◌, ◌≤◌, List, [], ◌∷◌, ◌++◌, inl, inr, length, sym, ◌∙◌, ap, subst, refl}
 use Rattle.sym_model.specs.Bases.{at_most_one, has}
 use Rattle.sym_model.specs.Partition.{size, rows}
 use Rattle.sym_model.specs.Polynomial.{Poly, In, one, times}
@@ -15,6 +15,7 @@ use Rattle.direct_schurs.specs.declared.strips.Family.TheVariants.{Elementary, C
 use Rattle.direct_schurs.specs.Families.{polynomial_of, product_of, basis_in}
 use Rattle.sym_model.specs.Expression.{Tree, cleared_value, denominator}
 use Rattle.monomial_laws.proofs.Majorants.{In-cleared_value}
+use Rattle.basis_expand.proofs.AtomLists.{no_parts}
 use Rattle.direct_schurs.specs.SchurLists.{StandsFor}
 use Rattle.direct_schurs.proofs.Expansions.{expansion_respects}
 use Rattle.direct_schurs.proofs.OneTerms.{schur-nothing}
@@ -29,10 +30,6 @@ pub product_basis : (family : Family) (parts : List ℕ) (n : ℕ) → product_o
 product_basis Elementary parts n = refl
 product_basis Complete parts n = refl
 product_basis PowerSum parts n = refl
-
-no_parts : (parts : List ℕ) → length parts < 1 → [] ≡ parts
-no_parts [] h = refl
-no_parts (k ∷ rest) h = absurd (omega arith)
 
 -- no part
 pub times-no_parts : (family : Family) (parts : List ℕ) (list : Terms (List ℕ)) → length parts < 1

@@ -10,7 +10,7 @@ use Rattle.sym_model.specs.Polynomial.{Poly, pair, one, scale, join, times}
 use Rattle.sym_model.specs.Schur.{schur}
 use Rattle.sym_model.specs.Expansion.{schurs, Fraction, Terms, denominators, cleared, value, IsExpansionOf}
 use Rattle.sym_model.specs.WholeTerms.{WholeTerms, AreWhole, numerators}
-use Rattle.sym_model.proofs.Ring.{ring, product-one}
+use Rattle.sym_model.proofs.Ring.{ring, product-one, product_assoc}
 use Rattle.sym_model.proofs.Polynomials.{pair_ext, pair_exchange, pair_plus, pair_scale, pair_times, pair_determined, times_respects}
 use Rattle.sym_model.proofs.PolynomialLaws.{times-scale, scale-times, one-times, times-one}
 use Rattle.sym_model.proofs.WholeTerms.{pair-combined, value_by-whole, denominators_of_whole}
@@ -89,9 +89,6 @@ both_scaled a b f g φ =
     ∙ pair_scale a (times f (scale b g)) φ
     ∙ ap (λ z. a *ℤ z) (pair_determined (times f (scale b g)) (scale b (times f g)) φ (times-scale b f g) ∙ pair_scale b (times f g) φ)
 
-grouped : (a b z : ℤ) → (a *ℤ b) *ℤ z ≡ a *ℤ (b *ℤ z)
-grouped a b z = simp ring
-
 pub product-list : (left right both : Terms (List ℕ)) → IsTable left → IsTable right → IsTable both
     → Adds (denominators left * denominators right) [] (λ n φ. products_at (denominators left) left (denominators right) right n φ) both
     → (n : ℕ) (f g : Poly) (p q : ℕ) → IsExpansionOf schurs left n f p → IsExpansionOf schurs right n g q → IsExpansionOf schurs both n (times f g) (p * q)
@@ -107,12 +104,12 @@ product-list left right both is also it adds n f g p q h k =
     (λ φ.
     ap (λ z. pos (p * q) *ℤ z)
     (adds.sums n φ ∙ +ℤ_idl (products_at (denominators left) left (denominators right) right n φ) ∙ sym (pair_products (denominators left) (denominators right) left right n φ))
-    ∙ grouped (pos p) (pos q) (pair (times V W) φ)
+    ∙ product_assoc (pos p) (pos q) (pair (times V W) φ)
     ∙ sym (both_scaled (pos p) (pos q) V W φ)
     ∙ pair_determined (times (scale (pos p) V) (scale (pos q) W)) (times (scale (pos D) f) (scale (pos E) g)) φ
     (times_respects (scale (pos p) V) (scale (pos D) f) (scale (pos q) W) (scale (pos E) g) h.equal k.equal)
     ∙ both_scaled (pos D) (pos E) f g φ
-    ∙ sym (grouped (pos D) (pos E) (pair (times f g) φ)))
+    ∙ sym (product_assoc (pos D) (pos E) (pair (times f g) φ)))
 
 -- ---- a number times a whole coefficient
 

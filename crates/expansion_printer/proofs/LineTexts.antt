@@ -1,17 +1,11 @@
 -- Coefficients as they are printed, and terms one after another.
-use Rattle.std.proofs.Common.{◌≡◌, ℕ, zero, suc, ◌<◌, length, get_or, arith, Bool, true, false, List, [], ◌∷◌, ◌++◌, cond, eqb, ℤ, nat_abs, refl, sym, ◌∙◌, ap, append_assoc, append-nil, decimal}
+use Rattle.std.proofs.Common.{◌≡◌, ℕ, ◌<◌, length, arith, Bool, true, false, List, [], ◌∷◌, ◌++◌, cond, eqb, ℤ, nat_abs, refl, sym, ◌∙◌, ap, append_assoc, append-nil, decimal}
 use Rattle.std.specs.Prelude.{codes}
 use Rattle.std.proofs.lemmas.Bool.{and_parts, eqb-true, cond-false}
 use Rattle.sym_model.specs.Expansion.{Basis, Fraction, Terms}
 use Rattle.sym_model.specs.NumberText.{fraction_text}
 use Rattle.sym_model.specs.OneLine.{is_unit, is_negative, without_sign, unsigned_text, later_text, one_line}
 use Rattle.expansion_printer.specs.SignedTerms.{coefficient_text, signed_text, signed_terms, is_empty}
-
--- what stands at a place inside a list does not depend on what is read past its end
-pub get_or-any : (numbers : List ℕ) (at first second : ℕ) → at < length numbers → get_or numbers at first ≡ get_or numbers at second
-get_or-any [] at first second below = absurd (omega arith)
-get_or-any (a ∷ numbers) zero first second below = refl
-get_or-any (a ∷ numbers) (suc at) first second below = get_or-any numbers at first second (omega arith)
 
 not_unit : (num : ℤ) (den size : ℕ) → size ≡ nat_abs num → (size ≡ 1 → den ≡ 1 → ⊥) → is_unit (num, den) ≡ false
 not_unit num den size e other = by (is_unit (num, den)) refl

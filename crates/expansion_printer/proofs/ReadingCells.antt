@@ -7,6 +7,7 @@ use Rattle.std.proofs.lemmas.List.{reverse-append, length-map, get_or-drop}
 use Rattle.sym_model.specs.Sum.{each, select}
 use Rattle.sym_model.specs.Partition.{after, part, rows, columns, IsCell, Falls}
 use Rattle.sym_model.specs.TableauList.{column_cells, reading_cells, letter_of_cell}
+use Rattle.sym_model.proofs.Numbers.{nat_lt-false}
 use Rattle.expansion_printer.specs.ReadingPlaces.{tally, cells_before}
 use Rattle.expansion_printer.proofs.RowTexts.{after-push}
 
@@ -69,9 +70,6 @@ not_in-column : (column j : ℕ) (is : List ℕ) → j ≢ column → NotIn colu
 not_in-column column j [] other = tt
 not_in-column column j (i ∷ is) other = (other, not_in-column column j is other)
 
-not_below : (i row : ℕ) → row ≤ i → nat_lt i row ≡ false
-not_below i row far = grind (arith, nat_tests)
-
 -- 1 where something holds
 abbrev counted : Bool → ℕ
 counted b = cond b 1 0
@@ -84,7 +82,7 @@ rows_above row test = tally (λ i. counted (nat_lt i row && test i))
 rows_above-past : (row : ℕ) (test : ℕ → Bool) (a m : ℕ) → row ≤ a + 1 → rows_above row test (after a m) ≡ 0
 rows_above-past row test a zero far = refl
 rows_above-past row test a (suc m) far =
-    ap (λ b. counted (b && test (a + 1)) + rows_above row test (after (a + 1) m)) (not_below (a + 1) row far)
+    ap (λ b. counted (b && test (a + 1)) + rows_above row test (after (a + 1) m)) (nat_lt-false (a + 1) row far)
     ∙ zero-add (rows_above row test (after (a + 1) m)) ∙ rows_above-past row test (a + 1) m (omega arith)
 
 -- the cells of a column in the rows that pass a test, and others behind them
@@ -109,7 +107,7 @@ in-column row column test others a (suc m) high low h w =
     by true c t [] ih = refl
     by true (inl e) t (x ∷ w) ih =
         cond-true ((a + 1 == row) && (column == column)) x _ (and_from (a + 1 == row) (column == column) (eq-eqb (a + 1) row e) (eq-eqb column column refl))
-        ∙ ap (slice_index (x ∷ w)) (sym (ap (λ b. counted (b && true) + rows_above row test (after (a + 1) m)) (not_below (a + 1) row (omega arith))
+        ∙ ap (slice_index (x ∷ w)) (sym (ap (λ b. counted (b && true) + rows_above row test (after (a + 1) m)) (nat_lt-false (a + 1) row (omega arith))
         ∙ zero-add (rows_above row test (after (a + 1) m)) ∙ rows_above-past row test (a + 1) m (omega arith)))
     by true (inr n) t (x ∷ w) ih =
         let far : a + 1 < row = omega arith in

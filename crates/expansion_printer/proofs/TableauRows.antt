@@ -5,6 +5,7 @@ use Rattle.std.proofs.Math.Seq.{drop-cons, drop-length}
 use Rattle.std.proofs.lemmas.List.{length-map}
 use Rattle.sym_model.specs.Partition.{after, part, rows}
 use Rattle.sym_model.specs.Schur.{row_lengths}
+use Rattle.sym_model.proofs.Tableaux.{length-row_lengths}
 use Rattle.skew_shapes.specs.CellFillings.{row_of, place_in_row}
 use Rattle.skew_shapes.specs.Rows.{row_by, rows_by}
 
@@ -18,11 +19,6 @@ tabulated default g xs s j (suc m) long is =
     let next : s + j + 1 ≡ s + suc j = omega arith in
     ap₂ ◌∷◌ (is j (omega arith)) (ap (λ k. map g (after k m)) next ∙ tabulated default g xs s (suc j) m (omega arith) is)
     ∙ sym (drop-cons xs j default (omega arith))
-
-length-row_lengths : (outer inner : List ℕ) → length (row_lengths outer inner) ≡ length outer
-length-row_lengths [] inner = refl
-length-row_lengths (a ∷ outer) [] = ap suc (length-row_lengths outer [])
-length-row_lengths (a ∷ outer) (b ∷ inner) = ap suc (length-row_lengths outer inner)
 
 row_lengths-at : (outer inner : List ℕ) (i : ℕ) → slice_index (row_lengths outer inner) i ≡ slice_index outer i - slice_index inner i
 row_lengths-at [] inner i = let e : 0 - slice_index inner i ≡ 0 = omega arith in sym e

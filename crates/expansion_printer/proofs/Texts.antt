@@ -87,11 +87,6 @@ pub block_by-nothing : {Label : Type 0} (rules : LabelRules Label) (terms : Term
 block_by-nothing rules [] none = refl
 block_by-nothing rules (t ∷ terms) none = absurd (omega arith)
 
--- where nothing is left, what was read is all
-pub all_read : {A : Type 0} (done rest all : List A) → length rest ≡ 0 → done ++ rest ≡ all → done ≡ all
-all_read done [] all none e = sym (append-nil done) ∙ e
-all_read done (x ∷ rest) all none e = absurd (omega arith)
-
 -- the line of a number
 pub number_line : (value : ℤ) → signed_decimal value ++ codes "\n" ≡ answer_text (answer kinds.number (number_terms value))
 unfolding digits

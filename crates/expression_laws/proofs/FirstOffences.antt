@@ -28,7 +28,7 @@ first_before a b c d (inr h) = grind (arith, nat_tests)
 before-first : (p x y : WordOffence) → ComesBefore p x → comes_first x y ≡ true → ComesBefore p y
 before-first p x y h k = before_first p.0 (rank p.1) x.0 (rank x.1) y.0 (rank y.1) h k
 
-first_none : (os : List WordOffence) → first_of os ≡ None → os ≡ []
+pub first_none : (os : List WordOffence) → first_of os ≡ None → os ≡ []
 first_none [] h = refl
 first_none (x ∷ os) h = absurd (by (first_of os) h)
   where
@@ -42,9 +42,6 @@ first_none (x ∷ os) h = absurd (by (first_of os) h)
 
 pub none-empty : (os : List WordOffence) → os ≡ [] → first_of os ≡ None
 none-empty os h = ap first_of h
-
-pub empty-none : (os : List WordOffence) → first_of os ≡ None → os ≡ []
-empty-none os h = first_none os h
 
 -- which of two it is
 one_of : (x y o : WordOffence) (c : Bool) → cond c (Some x) (Some y) ≡ Some o → ((c ≡ true) × (o ≡ x)) ⊎ ((c ≡ false) × (o ≡ y))

@@ -317,7 +317,7 @@ abbrev close : Phrase → Opened Phrase → Phrase
 close e outermost = e
 close e (inside o t f) = close (join phrases t f (brackets e)) o
 
-one_is_number : IsNumberWord (codes "1")
+pub one_is_number : IsNumberWord (codes "1")
 one_is_number = record { nonempty = omega arith; digits = ((omega arith, omega arith), tt) }
 
 spelling-factor_from : (p : Piece Phrase (List ℕ)) → spelling (factor_from p) ≡ written_piece p ++ rest_of p

@@ -6,7 +6,9 @@ use Rattle.strip_laws.proofs.Containment.{contains-tells}
 use Rattle.sym_model.specs.Partition.{Falls, part}
 use Rattle.sym_model.specs.Schur.{row_lengths, semistandard, contains, letters_of}
 use Rattle.sym_model.specs.Slide.{outer_parts, slid_rows}
-use Rattle.insertion_laws.proofs.RisingRows.{StandsUnder, first_row, order-tells, order-from, HasShape, part_next, Falls-front, ends-first}
+use Rattle.sym_model.proofs.SortedParts.{Falls_tail}
+use Rattle.sym_model.proofs.Parts.{Falls-front}
+use Rattle.insertion_laws.proofs.RisingRows.{StandsUnder, first_row, order-tells, order-from, HasShape, part_next, ends-first}
 use Rattle.insertion_laws.proofs.SlideSteps.{place_below, moved}
 use Rattle.insertion_laws.proofs.SlidOrder.{HasHole, slides}
 
@@ -15,10 +17,6 @@ use Rattle.insertion_laws.proofs.SlidOrder.{HasHole, slides}
 Falls-first : (a : ℕ) (parts : List ℕ) → Falls (a ∷ parts) → get_or parts 0 0 ≤ a
 Falls-first a [] h = omega arith
 Falls-first a (b ∷ parts) h = h.0
-
-Falls-later : (a : ℕ) (parts : List ℕ) → Falls (a ∷ parts) → Falls parts
-Falls-later a [] h = tt
-Falls-later a (b ∷ parts) h = h.1
 
 first_end :
     (outer inner : List ℕ) (rows : List (List ℕ)) → map length rows ≡ row_lengths outer inner → contains outer inner ≡ true
@@ -38,14 +36,14 @@ shape-from (row ∷ rows) [] inner e h f g = absurd (cc e)
 shape-from (row ∷ rows) (a ∷ outer) [] e h f g =
     let same : length row ≡ a = cc e in
     let rest : map length rows ≡ row_lengths outer [] = cc e in
-    (omega arith, omega (arith, first_end outer [] rows rest refl, Falls-first a outer f), shape-from rows outer [] rest refl (Falls-later a outer f) tt)
+    (omega arith, omega (arith, first_end outer [] rows rest refl, Falls-first a outer f), shape-from rows outer [] rest refl (Falls_tail a outer f) tt)
 shape-from (row ∷ rows) (a ∷ outer) (b ∷ inner) e h f g =
     let same : length row ≡ a - b = cc e in
     let rest : map length rows ≡ row_lengths outer inner = cc e in
     let p = and_parts (nat_le b a) (contains outer inner) h in (
       Falls-first b inner g,
       omega (arith, first_end outer inner rows rest p.1, Falls-first a outer f, leb-true b a p.0),
-      shape-from rows outer inner rest p.1 (Falls-later a outer f) (Falls-later b inner g),
+      shape-from rows outer inner rest p.1 (Falls_tail a outer f) (Falls_tail b inner g),
     )
 
 -- ---- only the parts of the inner partition count

@@ -5,7 +5,7 @@ use Rattle.std.proofs.lemmas.List.{length-append}
 use Rattle.sym_model.specs.Insertion.{with_step}
 use Rattle.sym_model.specs.Schur.{letters_of, times_in}
 use Rattle.sym_model.specs.Tableau.{shape_of}
-use Rattle.tableau_laws.proofs.Contents.{times_in-append}
+use Rattle.sym_model.proofs.Contents.{times_in-append}
 use Rattle.insertion_laws.specs.Rows.{RisesFrom, StandsOn, first_row, IsRowOver, AreRows, AreBelow, RowsBelow, HasCorner}
 use Rattle.insertion_laws.specs.Removal.{without_last, last_of, row_over, removed, row_ending, without_step}
 use Rattle.insertion_laws.proofs.InsertedRows.{stands-length}

@@ -6,7 +6,7 @@ use Rattle.sym_model.specs.Partition.{size}
 use Rattle.sym_model.specs.Schur.{letters_of, times_in}
 use Rattle.sym_model.specs.Insertion.{with_step}
 use Rattle.sym_model.specs.Tableau.{shape_of}
-use Rattle.tableau_laws.proofs.Contents.{times_in-append}
+use Rattle.sym_model.proofs.Contents.{times_in-append}
 use Rattle.insertion_laws.specs.Rows.{RisesFrom, StandsOn, first_row, AreRows, AreBelow, RowsBelow, HasOneMore}
 use Rattle.insertion_laws.proofs.InsertedRows.{stands_longer, stands-length}
 

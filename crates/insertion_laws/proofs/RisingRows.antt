@@ -5,6 +5,7 @@ use Rattle.std.proofs.lemmas.List.{get_or_append_left, get_or-append-add, get_or
 use Rattle.sym_model.specs.Partition.{Falls, part}
 use Rattle.sym_model.specs.Schur.{row_rises, columns_rise, semistandard}
 use Rattle.sym_model.specs.Slide.{outer_parts}
+use Rattle.sym_model.proofs.Parts.{Falls-front}
 
 -- ---- places before and from a place on
 
@@ -190,10 +191,6 @@ pub part_next : (inner : List ℕ) (k : ℕ) → get_or (drop 1 inner) k 0 ≡ g
 part_next inner k = let e : 1 + k ≡ k + 1 = omega arith in get_or-drop 1 inner k 0 ∙ ap (λ n. get_or inner n 0) e
 
 -- ---- the ends of the rows
-
-pub Falls-front : (a : ℕ) (parts : List ℕ) → get_or parts 0 0 ≤ a → Falls parts → Falls (a ∷ parts)
-Falls-front a [] h f = tt
-Falls-front a (b ∷ parts) h f = (h, f)
 
 pub ends-first : (inner : List ℕ) (rows : List (List ℕ)) → get_or (outer_parts inner rows) 0 0 ≤ part inner 1 + length (first_row rows)
 ends-first inner [] = omega arith

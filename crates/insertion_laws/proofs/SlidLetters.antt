@@ -5,15 +5,10 @@ use Rattle.std.proofs.lemmas.List.{take-append-drop}
 use Rattle.sym_model.specs.Schur.{letters_of}
 use Rattle.sym_model.specs.Slide.{slid_rows}
 use Rattle.sym_model.specs.Tableau.{are_letters}
+use Rattle.sym_model.proofs.Tableaux.{are_letters-append}
 use Rattle.insertion_laws.proofs.SlideSteps.{place_below, moved}
 
 -- ---- words
-
-letters-append : (v w : List ℕ) → are_letters v ≡ true → are_letters w ≡ true → are_letters (v ++ w) ≡ true
-letters-append [] w p q = q
-letters-append (a ∷ v) w p q =
-    let h = and_parts (nat_le 1 a) (are_letters v) p in
-    and_from (nat_le 1 a) (are_letters (v ++ w)) h.0 (letters-append v w h.1 q)
 
 letters-parts : (v w : List ℕ) → are_letters (v ++ w) ≡ true → (are_letters v ≡ true) × (are_letters w ≡ true)
 letters-parts [] w h = (refl, h)
@@ -38,14 +33,14 @@ pub AreLetters-append : (v w : List (List ℕ)) → AreLetters v → AreLetters 
 AreLetters-append [] w p q = q
 AreLetters-append (row ∷ v) w p q =
     let h = letters-parts row (letters_of v) p in
-    letters-append row (letters_of (v ++ w)) h.0 (AreLetters-append v w h.1 q)
+    are_letters-append row (letters_of (v ++ w)) h.0 (AreLetters-append v w h.1 q)
 
 pub AreLetters-parts : (v w : List (List ℕ)) → AreLetters (v ++ w) → AreLetters v × AreLetters w
 AreLetters-parts [] w h = (refl, h)
 AreLetters-parts (row ∷ v) w h =
     let p = letters-parts row (letters_of (v ++ w)) h in
     let q = AreLetters-parts v w p.1 in
-    (letters-append row (letters_of v) p.0 q.0, q.1)
+    (are_letters-append row (letters_of v) p.0 q.0, q.1)
 
 pub AreLetters-taken : (n : ℕ) (rows : List (List ℕ)) → AreLetters rows → AreLetters (take n rows)
 AreLetters-taken n rows h = (AreLetters-parts (take n rows) (drop n rows) (subst AreLetters (sym (take-append-drop n rows)) h)).0
@@ -60,15 +55,15 @@ either_rows false v w p q = q
 pub slid-letters :
     (below : List (List ℕ)) (inner left right : List ℕ) → are_letters left ≡ true → are_letters right ≡ true → AreLetters below
     → AreLetters (slid_rows inner left right below)
-slid-letters [] inner left right p q h = letters-append (left ++ right) [] (letters-append left right p q) refl
+slid-letters [] inner left right p q h = are_letters-append (left ++ right) [] (are_letters-append left right p q) refl
 slid-letters (row ∷ below) inner left right p q h =
     let m = moved inner left right row in
     let n = place_below inner left + m in
     let here = letters-parts row (letters_of below) h in
-    letters-append (left ++ (take m right ++ (take 1 (drop n row) ++ drop m right)))
+    are_letters-append (left ++ (take m right ++ (take 1 (drop n row) ++ drop m right)))
     (letters_of (cond (nat_le (length row) n) (row ∷ below) (slid_rows (drop 1 inner) (take n row) (drop (n + 1) row) below)))
-    (letters-append left (take m right ++ (take 1 (drop n row) ++ drop m right)) p
-    (letters-append (take m right) (take 1 (drop n row) ++ drop m right) (letters-taken m right q)
-    (letters-append (take 1 (drop n row)) (drop m right) (letters-taken 1 (drop n row) (letters-dropped n row here.0)) (letters-dropped m right q))))
+    (are_letters-append left (take m right ++ (take 1 (drop n row) ++ drop m right)) p
+    (are_letters-append (take m right) (take 1 (drop n row) ++ drop m right) (letters-taken m right q)
+    (are_letters-append (take 1 (drop n row)) (drop m right) (letters-taken 1 (drop n row) (letters-dropped n row here.0)) (letters-dropped m right q))))
     (either_rows (nat_le (length row) n) (row ∷ below) (slid_rows (drop 1 inner) (take n row) (drop (n + 1) row) below) h
     (slid-letters below (drop 1 inner) (take n row) (drop (n + 1) row) (letters-taken n row here.0) (letters-dropped (n + 1) row here.0) here.1))

@@ -5,7 +5,8 @@ use Rattle.std.proofs.lemmas.List.{get_or_append_left, get_or-append-add, get_or
 use Rattle.sym_model.specs.Partition.{Falls, part}
 use Rattle.sym_model.specs.Schur.{semistandard}
 use Rattle.sym_model.specs.Slide.{moves_up, outer_parts, slid_rows}
-use Rattle.insertion_laws.proofs.RisingRows.{before, from, side_of, Rises, rises_left, rises_right, rises_front, rises_append, rises-from, StandsUnder, first_row, order-tells, order-from, HasShape, Falls-front, ends-first, ends-fall, part_next}
+use Rattle.sym_model.proofs.Parts.{Falls-front}
+use Rattle.insertion_laws.proofs.RisingRows.{before, from, side_of, Rises, rises_left, rises_right, rises_front, rises_append, rises-from, StandsUnder, first_row, order-tells, order-from, HasShape, ends-first, ends-fall, part_next}
 use Rattle.insertion_laws.proofs.SlideSteps.{place_below, slid-moves_left, slid-moves_up, slid-stops}
 
 -- the rows with an empty cell in the first one, between the letters left and right, are semistandard but for that cell

@@ -1,11 +1,11 @@
 -- Straight tableaux and standard ones, row by row.
 use Rattle.std.proofs.Common.{◌≡◌, ◌≢◌, ℕ, zero, suc, ◌+◌, ◌<◌, ◌≤◌, ◌==◌, ◌&&◌, Bool, true, false, cond, List, [], ◌∷◌, ◌++◌, map, length, replicate, ◌∙◌, ap, ap₂, sym, refl, inl, inr, arith, nat_lt, nat_le}
 use Rattle.std.proofs.lemmas.Bool.{cases_lt, cases_eq, lt-ltb, le-ltb, le-leb, leb-true, ltb-true, eq-eqb, ne_eqb, and_from, and_parts}
-use Rattle.std.proofs.lemmas.List.{length-append}
-use Rattle.sym_model.specs.Partition.{Falls, ArePositive, size, after}
-use Rattle.sym_model.specs.Schur.{row_lengths, row_rises, columns_rise, semistandard, letters_of, times_in}
+use Rattle.sym_model.specs.Partition.{Falls, ArePositive, after}
+use Rattle.sym_model.specs.Schur.{row_rises, columns_rise, semistandard, letters_of, times_in}
 use Rattle.sym_model.specs.StandardTableau.{IsStandard}
 use Rattle.sym_model.specs.Tableau.{IsStraightTableau, are_letters, shape_of}
+use Rattle.sym_model.proofs.Tableaux.{length-letters_of, row_lengths-none}
 use Rattle.insertion_laws.specs.Rows.{RisesFrom, StandsOn, AreRows, AreBelow, RowsBelow}
 use Rattle.insertion_laws.specs.Pairs.{IsPairAt}
 use Rattle.insertion_laws.proofs.InsertedRows.{stands-length}
@@ -20,10 +20,6 @@ falls_from m (row ∷ r ∷ rows) h = (stands-length r row h.0.stands, falls_fro
 positive_from : (m : ℕ) (rows : List (List ℕ)) → AreRows m rows → ArePositive (shape_of rows)
 positive_from m [] h = tt
 positive_from m (row ∷ rows) h = (h.0.filled, positive_from m rows h.1)
-
-pub straight_lengths : (outer : List ℕ) → row_lengths outer [] ≡ outer
-straight_lengths [] = refl
-straight_lengths (a ∷ outer) = ap (λ l. a ∷ l) (straight_lengths outer)
 
 letters_from : (c : ℕ) (row w : List ℕ) → 1 ≤ c → RisesFrom c row → are_letters w ≡ true → are_letters (row ++ w) ≡ true
 letters_from c [] w l h e = e
@@ -59,7 +55,7 @@ tableau_from rows h =
       outside = record { falls = falls_from 1 rows h; positive = positive_from 1 rows h };
       inside = record { falls = tt; positive = tt };
       holds = refl;
-      cells = sym (straight_lengths (shape_of rows));
+      cells = sym (row_lengths-none (shape_of rows));
       letters = all_letters rows h;
       order = order_from 1 rows h;
     }
@@ -104,10 +100,6 @@ pub rows_from : (rows : List (List ℕ)) → IsStraightTableau rows → AreRows 
 rows_from rows h = rows_tell rows h.outside.falls h.outside.positive h.letters h.order
 
 -- ---- each number once
-
-pub length-letters : (rows : List (List ℕ)) → length (letters_of rows) ≡ size (shape_of rows)
-length-letters [] = refl
-length-letters (row ∷ rows) = omega (arith, length-append row (letters_of rows), length-letters rows)
 
 ones_from : (f : ℕ → ℕ) (a n : ℕ) → ((j : ℕ) → a < j → j ≤ a + n → f j ≡ 1) → map f (after a n) ≡ replicate n 1
 ones_from f a zero h = refl
@@ -207,12 +199,12 @@ pair_from p q t s e =
       shapes = e;
       below = below_rows (n + 1) q (below_from (n + 1) w (all_smaller n w s.tableau.letters once));
       once = once;
-      cells = sym (length-letters q);
+      cells = sym (length-letters_of q);
     }
 
 pub standard_from : (m n : ℕ) (p q : List (List ℕ)) → IsPairAt m n p q → IsStandard q
 standard_from m n p q h =
-    let long : length (letters_of q) ≡ n = length-letters q ∙ h.cells in
+    let long : length (letters_of q) ≡ n = length-letters_of q ∙ h.cells in
     record {
       tableau = tableau_from q h.q_rows;
       once = ones_from (λ k. times_in k (letters_of q)) 0 (length (letters_of q)) (λ j l r. h.once j (omega arith) (omega arith));

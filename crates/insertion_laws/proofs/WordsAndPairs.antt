@@ -8,6 +8,7 @@ use Rattle.sym_model.specs.Schur.{letters_of, times_in}
 use Rattle.sym_model.specs.StandardTableau.{IsStandard}
 use Rattle.sym_model.specs.Tableau.{IsStraightTableau, are_letters, shape_of}
 use Rattle.sym_model.specs.Growth.{grown}
+use Rattle.sym_model.proofs.Tableaux.{length-letters_of}
 use Rattle.insertion_laws.specs.Rows.{AreRows, RowsBelow, HasOneMore, HasCorner}
 use Rattle.insertion_laws.specs.Removal.{removed, row_ending, without_step, steps_back, word_back}
 use Rattle.insertion_laws.specs.Pairs.{IsPairAt}
@@ -15,7 +16,7 @@ use Rattle.insertion_laws.proofs.InsertedRows.{keeps_rows, adds_cell}
 use Rattle.insertion_laws.proofs.RecordedSteps.{shape-step, times-step, below-step, keeps_steps, size-more}
 use Rattle.insertion_laws.proofs.Removals.{IsRemoval, removal_at, off_again, step_found}
 use Rattle.insertion_laws.proofs.LastSteps.{times-rows_below, rows_below_fewer, without_below, corner_found, step_again, keeps_without, shape_less, shape-removed, shape-without}
-use Rattle.insertion_laws.proofs.TableauRows.{tableau_from, length-letters, pair_from, standard_from}
+use Rattle.insertion_laws.proofs.TableauRows.{tableau_from, pair_from, standard_from}
 
 -- ---- one letter more
 
@@ -125,7 +126,7 @@ run_back m n (a ∷ w) p q f h =
 pub word_again : (w : List ℕ) → word_back (insertion_pair w).0 (insertion_pair w).1 ≡ w
 word_again w =
     let h = pair_of 0 w (from_zero w) in
-    let e : length (letters_of (insertion_pair w).1) ≡ 0 + length w = omega (arith, length-letters (insertion_pair w).1, h.cells) in
+    let e : length (letters_of (insertion_pair w).1) ≡ 0 + length w = omega (arith, length-letters_of (insertion_pair w).1, h.cells) in
     ap (λ i. steps_back i (insertion_pair w).0 (insertion_pair w).1) e ∙ run_back 0 0 w [] [] (from_zero w) (no_pair 0)
 
 -- ---- the pair of the word back

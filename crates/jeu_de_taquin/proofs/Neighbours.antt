@@ -8,11 +8,12 @@ use Rattle.sym_model.specs.Partition.{IsCell, part, without_last_zeros}
 use Rattle.sym_model.specs.Schur.{row_lengths}
 use Rattle.sym_model.specs.Slide.{HasInnerCorner, lowered_at, moves_up}
 use Rattle.sym_model.specs.Tableau.{SkewFilling}
-use Rattle.partitions.proofs.BetaSteps.{at-within-size}
+use Rattle.sym_model.proofs.Tableaux.{length-row_lengths, get_or-row_lengths}
+use Rattle.sym_model.proofs.Parts.{get_or-le-size}
 use Rattle.skew_shapes.specs.CellFillings.{IsFilling, entry_at, is_cell, place_in_row, row_of, with_entry, with_inner_cell}
 use Rattle.skew_shapes.proofs.CellRows.{cell_row, is_cell-from}
 use Rattle.skew_shapes.proofs.KeptRows.{IsSkew-inner_lowered}
-use Rattle.insertion_laws.proofs.SlideKeeps.{corner-lowered, falls-at, length-row_lengths, row_lengths-at}
+use Rattle.insertion_laws.proofs.SlideKeeps.{corner-lowered, falls-at}
 use Rattle.jeu_de_taquin.specs.declared.empty_cell.Neighbour.{Neighbour}
 use Rattle.jeu_de_taquin.specs.declared.empty_cell.Neighbour.TheVariants.{Right, Below, Nobody}
 use Rattle.jeu_de_taquin.specs.EmptyCell.{next_of}
@@ -26,7 +27,7 @@ count-rows t f =
 
 pub count-row : (t : SkewFilling) (k : ℕ) → IsFilling t → k < length t.rows → length (get_or t.rows k []) ≡ get_or t.outer k 0 - get_or t.inner k 0
 count-row t k f h =
-    sym (get_or-map (λ (w : List ℕ). length w) t.rows k [] 0 h) ∙ ap (λ (w : List ℕ). get_or w k 0) f.cells ∙ row_lengths-at t.outer t.inner k
+    sym (get_or-map (λ (w : List ℕ). length w) t.rows k [] 0 h) ∙ ap (λ (w : List ℕ). get_or w k 0) f.cells ∙ get_or-row_lengths t.outer t.inner k
 
 -- ---- a cell changed or added
 
@@ -60,7 +61,7 @@ IsFilling-with_inner_cell t row f c =
           (λ i h.
           let within : i < length (set t.rows (row - 1) (0 ∷ row_of t.rows row)) = omega (arith, length-map rows (λ (w : List ℕ). length w)) in
           get_or-map (λ (w : List ℕ). length w) rows i [] 0 within
-          ∙ at i (omega arith) ∙ sym (row_lengths-at t.outer new i));
+          ∙ at i (omega arith) ∙ sym (get_or-row_lengths t.outer new i));
     }
   where
     at : (i : ℕ) → i < length t.rows
@@ -111,7 +112,7 @@ is_at t row column f c =
     let here = count-row t (row - 1) f (omega arith) in
     let rows = f.shape.outside.few in
     let holds = contains-tells t.outer t.inner f.shape.holds row in
-    let size = at-within-size t.outer (row - 1) in
+    let size = get_or-le-size t.outer (row - 1) in
     let small = f.shape.outside.small in
     record {
       row_counts = c.row_counts;

@@ -4,10 +4,11 @@ use Rattle.std.proofs.Math.ListN.{set}
 use Rattle.std.proofs.lemmas.Bool.{and_parts, cases_lt, leb-true}
 use Rattle.std.proofs.lemmas.List.{take-set, drop-set-lt, get_or-set_same, get_or_past, drop_more, length-take-le}
 use Rattle.strip_laws.proofs.Containment.{contains-tells}
-use Rattle.sym_model.specs.Partition.{ArePositive, IsCell, IsPartition, part, without_last_zeros}
+use Rattle.sym_model.specs.Partition.{IsCell, IsPartition, part, without_last_zeros}
 use Rattle.sym_model.specs.Schur.{row_lengths, contains, letters_of}
 use Rattle.sym_model.specs.Slide.{HasInnerCorner, IsReached, lowered_at, outer_parts, slide, slid_rows}
 use Rattle.sym_model.specs.Tableau.{SkewFilling}
+use Rattle.sym_model.proofs.Parts.{positive-at}
 use Rattle.skew_shapes.specs.CellFillings.{IsFilling, IsTableauWithin, is_tableau, place_in_row, row_of, with_inner_cell, without_outer_cell}
 use Rattle.insertion_laws.proofs.KeptOrder.{rows_from}
 use Rattle.insertion_laws.proofs.SlideKeeps.{corner-lowered, corner_row, slide-keeps}
@@ -155,11 +156,6 @@ is_tableau-slide row t h c =
 
 pub reached-next : (t s : SkewFilling) (row : ℕ) → HasInnerCorner row t.inner → IsReached (slide row t) s → IsReached t s
 reached-next t s row c r = record { chosen = row ∷ r.chosen; slides = (c, r.slides); straight = r.straight }
-
-positive-at : (parts : List ℕ) (k : ℕ) → ArePositive parts → k < length parts → 0 < get_or parts k 0
-positive-at [] k h l = absurd (omega arith)
-positive-at (a ∷ parts) zero h l = h.0
-positive-at (a ∷ parts) (suc k) h l = positive-at parts k h.1 (omega arith)
 
 -- the last row of a partition that is not empty has a corner
 pub last_corner : (parts : List ℕ) → IsPartition parts → 0 < length parts → HasInnerCorner (length parts) parts

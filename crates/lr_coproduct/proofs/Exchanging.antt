@@ -1,5 +1,5 @@
 -- The terms of a skew shape by a small inner partition, taken from those by the greater ones.
-use Rattle.std.proofs.Common.{◌≡◌, ℕ, zero, suc, ◌+◌, ◌*◌, ◌<◌, ◌≤◌, ◌⊎◌, Bool, true, false, cond, ◌&&◌, List, [], ◌∷◌, ◌++◌, length, take, get_or, refl, sym, ap, ◌∙◌, subst, inl, inr, arith, ℤ, pos, negsuc, ◌+ℤ◌, ◌^◌}
+use Rattle.std.proofs.Common.{◌≡◌, ℕ, ◌+◌, ◌*◌, ◌<◌, ◌≤◌, ◌⊎◌, Bool, true, false, cond, ◌&&◌, List, [], ◌∷◌, ◌++◌, length, take, get_or, refl, sym, ap, ◌∙◌, subst, inl, inr, arith, ℤ, pos, ◌+ℤ◌, ◌^◌}
 use Rattle.std.specs.Prelude.{None}
 use Rattle.std.specs.declared.cmp.Ordering.TheVariants.{Less}
 use Rattle.std.proofs.lemmas.Bool.{and_parts, and_from, cases_lt, cases_Bool, leb-true}
@@ -25,11 +25,12 @@ use Rattle.sym_model.specs.LargeAnswer.{HasPastCoefficient, is_past}
 use Rattle.sym_model.proofs.CanonicalLists.{is_ordered-from, each_term-append}
 use Rattle.sym_model.proofs.Exponents.{same_apart, same_from, same_or_not}
 use Rattle.sym_model.proofs.Sums.{Among_from_append, Among_from_map, Among-append_left, Among-append_right}
+use Rattle.sym_model.proofs.Integers.{zero_or_not}
 use Rattle.sparse_polys.specs.Combination.{are_terms, IsCanonicalList}
 use Rattle.sparse_polys.proofs.Coefficients.{is_reduced-lowest}
-use Rattle.alternant_laws.proofs.CountedTerms.{skew_coefficients, skew_meets}
+use Rattle.strip_laws.proofs.Containment.{contains-tells, contains-from}
+use Rattle.alternant_laws.proofs.CountedTerms.{skew_coefficients, skew_meets, no_label}
 use Rattle.schur_laws.proofs.Duality.{rows_inside}
-use Rattle.lr_product.proofs.GoodCounts.{contains-tells, contains-from}
 use Rattle.lr_coproduct.specs.InnerShapeList.{IsInPrintedOrder, ListsShapesInside, IsCountAbove}
 use Rattle.lr_coproduct.specs.SkewLists.{IsSkewList, HaveSkewLists}
 use Rattle.lr_coproduct.proofs.Prefixes.{IsAt, at_among, at_last, at_same, at_taken, among_first, index_in, index_of, take_next, either_at}
@@ -37,7 +38,7 @@ use Rattle.lr_coproduct.proofs.Sizes.{behind_small}
 use Rattle.lr_coproduct.proofs.OrderedPairs.{ordered_append}
 use Rattle.lr_coproduct.proofs.SortedShapes.{earlier_before}
 use Rattle.lr_coproduct.proofs.Answering.{sum_of_terms}
-use Rattle.lr_coproduct.proofs.Lookups.{no_label, label_in, ordered_in, not_before}
+use Rattle.lr_coproduct.proofs.Lookups.{label_in, ordered_in, not_before}
 use Rattle.lr_coproduct.proofs.ExchangedCounts.{skew_exchanged, skew_outside, skew_other_size, listed_coefficient}
 
 -- ---- one term more
@@ -113,11 +114,6 @@ next_exchanged shape inner inners at second c terms new ordered here label is ot
           (count_here terms second c (no_label terms second (λ t k. apart_from inners at second t.0 ordered here (l.labels t k))) ∙ is)
           (λ k. count_earlier terms second c parts (λ q. apart_from inners at second parts ordered here k (sym q)) ∙ l.counts parts k);
     })
-
-zero_or_not : (z : ℤ) → (z ≡ pos 0) ⊎ (z ≡ pos 0 → ⊥)
-zero_or_not (pos zero) = inl refl
-zero_or_not (pos (suc n)) = inr (λ e. absurd (omega (arith, ints)))
-zero_or_not (negsuc n) = inr (λ e. absurd (omega (arith, ints)))
 
 -- a partition that may count
 pub next_either : (shape inner : List ℕ) (inners : List (List ℕ)) (at : ℕ) (second : List ℕ) (c : ℤ) (terms new : Terms (List ℕ)) → IsInPrintedOrder inners → IsAt inners at second

@@ -7,11 +7,12 @@ use Rattle.sym_model.specs.Polynomial.{resize}
 use Rattle.sym_model.proofs.AfterLists.{after_among, among_after, once_after}
 use Rattle.sym_model.proofs.SortedParts.{Falls_tail, IsPartition-without_last_zeros, size-without_last_zeros}
 use Rattle.sym_model.proofs.Sums.{Among-each, Among-map, Among_from_map, Once-map, Once-each}
-use Rattle.lr_product.proofs.GoodCounts.{contains-tells}
+use Rattle.sym_model.proofs.Parts.{length-without_last_zeros}
+use Rattle.sym_model.proofs.Lists.{map-map}
 use Rattle.partitions.specs.Limits.{IsWithinLimits}
-use Rattle.alternant_laws.proofs.FallingAlternants.{resize-without_last_zeros, without_last_zeros-resize, length-without_last_zeros}
+use Rattle.strip_laws.proofs.Containment.{contains-tells}
+use Rattle.alternant_laws.proofs.FallingAlternants.{resize-without_last_zeros, without_last_zeros-resize}
 use Rattle.schur_laws.specs.InnerShapes.{up_to, shapes_inside}
-use Rattle.schur_laws.proofs.Coproducts.{map-map}
 use Rattle.schur_laws.proofs.InnerShapeLists.{inside-tells, same-without_last_zeros, partition_inside}
 
 -- the partitions inside

@@ -10,7 +10,7 @@ use Rattle.std.proofs.lemmas.Cmp.{tied_itself}
 use Rattle.coeff_rings.specs.Fractions.{whole}
 use Rattle.sym_model.specs.Sum.{Among}
 use Rattle.sym_model.specs.Partition.{IsPartition}
-use Rattle.sym_model.specs.Polynomial.{Term, same, coefficient}
+use Rattle.sym_model.specs.Polynomial.{coefficient}
 use Rattle.sym_model.specs.Canonical.{is_ordered, is_reduced}
 use Rattle.sym_model.specs.LabelLimits.{is_label}
 use Rattle.sym_model.specs.PrintedOrder.{printed_order}
@@ -19,15 +19,10 @@ use Rattle.sym_model.specs.WholeTerms.{numerators}
 use Rattle.sym_model.proofs.CanonicalLists.{IsOrdered, is_ordered-tells, stands_before-among, each_term-among}
 use Rattle.sym_model.proofs.Exponents.{same_apart, same_from}
 use Rattle.sym_model.proofs.Orders.{printed_order-total, printed_order-equal, is_label-tells}
-use Rattle.sym_model.proofs.Sums.{total_map, total_none, Among-map, Among_from_map}
+use Rattle.sym_model.proofs.Sums.{Among-map, Among_from_map}
 use Rattle.sparse_polys.specs.Combination.{terms_of, are_terms, IsCanonicalList}
 use lib.IntN.{+ℤ_idl, +ℤ_idr}
-
--- no term has this label
-pub no_label : (terms : Terms (List ℕ)) (ν : List ℕ) → ((t : List ℕ × Fraction) → Among t terms → t.0 ≡ ν → ⊥) → coefficient (numerators terms) ν ≡ pos 0
-no_label terms ν h =
-    total_map (λ (t : Term). cond (same t.0 ν) t.1 (pos 0)) (λ (t : List ℕ × Fraction). (t.0, t.1.0)) terms
-    ∙ total_none (λ (t : List ℕ × Fraction). cond (same t.0 ν) t.1.0 (pos 0)) terms (λ t m. ap (λ (b : Bool). cond b t.1.0 (pos 0)) (same_apart t.0 ν (h t m)))
+use Rattle.alternant_laws.proofs.CountedTerms.{no_label}
 
 -- the labels are partitions
 pub label_in : (terms : Terms (List ℕ)) → IsCanonicalList printed_order is_label terms → (t : List ℕ × Fraction) → Among t terms → IsPartition t.0

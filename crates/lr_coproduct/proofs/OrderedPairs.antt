@@ -21,8 +21,9 @@ use Rattle.sym_model.proofs.CanonicalLists.{StandsBefore, IsOrdered, is_ordered-
 use Rattle.sym_model.proofs.Polynomials.{coefficient_plus}
 use Rattle.sym_model.proofs.Sums.{total_map, total_append, Among_from_append, Among_from_map}
 use Rattle.sym_model.proofs.WholeTerms.{coefficient_of_combined}
+use Rattle.sym_model.proofs.Orders.{printed_order-total}
 use Rattle.sparse_polys.specs.Combination.{terms_of, are_terms, IsCanonicalList}
-use Rattle.sparse_polys.specs.Labels.{printed_order_is_total, pair_order_is_total}
+use Rattle.sparse_polys.specs.Labels.{pair_order_is_total}
 use Rattle.lr_coproduct.specs.PairTerms.{pair_sum, second_sum, with_first, AreBefore}
 use Rattle.lr_coproduct.proofs.Prefixes.{IsAt, take_next}
 
@@ -65,7 +66,7 @@ ordered_append {L} order (x ∷ xs) ys p q h =
 with_first_before : (first label : List ℕ) (list : Terms (List ℕ)) → StandsBefore printed_order label list → StandsBefore pair_order (first, label) (with_first first list)
 with_first_before first label [] h = tt
 with_first_before first label (t ∷ list) h =
-    (ap (λ (o : Ordering). ordering_then o (printed_order label t.0)) (tied_itself printed_order_is_total first) ∙ h.0, with_first_before first label list h.1)
+    (ap (λ (o : Ordering). ordering_then o (printed_order label t.0)) (tied_itself printed_order-total first) ∙ h.0, with_first_before first label list h.1)
 
 with_first_ordered : (first : List ℕ) (list : Terms (List ℕ)) → IsOrdered printed_order list → IsOrdered pair_order (with_first first list)
 with_first_ordered first [] h = tt
@@ -93,7 +94,7 @@ canonical_added first list old new e l c before was =
     let p = and_parts (is_ordered printed_order list) (are_terms is_label list) c in
     let q = and_parts (is_ordered pair_order old) (are_terms is_pair_label old) was in
     let ordered = ordered_append pair_order old (with_first first list) (is_ordered-tells pair_order pair_order_is_total.trans old q.0)
-    (with_first_ordered first list (is_ordered-tells printed_order printed_order_is_total.trans list p.0)) apart in
+    (with_first_ordered first list (is_ordered-tells printed_order printed_order-total.trans list p.0)) apart in
     subst (IsCanonicalList pair_order is_pair_label) (sym e)
     (and_from (is_ordered pair_order (old ++ with_first first list)) (are_terms is_pair_label (old ++ with_first first list))
     (is_ordered-from pair_order (old ++ with_first first list) ordered)

@@ -2,9 +2,10 @@
 use Rattle.std.proofs.Common.{◌≡◌, ℕ, zero, suc, ◌+◌, ◌-◌, ◌<◌, ◌≤◌, ◌==◌, ◌⊎◌, inl, inr, nat_le, Bool, true, false, cond, ◌&&◌, List, [], ◌∷◌, ◌++◌, append_assoc, append-nil, map, length, take, drop, refl, sym, ap, ap₂, ◌∙◌, arith}
 use Rattle.std.proofs.lemmas.Bool.{cases_lt, cases_eq, lt-ltb, le-ltb, le-leb, lt-leb, ne_eqb, eq-eqb}
 use Rattle.sym_model.specs.Partition.{after}
-use Rattle.sym_model.specs.Polynomial.{join, resize}
+use Rattle.sym_model.specs.Polynomial.{join}
 use Rattle.sym_model.specs.Schur.{times_in, content}
 use Rattle.sym_model.specs.GoodTableau.{is_falling}
+use Rattle.sym_model.proofs.Exponents.{resize_same}
 use Rattle.tableau_laws.specs.PaddedRows.{letters_at, words_over}
 use Rattle.tableau_laws.specs.Grid.{is_chain, may_precede, pass_by_place, may_stand_above}
 use Rattle.tableau_laws.specs.ColumnFold.{may_be_next}
@@ -15,12 +16,6 @@ use Rattle.lr_product.proofs.Raising.{take_all, length-raised}
 use Rattle.lr_product.proofs.Ranges.{sum-ext, sum-each, sum-map, sum-under, after-numbers, range-passing, numbers-ext}
 
 -- ---- sums and contents
-
-resize_same : (n : ℕ) (ν : List ℕ) → length ν ≡ n → resize n ν ≡ ν
-resize_same zero [] e = refl
-resize_same zero (a ∷ ν) e = absurd (omega arith)
-resize_same (suc n) [] e = absurd (omega arith)
-resize_same (suc n) (a ∷ ν) e = ap (λ l. a ∷ l) (resize_same n ν (omega arith))
 
 pub join-nothing : (n : ℕ) (ν : List ℕ) → length ν ≡ n → join ν (content n []) ≡ ν
 join-nothing n ν e = sum_at_start n ν (omega arith) ∙ resize_same n ν e

@@ -1,5 +1,5 @@
 -- Counts that are added to a table: what stays small, and what a refusal tells.
-use Rattle.std.proofs.Common.{◌≡◌, ◌≤◌, ◌<◌, ◌^◌, ◌⊎◌, inl, inr, Bool, true, false, cond, ℕ, List, [], ◌∷◌, ◌++◌, refl, sym, ◌∙◌, ap, ap₂, arith, ℤ, pos, negsuc, ◌+ℤ◌, ◌*ℤ◌, Option, Some, None}
+use Rattle.std.proofs.Common.{◌≡◌, ◌≤◌, ◌<◌, ◌^◌, ◌⊎◌, inl, inr, Bool, true, false, cond, ℕ, List, [], ◌∷◌, ◌++◌, refl, sym, ◌∙◌, ap, ap₂, arith, ℤ, pos, negsuc, ◌+ℤ◌, ◌*ℤ◌, Option, None}
 use Rattle.std.specs.Prelude.{◌≤ℤ◌, ◌<ℤ◌, nat_eq, FitsSigned}
 use Rattle.std.specs.Int.{w128}
 use Rattle.std.specs.Cmp.Lexicographic.{pointwise}
@@ -16,10 +16,11 @@ use Rattle.sym_model.specs.Expansion.{Fraction, Terms}
 use Rattle.sym_model.specs.WholeTerms.{WholeTerms, AreWhole, numerators}
 use Rattle.sym_model.proofs.Exponents.{same_refl, same_or_not, same_apart}
 use Rattle.sym_model.proofs.Polynomials.{coefficient_plus, coefficient_scale, plus_respects, scale_respects, Same_trans, Same_refl}
+use Rattle.sym_model.proofs.Integers.{product-at_least, product-nonnegative}
 use Rattle.sparse_polys.specs.Combination.{coefficient as found_at, HasMoreAt}
 use Rattle.sparse_polys.specs.Refusal.{IsRefused}
 use Rattle.product_laws.specs.CountedProducts.{AreCounts, Reaches}
-use Rattle.product_laws.proofs.CountLists.{counts-coefficient, coefficient-more, times_at_least}
+use Rattle.product_laws.proofs.CountLists.{counts-coefficient, coefficient-more}
 use Rattle.lr_product.specs.Tables.{IsTable}
 use Rattle.lr_product.specs.ProductOfFactors.{AreSmallCounts}
 use Rattle.lr_product.proofs.TableLists.{found, Same-more}
@@ -36,13 +37,6 @@ refused_large (pos n) h e = by (cases_lt n (2 ^ 127))
     by (inr l) = omega (arith, ints)
 refused_large (negsuc n) h e = absurd (omega (arith, ints))
 
-pub answered_is : (z s : ℤ) → Some s ≡ checked_i128 z → s ≡ z
-answered_is z s e = by (fits_128_bits z) e
-  where
-    by : (b : Bool) → Some s ≡ where_fits b z → s ≡ z
-    by true h = cc
-    by false h = absurd (cc)
-
 -- a small count fits
 small_fits : (z : ℤ) → pos 0 ≤ℤ z → z <ℤ pos (2 ^ 127) → FitsSigned w128 z
 small_fits (pos n) h l = let k : n < 2 ^ 127 = omega (arith, ints) in fits_from_test (pos n) (lt-ltb n (2 ^ 127) k)
@@ -51,11 +45,6 @@ small_fits (negsuc n) h l = absurd (omega (arith, ints))
 fits_small : (z : ℤ) → FitsSigned w128 z → z <ℤ pos (2 ^ 127)
 fits_small (pos n) f = let k : n < 2 ^ 127 = f.sfits in omega (arith, ints)
 fits_small (negsuc n) f = omega (arith, ints)
-
-pub product_counts : (c d : ℤ) → pos 0 ≤ℤ c → pos 0 ≤ℤ d → pos 0 ≤ℤ (c *ℤ d)
-product_counts (pos c) (pos d) h k = omega (arith, ints)
-product_counts (pos c) (negsuc d) h k = absurd (omega (arith, ints))
-product_counts (negsuc c) d h k = absurd (omega (arith, ints))
 
 -- ---- one term more
 
@@ -74,7 +63,7 @@ module _ (old new : Terms (List ℕ)) (label : List ℕ) (c d z : ℤ) (is : IsT
     (h : pos 0 ≤ℤ c) (k : pos 0 ≤ℤ d) where
   pub refused_product : checked_i128 (c *ℤ d) ≡ None → pos (2 ^ 127) ≤ℤ coefficient (numerators old ++ (label, c *ℤ d) ∷ []) label
   refused_product e =
-      let l = refused_large (c *ℤ d) (product_counts c d h k) e in
+      let l = refused_large (c *ℤ d) (product-nonnegative c d h k) e in
       let p = coefficient-push (numerators old) label (c *ℤ d) in
       let s = (small label).0 in
       omega (arith, ints)
@@ -86,7 +75,7 @@ module _ (old new : Terms (List ℕ)) (label : List ℕ) (c d z : ℤ) (is : IsT
       let right : r.right ≡ c *ℤ d = same_whole r.right (c *ℤ d) (r.right_value ∙ ap whole e) in
       let p = coefficient-push (numerators old) label (c *ℤ d) in
       let s = (small label).0 in
-      let q = product_counts c d h k in
+      let q = product-nonnegative c d h k in
       let l = refused_large (r.left +ℤ r.right) (omega (arith, ints)) r.refused in
       omega (arith, ints)
 
@@ -101,7 +90,7 @@ module _ (old new : Terms (List ℕ)) (label : List ℕ) (c d z : ℤ) (is : IsT
       by (inl p) =
           let x = ap (λ l. coefficient (numerators new) l) (sym p) ∙ e label ∙ coefficient-push (numerators old) label (c *ℤ d) in
           let s = (small label).0 in
-          let q = product_counts c d h k in
+          let q = product-nonnegative c d h k in
           let t = sum_small (fits_128_bits (coefficient (numerators old) label +ℤ c *ℤ d)) refl in
           (omega (arith, ints), omega (arith, ints))
         where
@@ -150,7 +139,7 @@ Reaches-scaled k c z before product one small counts r = record {
       let s = (small r.parts).0 in
       let sum = coefficient_plus before (scale z product) r.parts in
       let scaled = coefficient_scale z product r.parts in
-      let more = times_at_least y z n one in
+      let more = product-at_least y z n one in
       let turned = *ℤ_comm z y in
       omega (arith, ints);
 }

@@ -22,10 +22,11 @@ use Rattle.sym_model.proofs.CanonicalLists.{each_term-among}
 use Rattle.sym_model.proofs.Exponents.{same_from, same_apart, same_or_not}
 use Rattle.sym_model.proofs.Orders.{is_label-tells}
 use Rattle.sym_model.proofs.SortedParts.{IsPartition-without_last_zeros, size-without_last_zeros}
+use Rattle.sym_model.proofs.Parts.{length-without_last_zeros}
 use Rattle.partitions.specs.Limits.{IsWithinLimits}
 use Rattle.sparse_polys.specs.Combination.{coefficient, HasMoreAt, HasSameCoefficients, IsCombination}
 use Rattle.alternant_laws.specs.GoodSums.{ListsCounts}
-use Rattle.alternant_laws.proofs.FallingAlternants.{length-without_last_zeros, falls_from_test}
+use Rattle.alternant_laws.proofs.FallingAlternants.{falls_from_test}
 use Rattle.lr_product.specs.WeighedSum.{at_state, weighed, comes_to}
 use Rattle.lr_product.specs.Counts.{IsPastSomewhere}
 use Rattle.sparse_polys.proofs.Coefficients.{not_zero-is_reduced}

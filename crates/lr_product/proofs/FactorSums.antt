@@ -1,5 +1,5 @@
 -- Terms and products that are added one after another.
-use Rattle.std.proofs.Common.{◌≡◌, ◌≤◌, ◌^◌, inl, inr, ℕ, List, [], ◌∷◌, ◌++◌, append_assoc, append-nil, length, map, refl, sym, ◌∙◌, ap, subst, arith, ℤ, pos, ◌*ℤ◌}
+use Rattle.std.proofs.Common.{◌≡◌, ◌≤◌, ◌^◌, inl, inr, ℕ, List, [], ◌∷◌, ◌++◌, append_assoc, append-nil, map, refl, sym, ◌∙◌, ap, subst, arith, ℤ, pos, ◌*ℤ◌}
 use Rattle.std.specs.Prelude.{◌≤ℤ◌}
 use Rattle.std.proofs.lemmas.Int.{ints}
 use Rattle.std.proofs.lemmas.List.{map-append}
@@ -13,6 +13,7 @@ use Rattle.sym_model.specs.Target.{classical_product}
 use Rattle.sym_model.proofs.Sums.{Among-append_left, Among-append_right}
 use Rattle.sym_model.proofs.Polynomials.{Same_trans}
 use Rattle.sparse_polys.specs.Combination.{terms_of}
+use Rattle.sparse_polys.proofs.Coefficients.{numerators-terms}
 use Rattle.product_laws.specs.FactorSteps.{multiplied}
 use Rattle.product_laws.specs.CountedProducts.{AreCounts, Reaches}
 use Rattle.product_laws.proofs.CountLists.{counts-scale}
@@ -22,16 +23,8 @@ use Rattle.lr_product.proofs.CountSums.{Reaches-more, Reaches-same, Same-append}
 
 -- ---- a list that is read term by term
 
-pub numerators-terms : (xs : WholeTerms) → numerators (terms_of whole xs) ≡ xs
-numerators-terms [] = refl
-numerators-terms (x ∷ xs) = ap (λ l. x ∷ l) (numerators-terms xs)
-
 pub read_of : (terms : Terms (List ℕ)) (xs : WholeTerms) → terms_of whole xs ≡ terms → numerators terms ≡ xs
 read_of terms xs e = ap (λ (l : Terms (List ℕ)). numerators l) (sym e) ∙ numerators-terms xs
-
-pub all_read : {A : Type 0} (done rest all : List A) → length rest ≡ 0 → done ++ rest ≡ all → done ≡ all
-all_read done [] all none e = sym (append-nil done) ∙ e
-all_read done (x ∷ rest) all none e = absurd (omega arith)
 
 met : (done : WholeTerms) (p : Term) (rest : WholeTerms) → Among p (done ++ p ∷ rest)
 met done p rest = Among-append_right p done (p ∷ rest) (inl refl)
@@ -42,7 +35,7 @@ scale-push : (c : ℤ) (done : WholeTerms) (p : Term) → scale c (done ++ p ∷
 scale-push c [] p = refl
 scale-push c (t ∷ done) p = ap (λ l. (t.0, c *ℤ t.1) ∷ l) (scale-push c done p)
 
-scale-append : (c : ℤ) (xs ys : WholeTerms) → scale c (xs ++ ys) ≡ scale c xs ++ scale c ys
+pub scale-append : (c : ℤ) (xs ys : WholeTerms) → scale c (xs ++ ys) ≡ scale c xs ++ scale c ys
 scale-append c [] ys = refl
 scale-append c (t ∷ xs) ys = ap (λ l. (t.0, c *ℤ t.1) ∷ l) (scale-append c xs ys)
 

@@ -1,5 +1,5 @@
 -- Counts of good tableaux and Schur coefficients.
-use Rattle.std.proofs.Common.{◌≡◌, ℕ, ◌+◌, ◌-◌, ◌^◌, ◌<◌, ◌≤◌, ◌⊎◌, inl, inr, min, nat_abs, Bool, true, false, cond, List, [], ◌∷◌, map, length, get_or, refl, sym, ap, ◌∙◌, subst, arith, ℤ, pos, negsuc, ◌+ℤ◌, ◌≤ℤ◌}
+use Rattle.std.proofs.Common.{◌≡◌, ℕ, ◌+◌, ◌^◌, ◌<◌, ◌≤◌, ◌⊎◌, inl, inr, min, nat_abs, Bool, true, false, cond, List, [], ◌∷◌, map, length, refl, sym, ap, ◌∙◌, subst, arith, ℤ, pos, negsuc, ◌+ℤ◌, ◌≤ℤ◌}
 use Rattle.std.specs.Prelude.{Result, Ok, Err, Option, Some, None, IfOk, OnOk, IfSome, IsTrue}
 use Rattle.std.specs.Option.{unwrap_or}
 use Rattle.std.proofs.lemmas.Bool.{cases_lt, cases_Bool, le-leb, leb-true, false_from_ne_true, both_ways}
@@ -27,11 +27,11 @@ use Rattle.sym_model.proofs.Sums.{total_none, total_map, Among_from_map}
 use Rattle.tableau_laws.specs.ColumnFold.{column_lines, is_sum}
 use Rattle.tableau_laws.proofs.ColumnCounts.{contains_nothing, total_readings_by_columns}
 use Rattle.tableau_laws.proofs.GoodReadings.{total_good_contents}
+use Rattle.strip_laws.proofs.Containment.{contains-tells}
 use Rattle.alternant_laws.specs.GoodSums.{ListsCounts, start_plus_content}
 use Rattle.alternant_laws.proofs.CountedTerms.{good_terms, coefficient_counts, no_long_labels, product_coefficients, skew_coefficients, nothing_times, mult_meets, skew_meets}
 use Rattle.alternant_laws.proofs.Degrees.{coefficient-other_degree, times-of_degree, alternant-of_degree, schur-of_degree}
 use Rattle.alternant_laws.proofs.ClassicalProducts.{classical_product-coefficient, classical_product-term}
-use Rattle.schur_laws.proofs.Duality.{contains_places, contains_from_places}
 use Rattle.lr_product.specs.WeighedSum.{comes_to, VanishesOutside}
 use Rattle.lr_product.specs.Capped.{Agree}
 use Rattle.lr_product.specs.Counts.{good_count, IsPastSomewhere}
@@ -276,13 +276,6 @@ pub skew_fits : (variables : Option ℕ) (m : ℕ) (outer inner : List ℕ) → 
     → ((ν : List ℕ) → IsPartition ν → rows ν ≤ m → skew_count outer inner ν < 2 ^ 127) → HasPastCoefficient (skew variables false outer inner) → ⊥
 skew_fits variables m outer inner e o i holds small past =
     has_none_past m (skew_schur outer inner m) (skew_count outer inner) (skew_counts m outer inner o i holds) small (subst (λ k. HasPast k (skew_schur outer inner k)) (sym (e ∙ variables_same variables (rows outer))) past)
-
--- one shape inside another, by its test
-pub contains-tells : (outer inner : List ℕ) → contains outer inner ≡ true → Holds outer inner
-contains-tells outer inner h i = contains_places outer inner h (i - 1)
-
-pub contains-from : (outer inner : List ℕ) → Holds outer inner → contains outer inner ≡ true
-contains-from outer inner h = contains_from_places outer inner (λ j. let e : j + 1 - 1 ≡ j = omega arith in let k = h (j + 1) in subst (λ i. get_or inner i 0 ≤ get_or outer i 0) e k)
 
 pub contains-false : (outer inner : List ℕ) → (Holds outer inner → ⊥) → contains outer inner ≡ false
 contains-false outer inner h = false_from_ne_true (contains outer inner) (λ e. h (contains-tells outer inner e))

@@ -1,12 +1,12 @@
 -- The lines of the columns of a skew shape: how many there are, and which places they have.
-use Rattle.std.proofs.Common.{◌≡◌, ℕ, zero, suc, ◌+◌, ◌-◌, ◌<◌, ◌≤◌, ◌⊎◌, inl, inr, nat_le, nat_lt, Bool, true, false, cond, List, [], ◌∷◌, ◌++◌, length, replicate, take, drop, get_or, length-append, refl, sym, ap, ap₂, ◌∙◌, arith}
-use Rattle.std.proofs.lemmas.Bool.{cases_lt, le-leb, lt-leb, lt-ltb, le-ltb, leb-true, and_parts}
+use Rattle.std.proofs.Common.{◌≡◌, ℕ, zero, suc, ◌+◌, ◌-◌, ◌<◌, ◌≤◌, ◌⊎◌, inl, inr, nat_le, nat_lt, Bool, true, false, cond, List, [], ◌∷◌, ◌++◌, length, replicate, take, drop, get_or, refl, sym, ap, ap₂, ◌∙◌, arith}
+use Rattle.std.proofs.lemmas.Bool.{cases_lt, le-leb, lt-leb, lt-ltb, le-ltb}
 use Rattle.std.proofs.Math.Seq.{drop-cons}
 use Rattle.sym_model.specs.Partition.{Falls, size, columns, part}
 use Rattle.sym_model.specs.Schur.{contains}
 use Rattle.tableau_laws.specs.PaddedRows.{put_row, transposed, line_of, pattern_of}
 use Rattle.tableau_laws.specs.ColumnFold.{column_lines}
-use Rattle.tableau_laws.proofs.ColumnCounts.{contains_nothing}
+use Rattle.tableau_laws.proofs.RowSums.{contains_rest, length_line}
 use Rattle.lr_product.specs.ColumnLine.{column_line}
 use Rattle.lr_product.specs.WeighedSum.{places}
 
@@ -64,20 +64,11 @@ at_place-line (suc i) (suc b) k =
     at_place-line i b k
     ∙ ap₂ (λ (t u : Bool). cond t (u ∷ []) []) (leb-up (i + 1) (b + k) (suc i + 1) (suc b + k) (omega arith) (omega arith)) (ltb-up b (i + 1) (suc b) (suc i + 1) refl (omega arith))
 
--- the first row of a shape, and the others
-first_row : (a : ℕ) (outer inner : List ℕ) → contains (a ∷ outer) inner ≡ true → (part inner 1 ≤ a) × (contains outer (drop 1 inner) ≡ true)
-first_row a outer [] h = (omega arith, contains_nothing outer)
-first_row a outer (b ∷ inner) h = let p = and_parts (nat_le b a) (contains outer inner) h in (leb-true b a p.0, by inner p.1)
-  where
-    by : (l : List ℕ) → contains outer l ≡ true → contains outer (drop 1 (b ∷ l)) ≡ true
-    by [] g = g
-    by (x ∷ l) g = g
-
 pub line-at : (i : ℕ) (outer inner : List ℕ) → contains outer inner ≡ true → get_or (column_lines outer inner) i [] ≡ column_line (i + 1) outer inner
 line-at zero [] inner h = refl
 line-at (suc i) [] inner h = refl
 line-at i (a ∷ outer) inner h =
-    let r = first_row a outer inner h in
+    let r = contains_rest a outer inner h in
     let whole : part inner 1 + (a - part inner 1) ≡ a = let q = r.0 in omega arith in
     line-put i (line_of (part inner 1) (a - part inner 1)) (transposed (pattern_of outer (drop 1 inner)))
     ∙ ap₂ ◌++◌ (at_place-line i (part inner 1) (a - part inner 1) ∙ ap (λ k. cond (nat_le (i + 1) k) (nat_lt (part inner 1) (i + 1) ∷ []) []) whole) (line-at i outer (drop 1 inner) r.1)
@@ -92,22 +83,15 @@ length-replicate : (k : ℕ) (x : Bool) → length (replicate k x) ≡ k
 length-replicate zero x = refl
 length-replicate (suc k) x = ap suc (length-replicate k x)
 
-length-line_of : (a b : ℕ) → b ≤ a → length (line_of b (a - b)) ≡ a
-length-line_of a b h =
-    let l = length-append (replicate b false) (replicate (a - b) true) in
-    let p = length-replicate b false in
-    let q = length-replicate (a - b) true in
-    omega arith
-
 pub length-lines : (outer inner : List ℕ) → Falls outer → contains outer inner ≡ true → length (column_lines outer inner) ≡ columns outer
 length-lines [] inner f h = refl
 length-lines (a ∷ []) inner f h =
-    let r = first_row a [] inner h in
-    length-put (line_of (part inner 1) (a - part inner 1)) [] (omega arith) ∙ length-line_of a (part inner 1) r.0
+    let r = contains_rest a [] inner h in
+    length-put (line_of (part inner 1) (a - part inner 1)) [] (omega arith) ∙ length_line a (part inner 1) r.0
 length-lines (a ∷ b ∷ outer) inner f h =
-    let r = first_row a (b ∷ outer) inner h in
+    let r = contains_rest a (b ∷ outer) inner h in
     let i = length-lines (b ∷ outer) (drop 1 inner) f.1 r.1 in
-    let k = length-line_of a (part inner 1) r.0 in
+    let k = length_line a (part inner 1) r.0 in
     let g = f.0 in
     length-put (line_of (part inner 1) (a - part inner 1)) (transposed (pattern_of (b ∷ outer) (drop 1 inner))) (omega arith) ∙ k
 
@@ -119,10 +103,10 @@ places-put (x ∷ row) (c ∷ lines) = let i = places-put row lines in omega ari
 pub places-lines : (outer inner : List ℕ) → contains outer inner ≡ true → places (column_lines outer inner) ≡ size outer
 places-lines [] inner h = refl
 places-lines (a ∷ outer) inner h =
-    let r = first_row a outer inner h in
+    let r = contains_rest a outer inner h in
     let i = places-lines outer (drop 1 inner) r.1 in
     let p = places-put (line_of (part inner 1) (a - part inner 1)) (transposed (pattern_of outer (drop 1 inner))) in
-    let k = length-line_of a (part inner 1) r.0 in
+    let k = length_line a (part inner 1) r.0 in
     omega arith
 
 pub places-drop : (i : ℕ) (lines : List (List Bool)) → places (drop i lines) ≤ places lines

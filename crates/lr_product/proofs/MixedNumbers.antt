@@ -1,14 +1,11 @@
 -- Numbers mixed one by one.
 use Rattle.std.proofs.Common.{◌≡◌, ℕ, zero, suc, ◌+◌, ◌*◌, ◌%◌, ◌^◌, ◌<◌, ◌≤◌, List, [], ◌∷◌, length, drop, get_or, refl, sym, ap, ◌∙◌, arith}
+use Rattle.sym_model.proofs.Lists.{drop-none}
 use Rattle.lr_product.specs.Mixing.{mixed}
-
-nothing_dropped : (xs : List ℕ) → drop 0 xs ≡ xs
-nothing_dropped [] = refl
-nothing_dropped (x ∷ xs) = refl
 
 pub mixed_next : (xs : List ℕ) (i sum : ℕ) → i < length xs → mixed sum (drop i xs) ≡ mixed (((sum * 1000003) % 2 ^ 64 + get_or xs i 0) % 2 ^ 64) (drop (i + 1) xs)
 mixed_next [] i sum l = absurd (omega arith)
-mixed_next (x ∷ xs) zero sum l = ap (mixed (((sum * 1000003) % 2 ^ 64 + x) % 2 ^ 64)) (sym (nothing_dropped xs))
+mixed_next (x ∷ xs) zero sum l = ap (mixed (((sum * 1000003) % 2 ^ 64 + x) % 2 ^ 64)) (sym (drop-none xs))
 mixed_next (x ∷ xs) (suc i) sum l =
     let e : suc (i + 1) ≡ suc i + 1 = omega arith in
     mixed_next xs i sum (omega arith) ∙ ap (λ j. mixed (((sum * 1000003) % 2 ^ 64 + get_or xs i 0) % 2 ^ 64) (drop j (x ∷ xs))) e

@@ -1,8 +1,8 @@
 -- Coefficients of a product past 2^127 - 1, by its list and by its definition.
-use Rattle.std.proofs.Common.{◌≡◌, ◌≤◌, ◌<◌, ◌+◌, ◌^◌, ◌⊎◌, inl, inr, Bool, true, false, cond, ℕ, zero, suc, max, List, [], ◌∷◌, length, map, refl, sym, ◌∙◌, ap, subst, arith, ℤ, pos, negsuc, Option, Some, None}
+use Rattle.std.proofs.Common.{◌≡◌, ◌≤◌, ◌<◌, ◌+◌, ◌^◌, ◌⊎◌, inl, inr, Bool, false, cond, ℕ, zero, suc, max, List, [], ◌∷◌, length, map, refl, sym, ◌∙◌, ap, subst, arith, ℤ, pos, negsuc, Option, Some, None}
 use Rattle.std.specs.Prelude.{◌≤ℤ◌, ◌<ℤ◌, IsTrue}
 use Rattle.std.specs.Option.{unwrap_or}
-use Rattle.std.proofs.lemmas.Bool.{cases_lt, leb-true, le-leb}
+use Rattle.std.proofs.lemmas.Bool.{cases_lt}
 use Rattle.std.proofs.lemmas.Int.{ints}
 use Rattle.sym_model.specs.Sum.{Among}
 use Rattle.sym_model.specs.Partition.{IsPartition, size, rows}
@@ -12,6 +12,7 @@ use Rattle.sym_model.specs.Alternant.{schur_coefficient}
 use Rattle.sym_model.specs.Command.{mult}
 use Rattle.sym_model.specs.Target.{schur_product, classical_product}
 use Rattle.sym_model.specs.LargeAnswer.{IsSchurCoefficientOf, is_past, HasPastCoefficient}
+use Rattle.sym_model.proofs.Integers.{is_past-tells, is_past-from}
 use Rattle.alternant_laws.proofs.ClassicalProducts.{classical_product-coefficient, classical_product-term}
 use Rattle.product_laws.specs.FactorSteps.{ArePartitions}
 use Rattle.product_laws.specs.CountedProducts.{AreCounts, Reaches}
@@ -24,14 +25,6 @@ use Rattle.lr_product.specs.ProductOfFactors.{AreSmallCounts}
 abbrev pub IsPastIn : ℕ → List (List ℕ) → Type 0
 IsPastIn k factors = (c : ℤ) × IsSchurCoefficientOf (schur_product factors k) k c × IsTrue (is_past c)
 
-past_is : (z : ℤ) → is_past z ≡ true → pos (2 ^ 127) ≤ℤ z
-past_is (pos n) h = let l : 2 ^ 127 ≤ n = leb-true (2 ^ 127) n h in omega (arith, ints)
-past_is (negsuc n) h = absurd (cc)
-
-is_past-from : (z : ℤ) → pos (2 ^ 127) ≤ℤ z → is_past z ≡ true
-is_past-from (pos n) h = let l : 2 ^ 127 ≤ n = omega (arith, ints) in le-leb (2 ^ 127) n l
-is_past-from (negsuc n) h = absurd (omega (arith, ints))
-
 pub past_reaches : (k : ℕ) (factors : List (List ℕ)) → IsPastIn k factors → Reaches k (2 ^ 127) (classical_product k factors)
 past_reaches k factors h =
     let s = h.1 in
@@ -39,7 +32,7 @@ past_reaches k factors h =
       parts = s.parts;
       partition = s.partition;
       within = s.within;
-      reaches = subst (λ (z : ℤ). pos (2 ^ 127) ≤ℤ z) (s.is ∙ sym (classical_product-coefficient k factors s.parts s.partition s.within)) (past_is h.0 h.2);
+      reaches = subst (λ (z : ℤ). pos (2 ^ 127) ≤ℤ z) (s.is ∙ sym (classical_product-coefficient k factors s.parts s.partition s.within)) (is_past-tells h.0 h.2);
     }
 
 pub reaches_past : (k : ℕ) (factors : List (List ℕ)) → Reaches k (2 ^ 127) (classical_product k factors) → IsPastIn k factors
@@ -104,7 +97,7 @@ none_past factors e h =
     let value : h.0 ≡ pos 1 =
     s.is ∙ ap (λ parts. schur_coefficient 0 parts (schur_product factors 0)) (no_rows s.parts s.within)
     ∙ ap (λ f. schur_coefficient 0 [] f) (one_in_none factors e) in
-    let l = past_is h.0 h.2 in
+    let l = is_past-tells h.0 h.2 in
     omega (arith, ints)
 
 none_reached : (first : List ℕ) (rest : List (List ℕ)) → ArePartitions (first ∷ rest) → size (map rows (first ∷ rest)) ≡ 0 → Reaches 1 (2 ^ 127) (classical_product 1 (first ∷ rest)) → ⊥

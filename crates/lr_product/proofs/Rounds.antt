@@ -5,6 +5,7 @@ use Rattle.std.proofs.Math.Seq.{take-length}
 use Rattle.sym_model.specs.Partition.{Falls, IsPartition, size, columns}
 use Rattle.sym_model.specs.Polynomial.{join, resize}
 use Rattle.sym_model.specs.Schur.{contains, content}
+use Rattle.sym_model.proofs.Exponents.{length-resize}
 use Rattle.tableau_laws.specs.PaddedRows.{words_over}
 use Rattle.tableau_laws.specs.Grid.{pass_by_place}
 use Rattle.tableau_laws.specs.ColumnFold.{column_lines, may_be_next}
@@ -23,11 +24,6 @@ agree_zero a b p e = by (cases_lt a (2 ^ 127))
     by : (a < 2 ^ 127) ⊎ (2 ^ 127 ≤ a) → a ≡ 0
     by (inl l) = p.below l ∙ e
     by (inr l) = let q = p.past l in absurd (omega arith)
-
-pub length-resize : (n : ℕ) (s : List ℕ) → length (resize n s) ≡ n
-length-resize zero s = refl
-length-resize (suc n) [] = ap suc (length-resize n [])
-length-resize (suc n) (a ∷ s) = ap suc (length-resize n s)
 
 size-resize : (n : ℕ) (s : List ℕ) → size (resize n s) ≤ size s
 size-resize zero s = omega arith

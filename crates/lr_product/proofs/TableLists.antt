@@ -17,7 +17,7 @@ use Rattle.sym_model.specs.WholeTerms.{WholeTerms, AreWhole, numerators}
 use Rattle.sym_model.proofs.Polynomials.{coefficient_plus}
 use Rattle.sym_model.proofs.Exponents.{same_from, same_apart, same_or_not}
 use Rattle.sym_model.specs.LabelLimits.{is_label}
-use Rattle.sparse_polys.specs.Combination.{coefficient, terms_of, HasMoreAt, HasSameCoefficients}
+use Rattle.sparse_polys.specs.Combination.{coefficient, HasMoreAt, HasSameCoefficients}
 use Rattle.sparse_polys.proofs.Steps.{IsCombination-empty}
 use Rattle.sparse_polys.proofs.Totals.{length_same}
 use Rattle.lr_product.specs.Tables.{IsTable}
@@ -100,10 +100,6 @@ Same-more old new label c is w also more = Same-found new (numerators old ++ (la
 -- a list with the coefficients of a table
 pub Same-coefficients : (table out : Terms (List ℕ)) → IsTable table → AreWhole table → IsTable out → HasSameCoefficients equal table out → Same (numerators out) (numerators table)
 Same-coefficients table out is w also e = Same-found out (numerators table) also (λ label. e label ∙ found table is w label)
-
-pub AreWhole-terms_of : (es : List (List ℕ × ℤ)) → AreWhole (terms_of whole es)
-AreWhole-terms_of [] = tt
-AreWhole-terms_of (e ∷ es) = (refl, AreWhole-terms_of es)
 
 -- a list that has the coefficients of the empty one
 pub same_as_none : (terms : Terms (List ℕ)) → IsTable terms → HasSameCoefficients equal [] terms → terms ≡ []

@@ -2,10 +2,11 @@
 use Rattle.std.proofs.Common.{◌≡◌, ℕ, zero, suc, ◌+◌, ◌*◌, ◌/◌, ◌^◌, ◌<◌, ◌≤◌, max, Bool, true, false, cond, List, [], ◌∷◌, length, take, get_or, refl, sym, ap, ap₂, ◌∙◌, inl, inr, arith, ℤ, pos, ◌+ℤ◌, ◌-ℤ◌, ◌*ℤ◌}
 use Rattle.std.specs.Prelude.{FitsSigned, nat_abs}
 use Rattle.std.specs.Int.{w128}
-use Rattle.std.proofs.lemmas.Int.{ints, unsigned_abs-mul}
+use Rattle.std.proofs.lemmas.Int.{ints}
 use Rattle.coeff_rings.specs.Fractions.{whole}
 use Rattle.coeff_rings.specs.Checked.{checked_i128}
 use Rattle.coeff_rings.specs.Proved.Whole.{same_whole}
+use Rattle.coeff_rings.proofs.Sizes.{refused_size}
 use Rattle.sym_model.specs.Sum.{total}
 use Rattle.sym_model.specs.Expansion.{Fraction, Terms}
 use Rattle.sym_model.specs.Expression.{lcm}
@@ -14,18 +15,14 @@ use Rattle.sym_model.specs.ListWeight.{common_denominator, absolute_sum, list_we
 use Rattle.sym_model.specs.Permutation.{IsOneLine, covers_up, covers_down}
 use Rattle.sym_model.specs.Polynomial.{same}
 use Rattle.sym_model.specs.WholeTerms.{AreWhole}
+use Rattle.sym_model.proofs.Integers.{nat_abs-sum, nat_abs-product}
 use Rattle.sparse_polys.specs.Combination.{coefficient}
 use Rattle.sparse_polys.specs.Refusal.{IsRefused}
-use Rattle.sparse_polys.proofs.ClearedSums.{nat_abs-is}
 use Rattle.schubert_transition.specs.TermLists.{equal, over, only, IsTable}
 use Rattle.schubert_transition.proofs.TermSums.{whole_found, over_at}
 use Rattle.monk_product.specs.Monk.{mass, AreShort, over_covers, greatest_length, count_of}
-use Rattle.monk_product.proofs.Masses.{triangle, refused_size}
 use Rattle.monk_product.proofs.OneCover.{one_cover, total_count, count_next}
 use native.Mathlib.Nat.{mul-le-mul_left}
-
-pub abs_product : (c z : ℤ) → nat_abs (c *ℤ z) ≡ nat_abs c * nat_abs z
-abs_product c z = nat_abs-is (c *ℤ z) ∙ unsigned_abs-mul c z ∙ ap₂ ◌*◌ (sym (nat_abs-is c)) (sym (nat_abs-is z))
 
 -- ---- one coefficient
 
@@ -36,7 +33,7 @@ refused_at old k c is w r =
     let left : r.left ≡ (coefficient equal old k).0 = same_whole r.left ((coefficient equal old k).0) (r.left_value ∙ whole_found old w k) in
     let right : r.right ≡ c = same_whole r.right c r.right_value in
     let size = refused_size ((coefficient equal old k).0 +ℤ c) (ap₂ (λ x y. checked_i128 (x +ℤ y)) (sym left) (sym right) ∙ r.refused) in
-    let a = triangle ((coefficient equal old k).0) c in
+    let a = nat_abs-sum ((coefficient equal old k).0) c in
     let b = ap nat_abs (over_at old is.distinct k) in
     omega arith
 
@@ -44,21 +41,21 @@ refused_at old k c is w r =
 pub coefficient_within : (x : List ℕ) (terms : Terms (List ℕ)) → nat_abs (over (only x) terms) ≤ mass terms
 coefficient_within x [] = omega arith
 coefficient_within x (t ∷ terms) =
-    let a = triangle (t.1.0 *ℤ only x t.0) (over (only x) terms) in
+    let a = nat_abs-sum (t.1.0 *ℤ only x t.0) (over (only x) terms) in
     let b = here (same t.0 x) in
     let r = coefficient_within x terms in
     omega arith
   where
     here : (b : Bool) → nat_abs (t.1.0 *ℤ cond b (pos 1) (pos 0)) ≤ nat_abs t.1.0
-    here true = let e = abs_product t.1.0 (pos 1) in omega arith
-    here false = let e = abs_product t.1.0 (pos 0) in omega arith
+    here true = let e = nat_abs-product t.1.0 (pos 1) in omega arith
+    here false = let e = nat_abs-product t.1.0 (pos 0) in omega arith
 
 -- a coefficient with more of a permutation
 pub count_added : (x : List ℕ) (c old new : ℤ) (vs : List (List ℕ)) → new ≡ old +ℤ c *ℤ total (only x) vs → nat_abs new ≤ nat_abs old + nat_abs c * count_of x vs
 count_added x c old new vs e =
     let a = ap nat_abs e in
-    let b = triangle old (c *ℤ total (only x) vs) in
-    let d = abs_product c (total (only x) vs) in
+    let b = nat_abs-sum old (c *ℤ total (only x) vs) in
+    let d = nat_abs-product c (total (only x) vs) in
     let f = ap (λ z. nat_abs c * nat_abs z) (total_count x vs) in
     omega arith
 
@@ -77,8 +74,8 @@ within_one a m n h = let p = mul-le-mul_left a h in omega arith
 pub cover_added : (r : ℕ) (w x : List ℕ) (c old new : ℤ) → IsOneLine w → 1 ≤ r → new ≡ old +ℤ c *ℤ over_covers r (only x) w → nat_abs new ≤ nat_abs old + nat_abs c
 cover_added r w x c old new o h e =
     let a = ap nat_abs e in
-    let b = triangle old (c *ℤ over_covers r (only x) w) in
-    let d = abs_product c (over_covers r (only x) w) in
+    let b = nat_abs-sum old (c *ℤ over_covers r (only x) w) in
+    let d = nat_abs-product c (over_covers r (only x) w) in
     let u = total_count x (covers_up r w) in
     let v = total_count x (covers_down r w) in
     let one = one_cover r w x o h in

@@ -1,5 +1,5 @@
 -- The covers of a permutation at a place: how many there are, and how many letters they have.
-use Rattle.std.proofs.Common.{◌≡◌, ℕ, zero, suc, ◌+◌, ◌-◌, ◌*◌, ◌<◌, ◌≤◌, ◌==◌, max, Bool, true, false, cond, List, [], ◌∷◌, map, length, get_or, take, refl, sym, ap, ◌∙◌, subst, inl, inr, arith, length-append, add-one, ℤ, ◌+ℤ◌}
+use Rattle.std.proofs.Common.{◌≡◌, ℕ, zero, suc, ◌+◌, ◌-◌, ◌<◌, ◌≤◌, ◌==◌, max, Bool, true, false, cond, List, [], ◌∷◌, map, length, get_or, take, refl, sym, ap, ◌∙◌, subst, arith, length-append, add-one, ℤ, ◌+ℤ◌}
 use Rattle.std.proofs.lemmas.Int.{ints}
 use Rattle.sym_model.specs.Sum.{total, Among, select}
 use Rattle.sym_model.specs.Partition.{after}
@@ -9,8 +9,7 @@ use Rattle.sym_model.proofs.AfterLists.{length_after, after_among}
 use Rattle.sym_model.proofs.Sums.{Among_from_map, Among_from_select}
 use Rattle.schubert_laws.proofs.MonkFromOne.{swap_is}
 use Rattle.schubert_laws.proofs.Swaps.{swap_at, length-swap_at}
-use Rattle.schubert_transition.proofs.Members.{fewer_kept}
-use native.Mathlib.Nat.{mul-le-mul_left}
+use Rattle.perm_codes.proofs.WithinLimits.{fewer_kept}
 
 length_select : {A : Type 0} (test : A → Bool) (xs : List A) → length (select test xs) ≤ length xs
 length_select test [] = omega arith
@@ -77,11 +76,3 @@ total_take_suc f (y ∷ xs) (suc i) x h e = let r = total_take_suc f xs i x (ome
 
 pub total_take : {A : Type 0} (f : A → ℤ) (xs : List A) (i : ℕ) (x : A) → i < length xs → x ≡ get_or xs i x → total f (take (i + 1) xs) ≡ total f (take i xs) +ℤ f x
 total_take f xs i x h e = ap (λ n. total f (take n xs)) (add-one i) ∙ total_take_suc f xs i x h e
-
-pub among_get : {A : Type 0} (xs : List A) (i : ℕ) (x : A) → i < length xs → x ≡ get_or xs i x → Among x xs
-among_get [] i x h e = absurd (omega arith)
-among_get (y ∷ xs) zero x h e = inl e
-among_get (y ∷ xs) (suc i) x h e = inr (among_get xs i x (omega arith) e)
-
-pub split_product : (a m n k : ℕ) → m + n ≤ k → a * m + a * n ≤ a * k
-split_product a m n k h = let p = mul-le-mul_left a h in omega arith

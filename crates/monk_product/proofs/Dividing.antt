@@ -4,7 +4,8 @@ use Rattle.std.specs.Prelude.{replicate}
 use Rattle.sym_model.specs.Polynomial.{join}
 use Rattle.sym_model.specs.Partition.{size, in_front, without_last_zeros}
 use Rattle.sym_model.proofs.SortedParts.{size-without_last_zeros}
-use Rattle.schubert_laws.proofs.Swaps.{default_free}
+use Rattle.sym_model.proofs.Parts.{length-without_last_zeros}
+use Rattle.sym_model.proofs.Lists.{get_or-any}
 use Rattle.sparse_polys.specs.Limits.{IsWithinLimits}
 use Rattle.sparse_polys.specs.Raised.{raised}
 use Rattle.sparse_polys.proofs.ExponentOrder.{front_tail, trimmed_once}
@@ -40,15 +41,6 @@ lowered_join (a ∷ b ∷ e) t h =
 pub divided : (e : List ℕ) → without_last_zeros e ≡ e → 0 < length e → raised (length e) (without_last_zeros (set e (length e - 1) (get_or e (length e - 1) 0 - 1))) ≡ e
 divided e t h = lowered_join e t h
 
-length_trimmed : (x : List ℕ) → length (without_last_zeros x) ≤ length x
-length_trimmed [] = omega arith
-length_trimmed (a ∷ x) = by a (without_last_zeros x) (length_trimmed x)
-  where
-    by : (b : ℕ) (y : List ℕ) → length y ≤ length x → length (in_front b y) ≤ suc (length x)
-    by zero [] h = omega arith
-    by zero (c ∷ y) h = omega arith
-    by (suc b) y h = omega arith
-
 size_set : (e : List ℕ) (i v : ℕ) → v ≤ get_or e i 0 → size (set e i v) ≤ size e
 size_set [] i v h = omega arith
 size_set (a ∷ e) zero v h = omega arith
@@ -63,7 +55,7 @@ pub limits_lowered : (e : List ℕ) → IsWithinLimits e → IsWithinLimits (wit
 limits_lowered e is = record {
   trimmed = trimmed_once (set e (length e - 1) (get_or e (length e - 1) 0 - 1));
   few =
-      let a = length_trimmed (set e (length e - 1) (get_or e (length e - 1) 0 - 1)) in
+      let a = length-without_last_zeros (set e (length e - 1) (get_or e (length e - 1) 0 - 1)) in
       let b = length_set e (length e - 1) (get_or e (length e - 1) 0 - 1) in
       let c = is.few in
       omega arith;
@@ -89,7 +81,7 @@ some_length (a ∷ e) h = omega arith
 -- the entry that is read, and the list with it lowered
 pub entry_read : (items exponents e : List ℕ) (x : ℕ) → items ≡ e → exponents ≡ e → 0 < length e → x ≡ get_or items (length exponents - 1) x → x ≡ get_or e (length e - 1) 0
 entry_read items exponents e x a b h r =
-    r ∙ ap (λ (l : List ℕ). get_or l (length exponents - 1) x) a ∙ ap (λ (l : List ℕ). get_or e (length l - 1) x) b ∙ default_free e (length e - 1) x 0 (omega arith)
+    r ∙ ap (λ (l : List ℕ). get_or l (length exponents - 1) x) a ∙ ap (λ (l : List ℕ). get_or e (length l - 1) x) b ∙ get_or-any e (length e - 1) x 0 (omega arith)
 
 pub list_written : (items exponents e : List ℕ) (x : ℕ) → items ≡ e → exponents ≡ e → x ≡ get_or e (length e - 1) 0
     → set items (length exponents - 1) (x - 1) ≡ set e (length e - 1) (get_or e (length e - 1) 0 - 1)

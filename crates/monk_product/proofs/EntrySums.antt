@@ -3,9 +3,10 @@ use Rattle.std.proofs.Common.{◌≡◌, ℕ, zero, suc, ◌+◌, ◌-◌, ◌*�
 use Rattle.std.proofs.lemmas.Int.{ints}
 use Rattle.sym_model.specs.Partition.{size}
 use Rattle.sym_model.specs.Expansion.{Terms}
+use Rattle.sym_model.proofs.Sums.{Among-get_or}
 use Rattle.schubert_transition.specs.TermLists.{over}
 use Rattle.schubert_transition.specs.Transitions.{acted}
-use Rattle.schubert_transition.proofs.TodoLists.{among_at, among_set, total_set}
+use Rattle.schubert_transition.proofs.TodoLists.{among_set, total_set}
 use Rattle.monk_product.specs.declared.pending.Pending.{Pending}
 use Rattle.monk_product.specs.Monk.{mass, AreShort}
 use Rattle.monk_product.specs.Pending.{value_of, growth, steps, IsPending, ArePending}
@@ -85,7 +86,7 @@ module _ (todo : List Pending) (at : ℕ) (p : Pending) (list : Terms (List ℕ)
   pub set_pending : (n d most : ℕ) → ArePending n d most todo → ((k : ℕ) → k + size p.monomial ≡ most → AreShort k list) → ArePending n d most (set todo at (entry p list))
   set_pending n d most pending short x m = elim (among_set todo at (entry p list) x m) [
     | inl e ↦
-        let was = pending p (among_at todo at p inside is) in
+        let was = pending p (Among-get_or todo at p inside is) in
         subst (IsPending n d most) (sym e) (record { few = was.few; small = was.small; short = short })
     | inr k ↦ pending x k
   ]

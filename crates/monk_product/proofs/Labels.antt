@@ -1,12 +1,12 @@
 -- What the test of a permutation's label tells.
-use Rattle.std.proofs.Common.{◌≡◌, ℕ, ◌≤◌, true, false, ◌&&◌, not, List, [], ◌∷◌, length, sym, ◌∙◌, inl, inr, arith, leb}
-use Rattle.std.proofs.lemmas.Bool.{and_parts, cases_eq, leb-true, or_parts, not-true}
+use Rattle.std.proofs.Common.{◌≡◌, ℕ, ◌≤◌, true, false, ◌&&◌, not, List, [], ◌∷◌, length, inl, inr, arith, leb}
+use Rattle.std.proofs.lemmas.Bool.{and_parts, leb-true, or_parts, not-true}
 use Rattle.sym_model.specs.Sum.{Among, Once}
 use Rattle.sym_model.specs.Bases.{has}
 use Rattle.sym_model.specs.BetaList.{has_equal_entries}
 use Rattle.sym_model.specs.Permutation.{IsOneLine}
 use Rattle.sym_model.specs.LabelLimits.{are_letters, is_permutation_label}
-use Rattle.sym_model.proofs.SortedParts.{has_here, has_past}
+use Rattle.sym_model.proofs.SortedParts.{has-among}
 
 letters_tell : (n : ℕ) (w : List ℕ) → are_letters n w ≡ true → (a : ℕ) → Among a w → (1 ≤ a) × (a ≤ n)
 letters_tell n [] h a m = absurd m
@@ -18,16 +18,11 @@ letters_tell n (b ∷ w) h a (inl e) =
     (omega arith, omega arith)
 letters_tell n (b ∷ w) h a (inr m) = letters_tell n w (and_parts (leb 1 b && leb b n) (are_letters n w) h).1 a m
 
-has_among : (k : ℕ) (w : List ℕ) → Among k w → has k w ≡ true
-has_among k [] m = absurd m
-has_among k (a ∷ w) (inl e) = has_here k a w (sym e)
-has_among k (a ∷ w) (inr m) = elim (cases_eq a k) [ inl e ↦ has_here k a w e | inr n ↦ has_past k a w n ∙ has_among k w m ]
-
 once_tells : (w : List ℕ) → has_equal_entries w ≡ false → Once w
 once_tells [] h = tt
 once_tells (a ∷ w) h =
     let p = or_parts (has a w) (has_equal_entries w) h in
-    (λ m. let t = has_among a w m in let f = p.0 in cc, once_tells w p.1)
+    (λ m. let t = has-among a w m in let f = p.0 in cc, once_tells w p.1)
 
 pub label_one_line : (w : List ℕ) → is_permutation_label w ≡ true → IsOneLine w
 label_one_line w h =

@@ -2,32 +2,27 @@
 --     mass_more        it grows by what is added at most
 --     mass_refused     where that is refused it is large
 --     short_more       labels stay short
-use Rattle.std.proofs.Common.{◌≡◌, ◌⊎◌, ℕ, ◌+◌, ◌^◌, ◌<◌, ◌≤◌, Bool, true, false, cond, List, [], ◌∷◌, length, refl, sym, ap, ap₂, ◌∙◌, subst, inl, inr, arith, ℤ, pos, negsuc, ◌+ℤ◌}
-use Rattle.std.specs.Prelude.{Some, None, FitsSigned, nat_lt, nat_abs}
+use Rattle.std.proofs.Common.{◌≡◌, ℕ, ◌+◌, ◌^◌, ◌≤◌, Bool, true, false, cond, List, [], ◌∷◌, length, refl, sym, ap, ap₂, ◌∙◌, subst, arith, ℤ, pos, ◌+ℤ◌}
+use Rattle.std.specs.Prelude.{Some, FitsSigned, nat_abs}
 use Rattle.std.specs.Int.{w128}
 use Rattle.std.specs.Cmp.Lexicographic.{nat_list_eq_equiv}
 use Rattle.std.specs.Map.{lookup}
 use Rattle.std.specs.Option.{unwrap_or}
-use Rattle.std.proofs.lemmas.Bool.{cases_lt, lt-ltb}
 use Rattle.std.proofs.lemmas.Int.{ints}
 use Rattle.coeff_rings.specs.Fractions.{whole, fraction_sum}
-use Rattle.coeff_rings.specs.Checked.{checked_i128, where_fits}
-use Rattle.coeff_rings.specs.Proved.Whole.{same_whole, where_fits-true}
+use Rattle.coeff_rings.specs.Checked.{checked_i128}
+use Rattle.coeff_rings.specs.Proved.Whole.{same_whole}
+use Rattle.coeff_rings.proofs.Sizes.{refused_size}
 use Rattle.sym_model.specs.Sum.{total}
 use Rattle.sym_model.specs.Expansion.{Fraction, Terms}
 use Rattle.sym_model.specs.WholeTerms.{AreWhole}
+use Rattle.sym_model.proofs.Integers.{nat_abs-sum}
 use Rattle.sparse_polys.specs.Combination.{coefficient, HasMoreAt}
 use Rattle.sparse_polys.specs.Refusal.{IsRefused}
 use Rattle.sparse_polys.proofs.Totals.{total-more, carried}
 use Rattle.schubert_transition.specs.TermLists.{equal, IsTable}
 use Rattle.schubert_transition.proofs.TermSums.{equal_tells, more_at, whole_found}
 use Rattle.monk_product.specs.Monk.{mass, AreShort}
-
-pub triangle : (x y : ℤ) → nat_abs (x +ℤ y) ≤ nat_abs x + nat_abs y
-triangle (pos a) (pos b) = omega (arith, ints)
-triangle (pos a) (negsuc b) = omega (arith, ints)
-triangle (negsuc a) (pos b) = omega (arith, ints)
-triangle (negsuc a) (negsuc b) = omega (arith, ints)
 
 total_mass : (terms : Terms (List ℕ)) → total (λ (t : List ℕ × Fraction). pos (nat_abs t.1.0)) terms ≡ pos (mass terms)
 total_mass [] = refl
@@ -38,7 +33,7 @@ pub mass_more : (is_label : List ℕ → Bool) (old new : Terms (List ℕ)) (k :
 mass_more is_label old new k c is also w more =
     let t = total-more nat_list_eq_equiv equal_tells (λ (l : List ℕ) (r : Fraction). pos (nat_abs r.0)) (λ l. refl) k old new is also (whole c) more in
     let e = ap (λ z. pos (nat_abs z)) (more_at old new k c w more) in
-    let r = triangle ((coefficient equal old k).0) c in
+    let r = nat_abs-sum ((coefficient equal old k).0) c in
     let a = total_mass old in
     let b = total_mass new in
     omega (arith, ints)
@@ -52,25 +47,13 @@ found_mass (t ∷ terms) label = by (equal label t.0) (found_mass terms label)
     by true rest = omega arith
     by false rest = omega arith
 
-pub refused_size : (z : ℤ) → checked_i128 z ≡ None → 2 ^ 127 ≤ nat_abs z
-refused_size (pos n) e = by (cases_lt n (2 ^ 127))
-  where
-    by : (n < 2 ^ 127) ⊎ (2 ^ 127 ≤ n) → 2 ^ 127 ≤ n
-    by (inl l) = absurd (let some = where_fits-true (nat_lt n (2 ^ 127)) (pos n) (lt-ltb n (2 ^ 127) l) in let none : where_fits (nat_lt n (2 ^ 127)) (pos n) ≡ None = e in cc)
-    by (inr l) = l
-refused_size (negsuc n) e = by (cases_lt n (2 ^ 127))
-  where
-    by : (n < 2 ^ 127) ⊎ (2 ^ 127 ≤ n) → 2 ^ 127 ≤ nat_abs (negsuc n)
-    by (inl l) = absurd (let some = where_fits-true (nat_lt n (2 ^ 127)) (negsuc n) (lt-ltb n (2 ^ 127) l) in let none : where_fits (nat_lt n (2 ^ 127)) (negsuc n) ≡ None = e in cc)
-    by (inr l) = omega (arith, ints)
-
 pub mass_refused : (old : Terms (List ℕ)) (k : List ℕ) (c : ℤ) → AreWhole old
     → IsRefused (FitsSigned w128) whole (λ (x y : ℤ). checked_i128 (x +ℤ y)) (coefficient equal old k) (whole c) → 2 ^ 127 ≤ mass old + nat_abs c
 mass_refused old k c w r =
     let left : r.left ≡ (coefficient equal old k).0 = same_whole r.left ((coefficient equal old k).0) (r.left_value ∙ whole_found old w k) in
     let right : r.right ≡ c = same_whole r.right c r.right_value in
     let size = refused_size ((coefficient equal old k).0 +ℤ c) (ap₂ (λ x y. checked_i128 (x +ℤ y)) (sym left) (sym right) ∙ r.refused) in
-    let a = triangle ((coefficient equal old k).0) c in
+    let a = nat_abs-sum ((coefficient equal old k).0) c in
     let b = found_mass old k in
     omega arith
 

@@ -19,9 +19,10 @@ use Rattle.sym_model.proofs.Sums.{total_append, total_map, total_ext, total_amon
 use Rattle.sym_model.proofs.Exponents.{fits_in_length}
 use Rattle.sym_model.proofs.Polynomials.{pair_determined, pair_scale, pair_times, same_from_pair}
 use Rattle.sym_model.proofs.WholeTerms.{pair_of_combined, represents-whole, denominators_of_whole, value_by-whole}
+use Rattle.sym_model.proofs.Integers.{is_past-tells}
 use Rattle.schubert_transition.specs.TermLists.{over, only, AreTerms}
 use Rattle.schubert_transition.specs.Transitions.{shown, acted}
-use Rattle.schubert_transition.proofs.FinalSums.{pair_x_to_in, restrict_pair, coefficient_is, not_past}
+use Rattle.schubert_transition.proofs.FinalSums.{pair_x_to_in, restrict_pair, coefficient_is}
 use Rattle.schubert_transition.proofs.Monomials.{schubert_monomials}
 use Rattle.schubert_laws.proofs.FixedLetters.{In_schubert}
 use Rattle.monk_product.specs.declared.pending.Pending.{Pending}
@@ -184,7 +185,7 @@ pub past_heavy : (w other : List ℕ) → IsOneLine w → 0 < length w → HasPa
 past_heavy w other o some (c, (α, e), large) =
     let monomials = schubert_monomials (length w) w (record { one_line = o; few = omega arith }) in
     let a = coefficient_is w α in
-    let p = not_past c large in
+    let p = is_past-tells c large in
     let at = monomials.sums (only α) in
     let all = monomials.sums (λ β. pos 1) in
     let f = only_within α monomials.first in

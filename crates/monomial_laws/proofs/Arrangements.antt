@@ -14,13 +14,13 @@ use Rattle.sym_model.specs.Partition.{IsPartition, size, insert_part, sorted_par
 use Rattle.sym_model.specs.Bases.{has, down_from, monomial}
 use Rattle.sym_model.specs.RaisedPart.{without_one, distinct}
 use Rattle.monomial_laws.specs.MonomialProduct.{splits, arrangements, AreBelow}
-use Rattle.sym_model.proofs.Sums.{Among_from_each, Among_from_map, total_ext, total_among, total_none, total_exchange, total_zero}
+use Rattle.sym_model.proofs.Sums.{Among_from_each, Among_from_map, total_ext, total_among, total_none, total_exchange, total_zero, length-select}
 use Rattle.sym_model.proofs.Exponents.{tests_agree, same_true, same_from}
 use Rattle.sym_model.proofs.SortedParts.{size-sorted_parts, IsPartition-sorted_parts, IsPartition-without_one, insert_part-without_one, without_one-insert_part, has-insert_part, has_past, has-zero_or, without_one-zero}
 use Rattle.sym_model.proofs.Monomials.{total_down_from-only, coefficient-monomial, In-monomials}
 use Rattle.sym_model.proofs.PolynomialLaws.{times_comm}
 use Rattle.monomial_laws.proofs.PowerSums.{total_distinct-only}
-use Rattle.monomial_laws.proofs.Splits.{total_splits, length-splits, length-select, coefficient_times}
+use Rattle.monomial_laws.proofs.Splits.{total_splits, length-splits, coefficient_times}
 
 -- 1 where the sorted parts of both are the labels
 abbrev sorts_to_both : List ℕ → List ℕ → List ℕ × List ℕ → ℤ
@@ -172,7 +172,7 @@ arrangements-comm l r ν =
 
 -- ---- sizes
 
-down_from-below : (c b : ℕ) → Among b (down_from c) → b ≤ c
+pub down_from-below : (c b : ℕ) → Among b (down_from c) → b ≤ c
 down_from-below zero b (inl e) = omega arith
 down_from-below zero b (inr m) = absurd m
 down_from-below (suc c) b (inl e) = omega arith

@@ -15,6 +15,7 @@ use Rattle.sym_model.proofs.Polynomials.{Same_trans, same_in}
 use Rattle.sym_model.proofs.SortedParts.{insert_part-front, rows-insert_part, size-sorted_parts, IsPartition-sorted_parts, times_in-sorted_parts, has_from-times_in, has_past}
 use Rattle.sym_model.proofs.PartitionLists.{partitions_of-tells, Among-partitions_of, Once-FallsLexicographically, FallsLexicographically-partitions_within}
 use Rattle.sym_model.proofs.Monomials.{is_exponent_list, coefficient-monomials, In-monomials, has_above_size}
+use Rattle.sym_model.proofs.Parts.{size-ones}
 use Rattle.monomial_laws.proofs.PowerSumCoefficients.{coefficient-monomial_terms}
 use Rattle.monomial_laws.proofs.Splits.{In-monomial_terms}
 use Rattle.monomial_laws.proofs.ExpressionTerms.{list-monomial}
@@ -36,10 +37,6 @@ list-one parts d test s h n =
     (monomials_agree (λ α. same (sorted_parts α) parts) test n d h))
 
 -- ---- e_k
-
-pub size-ones : (k : ℕ) → size (replicate k 1) ≡ k
-size-ones zero = refl
-size-ones (suc k) = omega (arith, size-ones k)
 
 pub Falls-ones : (k : ℕ) → Falls (replicate k 1)
 Falls-ones zero = tt

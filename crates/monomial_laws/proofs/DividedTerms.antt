@@ -75,7 +75,7 @@ pub record IsDivided (D : ℕ) (whole : WholeTerms) (terms : Terms (List ℕ)) :
   pub there : (t : List ℕ × Fraction) → Among t terms → t.1.0 *ℤ pos D ≡ coefficient whole t.0 *ℤ pos t.1.1
   pub missing : (label : List ℕ) → (Among label (labels_of terms) → ⊥) → coefficient whole label ≡ pos 0
 
-coefficient_divided : (D : ℕ) (whole : WholeTerms) (terms : Terms (List ℕ)) → IsDivided D whole terms → (label : List ℕ)
+pub coefficient_divided : (D : ℕ) (whole : WholeTerms) (terms : Terms (List ℕ)) → IsDivided D whole terms → (label : List ℕ)
     → pos D *ℤ coefficient (over (denominators terms) terms) label ≡ pos (denominators terms) *ℤ coefficient whole label
 coefficient_divided D whole terms d label = by (among_or_not label terms)
   where

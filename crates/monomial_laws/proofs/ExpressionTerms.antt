@@ -78,7 +78,7 @@ cleared-negation A e h n =
     (list-negate A n)
     (negate_respects (in_monomials A n) (cleared_value e n) (h n))
 
-scaled : (q : ℕ) (A : WholeTerms) (e : Tree) → IsCleared A e → IsList (scale (pos q) A) (λ n. scale (pos q) (cleared_value e n))
+pub scaled : (q : ℕ) (A : WholeTerms) (e : Tree) → IsCleared A e → IsList (scale (pos q) A) (λ n. scale (pos q) (cleared_value e n))
 scaled q A e h n =
     Same_trans (in_monomials (scale (pos q) A) n) (scale (pos q) (in_monomials A n)) (scale (pos q) (cleared_value e n))
     (list-scale (pos q) A n)

@@ -11,10 +11,10 @@ pub factorial-positive : (d : ℕ) → 0 < factorial d
 factorial-positive zero = omega arith
 factorial-positive (suc d) = let p = mul-le 1 1 (suc d) (factorial d) (omega arith) (factorial-positive d) in omega arith
 
-factorial-more : (d : ℕ) → factorial d ≤ factorial (suc d)
+pub factorial-more : (d : ℕ) → factorial d ≤ factorial (suc d)
 factorial-more d = let p = mul-le 1 (factorial d) (suc d) (factorial d) (omega arith) (omega arith) in omega arith
 
-factorial-far : (d j : ℕ) → factorial d ≤ factorial (j + d)
+pub factorial-far : (d j : ℕ) → factorial d ≤ factorial (j + d)
 factorial-far d zero = let e : 0 + d ≡ d = omega arith in rw e (omega arith)
 factorial-far d (suc j) = let e : suc j + d ≡ suc (j + d) = omega arith in let h = factorial-far d j in let k = factorial-more (j + d) in rw e (omega arith)
 

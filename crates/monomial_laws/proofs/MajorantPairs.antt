@@ -1,18 +1,14 @@
 -- Pairings with a test function that is nowhere negative.
 --     pair_nonnegative     that of a polynomial with no negative coefficient is not negative
 --     majorant-pair        that of a majorant is no less
-use Rattle.std.proofs.Common.{◌≡◌, ◌⊎◌, ℕ, zero, suc, ◌≤◌, cond, not, List, [], ◌∷◌, length, sym, ap, subst, inl, inr, arith, ℤ, pos, negsuc, ◌+ℤ◌, ◌*ℤ◌}
+use Rattle.std.proofs.Common.{◌≡◌, ◌⊎◌, ℕ, zero, suc, ◌≤◌, cond, not, List, [], ◌∷◌, length, sym, ap, subst, inl, inr, arith, ℤ, pos, ◌+ℤ◌, ◌*ℤ◌}
 use Rattle.std.specs.Prelude.{◌≤ℤ◌, nat_abs}
 use Rattle.std.proofs.lemmas.Int.{ints}
 use Rattle.sym_model.specs.Polynomial.{Poly, coefficient, plus, negate, pair}
 use Rattle.sym_model.proofs.Exponents.{same_refl, same_or_not}
 use Rattle.sym_model.proofs.Polynomials.{pair_plus, pair_negate, pair_others, others, length_others, others_there, others_elsewhere, coefficient_plus, coefficient_negate}
+use Rattle.sym_model.proofs.Integers.{product-nonnegative}
 use Rattle.monomial_laws.specs.Majorant.{IsMajorant}
-
-pub product_nonnegative : (a b : ℤ) → pos 0 ≤ℤ a → pos 0 ≤ℤ b → pos 0 ≤ℤ (a *ℤ b)
-product_nonnegative (pos a) (pos b) h k = omega (arith, ints)
-product_nonnegative (negsuc a) b h k = absurd (omega (arith, ints))
-product_nonnegative (pos a) (negsuc b) h k = absurd (omega (arith, ints))
 
 nonnegative_by_length : (n : ℕ) (f : Poly) (φ : List ℕ → ℤ) → length f ≤ n → ((α : List ℕ) → pos 0 ≤ℤ coefficient f α) → ((α : List ℕ) → pos 0 ≤ℤ φ α) → pos 0 ≤ℤ pair f φ
 nonnegative_by_length n [] φ l h p = omega (arith, ints)
@@ -21,7 +17,7 @@ nonnegative_by_length (suc n) (t ∷ f) φ l h p =
     let left = others t.0 (t ∷ f) in
     let fewer : length left ≤ n = rw shorter (omega (arith, length_others t.0 f)) in
     let rest = nonnegative_by_length n left φ fewer (λ β. by β (same_or_not t.0 β)) p in
-    let here = product_nonnegative (φ t.0) (coefficient (t ∷ f) t.0) (p t.0) (h t.0) in
+    let here = product-nonnegative (φ t.0) (coefficient (t ∷ f) t.0) (p t.0) (h t.0) in
     subst (λ z. pos 0 ≤ℤ z) (sym (pair_others t.0 (t ∷ f) φ)) (both (φ t.0 *ℤ coefficient (t ∷ f) t.0) (pair left φ) here rest)
   where
     both : (x y : ℤ) → pos 0 ≤ℤ x → pos 0 ≤ℤ y → pos 0 ≤ℤ (x +ℤ y)

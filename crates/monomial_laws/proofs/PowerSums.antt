@@ -16,7 +16,7 @@ use Rattle.sym_model.specs.WholeTerms.{combined}
 use Rattle.sym_model.specs.RaisedPart.{raise, distinct}
 use Rattle.monomial_laws.specs.LoweredPart.{lowered}
 use Rattle.monomial_laws.specs.PowerSumProduct.{raised_terms}
-use Rattle.sym_model.proofs.Sums.{total_append, total_ext, total_among, total_zero, total_none, total_map, total_exchange, Among_from_append, Among_from_map}
+use Rattle.sym_model.proofs.Sums.{total_append, total_ext, total_among, total_zero, total_none, total_map, total_exchange, Among_from_append, Among_from_map, total_cond}
 use Rattle.sym_model.proofs.Exponents.{tests_agree, same_true, same_from, join_zeros}
 use Rattle.sym_model.proofs.Polynomials.{at_only, coefficient_pair, pair_times, pair_total, pair_in}
 use Rattle.sym_model.proofs.SortedParts.{insert_part_comm, IsPartition-sorted_parts, times_in-sorted_parts, raised_from_lowered, lowered_from_raised}
@@ -240,11 +240,6 @@ term_at a b n parts α h =
         ∙ ap pos (ap (times_in (a + b)) (sym (same_true (sorted_parts α) (raise a b parts) e)) ∙ times_in-sorted_parts (a + b) α (omega arith))
         ∙ sym (total_times_in (a + b) α)
         ∙ total_ext (λ (c : ℕ). cond (eqb c (a + b)) (pos 1) (pos 0)) (λ (c : ℕ). cond (leb a c) (cond (eqb b (c - a)) (pos 1) (pos 0)) (pos 0)) (λ c. taken a b c (pos 1)) α
-
--- a test that does not depend on the summed elements
-total_cond : {A : Type 0} (b : Bool) (f : A → ℤ) (xs : List A) → total (λ (x : A). cond b (f x) (pos 0)) xs ≡ cond b (total f xs) (pos 0)
-total_cond true f xs = refl
-total_cond false f xs = total_zero xs
 
 -- the right side at α
 coefficient-raised_terms : (a n : ℕ) (parts α : List ℕ) → 0 < a → coefficient (combined (λ label. monomial label n) (raised_terms a parts)) α ≡ cond (eqb (length α) n) (total (λ (k : ℕ). raised_here a parts k (sorted_parts α)) α) (pos 0)

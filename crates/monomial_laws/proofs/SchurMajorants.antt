@@ -1,6 +1,6 @@
 -- (x_1 + .. + x_n)^d is the sum of x^content over all words of d letters, and a filling is such a word, row by row:
 -- so (x_1 + .. + x_n)^|λ| is a majorant of s_λ.
-use Rattle.std.proofs.Common.{◌≡◌, ℕ, zero, suc, ◌+◌, ◌<◌, Bool, true, false, cond, eqb, List, [], ◌∷◌, ◌++◌, map, replicate, sym, ◌∙◌, ap, ap₂, subst, refl, inl, inr, arith, ℤ, pos, ◌+ℤ◌}
+use Rattle.std.proofs.Common.{◌≡◌, ℕ, zero, suc, ◌+◌, ◌<◌, Bool, true, false, cond, eqb, List, [], ◌∷◌, ◌++◌, map, sym, ◌∙◌, ap, ap₂, subst, refl, inl, inr, arith, ℤ, pos, ◌+ℤ◌}
 use Rattle.std.specs.Prelude.{◌≤ℤ◌, nat_abs}
 use Rattle.std.proofs.lemmas.Int.{ints}
 use Rattle.std.proofs.lemmas.Bool.{eq-eqb, ne_eqb}
@@ -16,6 +16,9 @@ use Rattle.sym_model.proofs.Polynomials.{at_only, coefficient_pair, pair_ext, pa
 use Rattle.sym_model.proofs.Monomials.{one_place, pair-power_sum_of}
 use lib.IntN.{+ℤ_idr}
 use Rattle.sym_model.proofs.AfterLists.{length_after}
+use Rattle.sym_model.proofs.Tableaux.{row_lengths-none}
+use Rattle.sym_model.proofs.Lists.{map-among}
+use Rattle.sym_model.proofs.Contents.{map-zeros, content-none}
 
 -- ---- words by their content
 
@@ -33,14 +36,6 @@ past : (m n a : ℕ) → Among a (after (m + 1) n) → m + 1 < a
 past m zero a u = absurd u
 past m (suc n) a (inl e) = omega arith
 past m (suc n) a (inr u) = letters_past (m + 1) n zero a u
-
-map-among : {A B : Type 0} (f g : A → B) (xs : List A) → ((x : A) → Among x xs → f x ≡ g x) → map f xs ≡ map g xs
-map-among f g [] h = refl
-map-among f g (x ∷ xs) h = ap₂ ◌∷◌ (h x (inl refl)) (map-among f g xs (λ y m. h y (inr m)))
-
-map-zeros : (m n : ℕ) → map {A = ℕ} {B = ℕ} (λ (k : ℕ). 0) (after m n) ≡ replicate n 0
-map-zeros m zero = refl
-map-zeros m (suc n) = ap (λ (l : List ℕ). 0 ∷ l) (map-zeros (m + 1) n)
 
 -- the content of one letter has 1 in one place
 one_place-letters : (m n : ℕ) → one_place 1 n ≡ map (λ (a : ℕ). content_after m n (a ∷ [])) (after m n)
@@ -66,9 +61,6 @@ one_place-letters m (suc n) =
 content-cons : (m n a : ℕ) (w : List ℕ) → content_after m n (a ∷ w) ≡ join (content_after m n (a ∷ [])) (content_after m n w)
 content-cons m zero a w = refl
 content-cons m (suc n) a w = ap₂ ◌∷◌ (let e : cond (eqb a (m + 1)) 1 0 + times_in (m + 1) w ≡ cond (eqb a (m + 1)) 1 0 + 0 + times_in (m + 1) w = omega arith in e) (content-cons (m + 1) n a w)
-
-content-none : (n : ℕ) → content n [] ≡ replicate n 0
-content-none n = map-zeros 0 n
 
 -- (x_1 + .. + x_n)^d over the words of d letters
 pub pair-power : (d n : ℕ) (φ : List ℕ → ℤ) → pair (power d n) φ ≡ total (λ (w : List ℕ). φ (content n w)) (words n d)
@@ -120,10 +112,6 @@ total_fillings n (k ∷ lengths) h =
     (words n k)
     ∙ total_words-add n k (size lengths) h
 
-size-row_lengths : (parts : List ℕ) → row_lengths parts [] ≡ parts
-size-row_lengths [] = refl
-size-row_lengths (a ∷ parts) = ap (λ l. a ∷ l) (size-row_lengths parts)
-
 -- ---- the Schur polynomial
 
 pub In-schur : (parts : List ℕ) (n : ℕ) → In n (schur parts n)
@@ -150,7 +138,7 @@ majorant-schur parts n α =
     let right : coefficient (power (size parts) n) α ≡ total here (fillings_of n (row_lengths parts [])) =
     coefficient_pair (power (size parts) n) α
     ∙ pair-power (size parts) n (at_only α)
-    ∙ ap (λ (l : List ℕ). total (λ (w : List ℕ). at_only α (content n w)) (words n (size l))) (sym (size-row_lengths parts))
+    ∙ ap (λ (l : List ℕ). total (λ (w : List ℕ). at_only α (content n w)) (words n (size l))) (sym (row_lengths-none parts))
     ∙ sym (total_fillings n (row_lengths parts []) (λ w. at_only α (content n w))) in
     rw (left, right) (within (total here (select (semistandard []) (fillings_of n (row_lengths parts [])))) (total here (fillings_of n (row_lengths parts []))) bound.0 bound.1)
   where

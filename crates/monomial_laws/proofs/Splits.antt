@@ -3,16 +3,15 @@
 --     arrangements-sorted      in how many ways ν is a sum depends on its sorted parts alone
 --     monomial_product         m_λ·m_μ is each list of terms with these coefficients
 use Rattle.std.proofs.Common.{◌≡◌, ◌⊎◌, ℕ, zero, suc, ◌+◌, ◌-◌, ◌<◌, ◌≤◌, Bool, true, false, ◌&&◌, cond, eqb, leb, List, [], ◌∷◌, map, length, sym, ◌∙◌, ap, ap₂, refl, inl, inr, arith, ℤ, pos, ◌+ℤ◌, ◌*ℤ◌}
-use Rattle.std.proofs.lemmas.Int.{ints}
 use Rattle.std.proofs.lemmas.Bool.{cases_lt, le-leb, lt-leb, eq-eqb, ne_eqb, eqb-true}
-use Rattle.sym_model.specs.Sum.{total, select, Among}
+use Rattle.sym_model.specs.Sum.{total, Among}
 use Rattle.sym_model.specs.Polynomial.{Poly, same, coefficient, Same, In, join, pair, times, scale}
 use Rattle.sym_model.specs.Partition.{IsPartition, size, insert_part, sorted_parts}
 use Rattle.sym_model.specs.Bases.{down_from, monomial}
 use Rattle.sym_model.specs.WholeTerms.{WholeTerms, combined}
 use Rattle.monomial_laws.specs.MonomialProduct.{splits, arrangements, product_coefficient}
 use Rattle.sym_model.proofs.Ring.{one-product}
-use Rattle.sym_model.proofs.Sums.{total_ext, total_among, total_zero, total_map, total_each, total_exchange, Among_from_each, Among_from_map}
+use Rattle.sym_model.proofs.Sums.{total_ext, total_among, total_map, total_each, total_exchange, Among_from_each, Among_from_map, total_cond, length-select}
 use Rattle.sym_model.proofs.Exponents.{tests_agree, same_sym}
 use Rattle.sym_model.proofs.Polynomials.{at_only, coefficient_pair, pair_ext, pair_in, pair_times, pair_total, pair_factor, same_from_pair, Same_sym, Same_trans, times_respects, same_in, In_each, In_scale, In_times}
 use Rattle.sym_model.proofs.SortedParts.{insert_part_comm, IsPartition-sorted_parts}
@@ -48,10 +47,6 @@ length-splits (c ∷ ν) s m =
 -- 1 where the two lists are β and γ
 abbrev both_only : List ℕ → List ℕ → List ℕ × List ℕ → ℤ
 both_only β γ s = cond (same β s.0) (cond (same γ s.1) (pos 1) (pos 0)) (pos 0)
-
-total_cond : {A : Type 0} (b : Bool) (f : A → ℤ) (xs : List A) → total (λ (x : A). cond b (f x) (pos 0)) xs ≡ cond b (total f xs) (pos 0)
-total_cond true f xs = refl
-total_cond false f xs = total_zero xs
 
 -- β and γ are a split of α where their sum is α
 total_splits-only : (α β γ : List ℕ) → length β ≡ length α → length γ ≡ length α
@@ -215,16 +210,6 @@ sorted_total-sorted [] ψ = refl
 sorted_total-sorted (a ∷ ν) ψ = sorted_total-insert a (sorted_parts ν) ψ ∙ sorted_total-rest (sorted_parts ν) ν (sorted_total-sorted ν) ψ a
 
 -- ---- the product of two lists in m
-
--- a count as a sum
-pub length-select : {A : Type 0} (test : A → Bool) (xs : List A) → pos (length (select test xs)) ≡ total (λ (x : A). cond (test x) (pos 1) (pos 0)) xs
-length-select test [] = refl
-length-select {A} test (x ∷ xs) = by (test x) (length-select test xs)
-  where
-    by : (b : Bool) → pos (length (select test xs)) ≡ total (λ (y : A). cond (test y) (pos 1) (pos 0)) xs
-        → pos (length (cond b (x ∷ select test xs) (select test xs))) ≡ cond b (pos 1) (pos 0) +ℤ total (λ (y : A). cond (test y) (pos 1) (pos 0)) xs
-    by true e = omega (arith, ints)
-    by false e = omega (arith, ints)
 
 pub arrangements-total : (left right ν : List ℕ)
     → pos (arrangements left right ν) ≡ total (λ (s : List ℕ × List ℕ). at_only (sorted_parts s.0) left *ℤ at_only (sorted_parts s.1) right) (splits ν)

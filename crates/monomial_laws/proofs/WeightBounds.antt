@@ -30,6 +30,7 @@ use Rattle.monomial_laws.proofs.Majorants.{bounded-times, coefficient_bound, coe
 use Rattle.std.specs.Int.{◌∣◌}
 use Rattle.sym_model.specs.Canonical.{gcd}
 use Rattle.sym_model.proofs.GreatestCommonDivisors.{IsGcd-gcd}
+use Rattle.sym_model.proofs.Numbers.{times-more, positive_factor}
 use native.Mathlib.Nat.{div-mul_cancel, dvd-mul_left, mul-le-mul_left, pow-suc}
 use lib.IntN.{+ℤ_idl}
 
@@ -179,10 +180,6 @@ lcm-left a b h =
 pub lcm-right : (a b : ℕ) → lcm a b / b * b ≡ lcm a b
 lcm-right a b = div-mul_cancel b {m = lcm a b} (dvd-mul_left b (a / gcd a b))
 
-positive_factor : (q a m : ℕ) → q * a ≡ m → 0 < m → 0 < q
-positive_factor zero a m e h = absurd (let z : 0 * a ≡ 0 = omega arith in omega arith)
-positive_factor (suc q) a m e h = omega arith
-
 pub lcm-positive : (a b : ℕ) → 0 < a → 0 < b → 0 < lcm a b
 lcm-positive a b h k =
     let g = IsGcd-gcd a b in
@@ -229,16 +226,13 @@ numerator-positive (product e f) h =
 three : (a b c x y z : ℕ) → a ≤ x → b ≤ y → c ≤ z → a * b * c ≤ x * y * z
 three a b c x y z h k l = mul-le (a * b) c (x * y) z (mul-le a b x y h k) l
 
-times_more : (a b : ℕ) → 0 < b → a ≤ a * b
-times_more a b h = let p = mul-le-mul_left a h in omega arith
-
 -- both parts of a sum or a difference have no greater weight
 pub weight-left : (e f : Tree) → HasDenominators e → HasDenominators f → weight Basis.monomials e ≤ weight Basis.monomials (sum e f)
 weight-left e f h k =
     let q = lcm (denominator e) (denominator f) / denominator e in
     let r = lcm (denominator e) (denominator f) / denominator f in
-    let n = times_more (numerator e) q (complement_left e f h k) in
-    let d = times_more (denominator e) q (complement_left e f h k) in
+    let n = times-more (numerator e) q (complement_left e f h k) in
+    let d = times-more (denominator e) q (complement_left e f h k) in
     let m = lcm-left (denominator e) (denominator f) (denominator-positive e h) in
     three (numerator e) (denominator e) (growth Basis.monomials (degree e))
     (numerator e * q + numerator f * r) (lcm (denominator e) (denominator f)) (growth Basis.monomials (max (degree e) (degree f)))
@@ -248,8 +242,8 @@ pub weight-right : (e f : Tree) → HasDenominators e → HasDenominators f → 
 weight-right e f h k =
     let q = lcm (denominator e) (denominator f) / denominator e in
     let r = lcm (denominator e) (denominator f) / denominator f in
-    let n = times_more (numerator f) r (complement_right e f h k) in
-    let d = times_more (denominator f) r (complement_right e f h k) in
+    let n = times-more (numerator f) r (complement_right e f h k) in
+    let d = times-more (denominator f) r (complement_right e f h k) in
     let m = lcm-right (denominator e) (denominator f) in
     three (numerator f) (denominator f) (growth Basis.monomials (degree f))
     (numerator e * q + numerator f * r) (lcm (denominator e) (denominator f)) (growth Basis.monomials (max (degree e) (degree f)))
@@ -260,13 +254,13 @@ pub weight-left_factor : (e f : Tree) → HasDenominators e → HasDenominators 
 weight-left_factor e f h k =
     three (numerator e) (denominator e) (growth Basis.monomials (degree e))
     (numerator e * numerator f) (denominator e * denominator f) (growth Basis.monomials (degree e + degree f))
-    (times_more (numerator e) (numerator f) (numerator-positive f k)) (times_more (denominator e) (denominator f) (denominator-positive f k))
+    (times-more (numerator e) (numerator f) (numerator-positive f k)) (times-more (denominator e) (denominator f) (denominator-positive f k))
     (growth-mono (degree e) (degree e + degree f) (omega arith))
 
 pub weight-right_factor : (e f : Tree) → HasDenominators e → HasDenominators f → weight Basis.monomials f ≤ weight Basis.monomials (product e f)
 weight-right_factor e f h k =
-    let n = times_more (numerator f) (numerator e) (numerator-positive e h) in
-    let d = times_more (denominator f) (denominator e) (denominator-positive e h) in
+    let n = times-more (numerator f) (numerator e) (numerator-positive e h) in
+    let d = times-more (denominator f) (denominator e) (denominator-positive e h) in
     three (numerator f) (denominator f) (growth Basis.monomials (degree f))
     (numerator e * numerator f) (denominator e * denominator f) (growth Basis.monomials (degree e + degree f))
     (omega arith) (omega arith)
@@ -274,10 +268,10 @@ weight-right_factor e f h k =
 
 -- the weight is at least N times the growth, and at least D
 pub growth-within_weight : (e : Tree) → HasDenominators e → numerator e * growth Basis.monomials (degree e) ≤ weight Basis.monomials e
-growth-within_weight e h = mul-le (numerator e) (growth Basis.monomials (degree e)) (numerator e * denominator e) (growth Basis.monomials (degree e)) (times_more (numerator e) (denominator e) (denominator-positive e h)) (omega arith)
+growth-within_weight e h = mul-le (numerator e) (growth Basis.monomials (degree e)) (numerator e * denominator e) (growth Basis.monomials (degree e)) (times-more (numerator e) (denominator e) (denominator-positive e h)) (omega arith)
 
 pub denominator-within_weight : (e : Tree) → HasDenominators e → denominator e ≤ weight Basis.monomials e
 denominator-within_weight e h =
-    let p = times_more (denominator e) (numerator e) (numerator-positive e h) in
-    let q = times_more (numerator e * denominator e) (growth Basis.monomials (degree e)) (growth-positive (degree e)) in
+    let p = times-more (denominator e) (numerator e) (numerator-positive e h) in
+    let q = times-more (numerator e * denominator e) (growth Basis.monomials (degree e)) (growth-positive (degree e)) in
     omega arith

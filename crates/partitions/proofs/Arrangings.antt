@@ -7,7 +7,7 @@ use Rattle.std.proofs.Math.ListN.{set}
 use Rattle.std.proofs.Math.Seq.{drop-cons, get_or-append_seam, set-append_seam}
 use Rattle.std.proofs.lemmas.List.Edits.{swap_is}
 use Rattle.std.specs.List.{swap}
-use Rattle.sym_model.specs.Sum.{each, select, Among}
+use Rattle.sym_model.specs.Sum.{each, select}
 use Rattle.sym_model.specs.Polynomial.{same}
 use Rattle.sym_model.specs.Partition.{Falls, IsPartition, ArePositive, size, insert_part, sorted_parts}
 use Rattle.sym_model.specs.Bases.{down_from, exponent_lists}
@@ -17,45 +17,12 @@ use Rattle.sym_model.proofs.Exponents.{same_apart, same_from, same_or_not}
 use Rattle.sym_model.proofs.Monomials.{members_of-exponent_lists}
 use Rattle.sym_model.proofs.SortedParts.{IsPartition-sorted_parts, times_in-insert_part, times_in-sorted_parts, rows-sorted_parts, size-sorted_parts, partition_from_counts, without_one-insert_part, sorted_parts-partition, sorted_parts-padded, Falls_tail}
 use Rattle.sym_model.specs.RaisedPart.{without_one}
+use Rattle.sym_model.proofs.Contents.{times_in-append}
+use Rattle.sym_model.proofs.Parts.{size-append, Falls-zeros, size-zeros}
+use Rattle.sym_model.proofs.Lists.{select-each, select-map, select-none, select-ext, each-ext}
 use Rattle.partitions.specs.Arranging.{beginning_with, beginning_below, arrangements_after, Rises}
-use Rattle.partitions.proofs.Parts.{size-append}
 
 -- ---- lists that are chosen from
-
-select-append : {A : Type 0} (test : A → Bool) (xs ys : List A) → select test (xs ++ ys) ≡ select test xs ++ select test ys
-select-append test [] ys = refl
-select-append test (x ∷ xs) ys = by (test x) (select-append test xs ys)
-  where
-    by : (b : Bool) → select test (xs ++ ys) ≡ select test xs ++ select test ys
-        → cond b (x ∷ select test (xs ++ ys)) (select test (xs ++ ys)) ≡ cond b (x ∷ select test xs) (select test xs) ++ select test ys
-    by true e = ap (λ l. x ∷ l) e
-    by false e = e
-
-select-each : {A B : Type 0} (test : B → Bool) (f : A → List B) (xs : List A) → select test (each f xs) ≡ each (λ (x : A). select test (f x)) xs
-select-each test f [] = refl
-select-each test f (x ∷ xs) = select-append test (f x) (each f xs) ∙ ap (λ l. select test (f x) ++ l) (select-each test f xs)
-
-select-map : {A B : Type 0} (test : B → Bool) (g : A → B) (xs : List A) → select test (map g xs) ≡ map g (select (λ (x : A). test (g x)) xs)
-select-map test g [] = refl
-select-map test g (x ∷ xs) = by (test (g x)) (select-map test g xs)
-  where
-    by : (b : Bool) → select test (map g xs) ≡ map g (select (λ x. test (g x)) xs)
-        → cond b (g x ∷ select test (map g xs)) (select test (map g xs)) ≡ map g (cond b (x ∷ select (λ x. test (g x)) xs) (select (λ x. test (g x)) xs))
-    by true e = ap (λ l. g x ∷ l) e
-    by false e = e
-
-select-none : (test : List ℕ → Bool) (xs : List (List ℕ)) → ((x : List ℕ) → Among x xs → test x ≡ false) → select test xs ≡ []
-select-none test [] h = refl
-select-none test (x ∷ xs) h =
-    ap (λ b. cond b (x ∷ select test xs) (select test xs)) (h x (inl refl)) ∙ select-none test xs (λ y m. h y (inr m))
-
-select-ext : (test other : List ℕ → Bool) (xs : List (List ℕ)) → ((x : List ℕ) → test x ≡ other x) → select test xs ≡ select other xs
-select-ext test other [] h = refl
-select-ext test other (x ∷ xs) h = ap₂ (λ b l. cond b (x ∷ l) l) (h x) (select-ext test other xs h)
-
-each-ext : (f g : ℕ → List (List ℕ)) (xs : List ℕ) → ((x : ℕ) → f x ≡ g x) → each f xs ≡ each g xs
-each-ext f g [] h = refl
-each-ext f g (x ∷ xs) h = ap₂ (λ a b. a ++ b) (h x) (each-ext f g xs h)
 
 -- where the greatest numbers give nothing
 each-skip :
@@ -275,10 +242,6 @@ abbrev pub AtLeast : ℕ → List ℕ → Type 0
 AtLeast a [] = Unit {0}
 AtLeast a (b ∷ numbers) = (a ≤ b) × AtLeast a numbers
 
-times_in-append : (k : ℕ) (v w : List ℕ) → times_in k (v ++ w) ≡ times_in k v + times_in k w
-times_in-append k [] w = omega arith
-times_in-append k (a ∷ v) w = omega (arith, times_in-append k v w)
-
 reverse-cons : (a : ℕ) (s : List ℕ) → reverse (a ∷ s) ≡ reverse s ++ a ∷ []
 reverse-cons a s = reverse-append (a ∷ []) s
 
@@ -474,20 +437,11 @@ next_by_places old turned new behind low p h r e l m below above f =
 
 -- ---- the first one of a partition
 
-Falls-zeros : (n : ℕ) → Falls (replicate n 0)
-Falls-zeros zero = tt
-Falls-zeros (suc zero) = tt
-Falls-zeros (suc (suc n)) = (omega arith, Falls-zeros (suc n))
-
 Falls-padded : (parts : List ℕ) (n : ℕ) → Falls parts → Falls (parts ++ replicate n 0)
 Falls-padded [] n f = Falls-zeros n
 Falls-padded (a ∷ []) zero f = tt
 Falls-padded (a ∷ []) (suc n) f = (omega arith, Falls-zeros (suc n))
 Falls-padded (a ∷ b ∷ parts) n f = (f.0, Falls-padded (b ∷ parts) n f.1)
-
-size-zeros : (n : ℕ) → size (replicate n 0) ≡ 0
-size-zeros zero = refl
-size-zeros (suc n) = omega (arith, size-zeros n)
 
 pub arrangements-first :
     (parts numbers : List ℕ) (n : ℕ) → IsPartition parts → length parts ≤ n

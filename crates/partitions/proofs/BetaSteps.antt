@@ -1,15 +1,10 @@
 -- Beta lists, entry by entry.
-use Rattle.std.proofs.Common.{◌≡◌, ℕ, zero, suc, ◌+◌, ◌-◌, ◌<◌, ◌≤◌, List, [], ◌∷◌, ◌++◌, map, length, drop, get_or, sym, ap, ap₂, ◌∙◌, arith, append_assoc, add-one}
+use Rattle.std.proofs.Common.{◌≡◌, ℕ, suc, ◌+◌, ◌-◌, ◌<◌, List, [], ◌∷◌, ◌++◌, map, length, drop, get_or, sym, ap, ap₂, ◌∙◌, arith, append_assoc, add-one}
 use Rattle.std.proofs.Math.Seq.{drop-cons}
 use Rattle.std.proofs.lemmas.List.{length-drop}
-use Rattle.sym_model.specs.Partition.{part, size, after}
+use Rattle.sym_model.specs.Partition.{part, after}
 use Rattle.sym_model.specs.BetaList.{less_the_rest}
 use Rattle.partitions.proofs.Conjugates.{map_after-more}
-
-pub at-within-size : (xs : List ℕ) (i : ℕ) → get_or xs i 0 ≤ size xs
-at-within-size [] i = omega arith
-at-within-size (x ∷ xs) zero = omega arith
-at-within-size (x ∷ xs) (suc i) = omega (arith, at-within-size xs i)
 
 pub beta-more :
     (parts items new : List ℕ) (k i entry : ℕ) → items ≡ map (λ j. part parts j + (k - j)) (after 0 i)

@@ -1,11 +1,12 @@
 -- The columns of a partition: how many parts reach a bound, and the partition that these counts are.
-use Rattle.std.proofs.Common.{◌≡◌, ℕ, zero, suc, ◌+◌, ◌-◌, ◌<◌, ◌≤◌, nat_le, Bool, true, false, cond, List, [], ◌∷◌, ◌++◌, map, length, get_or, refl, sym, ap, ap₂, ◌∙◌, inl, inr, arith, add-one}
+use Rattle.std.proofs.Common.{◌≡◌, ℕ, zero, suc, ◌+◌, ◌-◌, ◌<◌, ◌≤◌, nat_le, Bool, true, false, cond, List, [], ◌∷◌, ◌++◌, map, length, get_or, sym, ap, ap₂, ◌∙◌, inl, inr, arith}
 use Rattle.std.proofs.lemmas.Bool.{cases_lt, le-leb, lt-leb}
 use Rattle.std.proofs.lemmas.List.{length-map, map-append}
 use Rattle.sym_model.specs.Partition.{IsPartition, Falls, ArePositive, size, columns, after}
 use Rattle.sym_model.specs.Conjugate.{count_from, conjugate}
 use Rattle.sym_model.proofs.SortedParts.{Falls_tail}
-use Rattle.sym_model.proofs.AfterLists.{length_after}
+use Rattle.sym_model.proofs.AfterLists.{length_after, after-more}
+use Rattle.sym_model.proofs.Parts.{size-map_add, size-map_none}
 use Rattle.partitions.specs.Limits.{IsWithinLimits}
 
 -- no number of a falling list is greater than the first
@@ -47,14 +48,6 @@ count_from-falls [] j k h = omega arith
 count_from-falls (a ∷ parts) j k h = omega (arith, reaches_less a j k h, count_from-falls parts j k h)
 
 -- ---- their sum
-
-size-map_add : (f g : ℕ → ℕ) (xs : List ℕ) → size (map (λ j. f j + g j) xs) ≡ size (map f xs) + size (map g xs)
-size-map_add f g [] = refl
-size-map_add f g (x ∷ xs) = omega (arith, size-map_add f g xs)
-
-size-map_none : (xs : List ℕ) → size (map (λ (j : ℕ). 0) xs) ≡ 0
-size-map_none [] = refl
-size-map_none (x ∷ xs) = omega (arith, size-map_none xs)
 
 ones_until : (a s c : ℕ) → a ≤ s + c → size (map (λ j. cond (nat_le j a) 1 0) (after s c)) ≡ a - s
 ones_until a s zero h = omega arith
@@ -113,12 +106,6 @@ IsWithinLimits-conjugate parts h few = record {
 }
 
 -- ---- one number more
-
-pub after-more : (a k : ℕ) → after a (k + 1) ≡ after a k ++ (a + k + 1) ∷ []
-after-more a zero = rw (add-one 0) (ap (λ n. n ∷ []) (omega arith))
-after-more a (suc k) =
-    let e : a + 1 + k + 1 ≡ a + suc k + 1 = omega arith in
-    rw (add-one (suc k)) (ap (λ l. (a + 1) ∷ l) (ap (after (a + 1)) (sym (add-one k)) ∙ after-more (a + 1) k ∙ ap (λ n. after (a + 1) k ++ n ∷ []) e))
 
 pub map_after-more : (f : ℕ → ℕ) (k : ℕ) → map f (after 0 (k + 1)) ≡ map f (after 0 k) ++ f (k + 1) ∷ []
 map_after-more f k =

@@ -5,7 +5,7 @@ use Rattle.sym_model.specs.Sum.{each}
 use Rattle.sym_model.specs.Partition.{ArePositive, size}
 use Rattle.sym_model.specs.PartitionList.{down_to_one, partitions_within}
 use Rattle.sym_model.proofs.PartitionLists.{partitions_within-rows}
-use Rattle.partitions.proofs.Parts.{size-append}
+use Rattle.sym_model.proofs.Parts.{size-append}
 use Rattle.partitions.specs.Listing.{greatest_within, partitions_after, AreOnes}
 
 -- ---- the greatest parts

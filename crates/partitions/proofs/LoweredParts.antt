@@ -1,9 +1,10 @@
 -- A part lowered by one.
-use Rattle.std.proofs.Common.{◌≡◌, ℕ, zero, suc, ◌+◌, ◌-◌, ◌<◌, ◌≤◌, List, [], ◌∷◌, length, take, get_or, refl, sym, ap, ◌∙◌, subst, arith}
+use Rattle.std.proofs.Common.{◌≡◌, ℕ, zero, suc, ◌-◌, ◌<◌, ◌≤◌, List, [], ◌∷◌, length, take, get_or, refl, sym, ap, ◌∙◌, subst, arith}
 use Rattle.std.proofs.Math.ListN.{set}
 use Rattle.sym_model.specs.Partition.{IsPartition, Falls, ArePositive, size, in_front, without_last_zeros}
 use Rattle.sym_model.specs.Slide.{lowered_at}
 use Rattle.sym_model.proofs.SortedParts.{IsPartition-without_last_zeros, size-without_last_zeros}
+use Rattle.sym_model.proofs.Parts.{in_front-positive, without_last_zeros-positive, length-without_last_zeros, size-lowered}
 use Rattle.partitions.specs.Limits.{HasCells}
 
 pub set-lowered : (xs : List ℕ) (i : ℕ) → set xs i (get_or xs i 0 - 1) ≡ lowered_at (suc i) xs
@@ -16,16 +17,6 @@ length-lowered [] i = refl
 length-lowered (a ∷ xs) zero = refl
 length-lowered (a ∷ xs) (suc i) = ap suc (length-lowered xs i)
 
-pub at-lowered : (xs : List ℕ) (i : ℕ) → get_or (lowered_at (suc i) xs) i 0 ≡ get_or xs i 0 - 1
-at-lowered [] i = omega arith
-at-lowered (a ∷ xs) zero = refl
-at-lowered (a ∷ xs) (suc i) = at-lowered xs i
-
-pub size-lowered : (xs : List ℕ) (i : ℕ) → 0 < get_or xs i 0 → size (lowered_at (suc i) xs) + 1 ≡ size xs
-size-lowered [] i h = absurd (omega arith)
-size-lowered (a ∷ xs) zero h = omega arith
-size-lowered (a ∷ xs) (suc i) h = omega (arith, size-lowered xs i h)
-
 -- a smaller part follows
 pub Falls-lowered : (xs : List ℕ) (i : ℕ) → Falls xs → get_or xs (suc i) 0 < get_or xs i 0 → Falls (lowered_at (suc i) xs)
 Falls-lowered [] i f h = tt
@@ -34,14 +25,6 @@ Falls-lowered (a ∷ b ∷ xs) zero f h = (omega arith, f.1)
 Falls-lowered (a ∷ []) (suc i) f h = tt
 Falls-lowered (a ∷ b ∷ xs) (suc zero) f h = (omega (arith, f.0), Falls-lowered (b ∷ xs) zero f.1 h)
 Falls-lowered (a ∷ b ∷ xs) (suc (suc i)) f h = (f.0, Falls-lowered (b ∷ xs) (suc i) f.1 h)
-
-in_front-positive : (a : ℕ) (xs : List ℕ) → 0 < a → in_front a xs ≡ a ∷ xs
-in_front-positive zero xs h = absurd (omega arith)
-in_front-positive (suc a) xs h = refl
-
-all_kept : (xs : List ℕ) → ArePositive xs → without_last_zeros xs ≡ xs
-all_kept [] p = refl
-all_kept (a ∷ xs) p = ap (in_front a) (all_kept xs p.1) ∙ in_front-positive a xs p.0
 
 ArePositive-lowered : (xs : List ℕ) (i : ℕ) → ArePositive xs → 1 < get_or xs i 0 → ArePositive (lowered_at (suc i) xs)
 ArePositive-lowered [] i p h = tt
@@ -52,7 +35,7 @@ ArePositive-lowered (a ∷ xs) (suc i) p h = (p.0, ArePositive-lowered xs i p.1 
 pub lowered_kept :
     (xs : List ℕ) (i : ℕ) → ArePositive xs → 1 < get_or xs i 0
     → without_last_zeros (lowered_at (suc i) xs) ≡ lowered_at (suc i) xs
-lowered_kept xs i p h = all_kept (lowered_at (suc i) xs) (ArePositive-lowered xs i p h)
+lowered_kept xs i p h = without_last_zeros-positive (lowered_at (suc i) xs) (ArePositive-lowered xs i p h)
 
 -- a part 1 is the last, and leaves
 pub lowered_dropped :
@@ -74,15 +57,6 @@ lowered_dropped (a ∷ b ∷ xs) (suc i) p h e =
         ap (λ m. a ∷ take m (lowered_at (suc i) (b ∷ xs))) e
         ∙ ap (λ m. take m (a ∷ lowered_at (suc i) (b ∷ xs))) f
 
-front_rows : (a : ℕ) (xs : List ℕ) → length (in_front a xs) ≤ suc (length xs)
-front_rows zero [] = omega arith
-front_rows zero (b ∷ xs) = omega arith
-front_rows (suc a) xs = omega arith
-
-rows-without_last_zeros : (xs : List ℕ) → length (without_last_zeros xs) ≤ length xs
-rows-without_last_zeros [] = omega arith
-rows-without_last_zeros (a ∷ xs) = omega (arith, rows-without_last_zeros xs, front_rows a (without_last_zeros xs))
-
 -- what is left has one cell less
 pub HasCells-lowered :
     (parts new : List ℕ) (i cells : ℕ) → HasCells parts cells → get_or parts (suc i) 0 < get_or parts i 0
@@ -94,7 +68,7 @@ HasCells-lowered parts new i cells h corner e =
     let smaller = size-lowered parts i (omega arith) in
     let sizes : size new ≡ size (lowered_at (suc i) parts) = ap size e ∙ size-without_last_zeros lowered in
     let rows : length new ≤ length parts =
-    omega (arith, ap length e, rows-without_last_zeros lowered, length-lowered parts i) in
+    omega (arith, ap length e, length-without_last_zeros lowered, length-lowered parts i) in
     record {
       limits = record {
         partition = subst IsPartition (sym e) (IsPartition-without_last_zeros lowered falls);

@@ -2,28 +2,15 @@
 use Rattle.std.proofs.Common.{◌≡◌, ℕ, zero, suc, ◌+◌, ◌-◌, ◌<◌, ◌≤◌, List, [], ◌∷◌, ◌++◌, length, take, get_or, refl, sym, ap, ◌∙◌, subst, arith, length-take}
 use Rattle.std.proofs.lemmas.List.{take_more, get_or-take}
 use Rattle.sym_model.specs.Partition.{IsPartition, Falls, ArePositive, size, in_front, without_last_zeros}
+use Rattle.sym_model.proofs.Parts.{without_last_zeros-zero, size-append, in_front-more}
 use Rattle.partitions.specs.Limits.{RisesFirstAt}
-
--- the size of two lists, one after the other
-pub size-append : (xs ys : List ℕ) → size (xs ++ ys) ≡ size xs + size ys
-size-append [] ys = omega arith
-size-append (x ∷ xs) ys = omega (arith, size-append xs ys)
 
 pub size-take_more : (xs : List ℕ) (i : ℕ) → i < length xs → size (take (i + 1) xs) ≡ size (take i xs) + get_or xs i 0
 size-take_more xs i h = ap size (take_more xs i 0 h) ∙ size-append (take i xs) (get_or xs i 0 ∷ []) ∙ omega arith
 
-in_front-more : (a b : ℕ) (xs : List ℕ) → in_front a (b ∷ xs) ≡ a ∷ b ∷ xs
-in_front-more zero b xs = refl
-in_front-more (suc a) b xs = refl
-
 in_front-push : (a : ℕ) (xs : List ℕ) (b : ℕ) → in_front a (xs ++ b ∷ []) ≡ a ∷ (xs ++ b ∷ [])
 in_front-push a [] b = in_front-more a b []
 in_front-push a (x ∷ xs) b = in_front-more a x (xs ++ b ∷ [])
-
--- one more zero at the end is dropped too
-pub without_last_zeros-zero : (xs : List ℕ) → without_last_zeros (xs ++ 0 ∷ []) ≡ without_last_zeros xs
-without_last_zeros-zero [] = refl
-without_last_zeros-zero (x ∷ xs) = ap (in_front x) (without_last_zeros-zero xs)
 
 -- a list whose last number is positive stays as it is
 pub without_last_zeros-positive :

@@ -6,8 +6,8 @@ use Rattle.std.proofs.lemmas.List.{take-append-drop, take-take, length-set, take
 use Rattle.sym_model.specs.Partition.{ArePositive, size}
 use Rattle.sym_model.specs.PartitionList.{partitions_of}
 use Rattle.sym_model.proofs.SortedParts.{rows_within_size}
+use Rattle.sym_model.proofs.Parts.{size-append}
 use Rattle.partitions.specs.Listing.{greatest_within, partitions_after, AreOnes, HoldsParts}
-use Rattle.partitions.proofs.Parts.{size-append}
 use Rattle.partitions.proofs.Listings.{greatest_within-step, size-AreOnes, partitions_after-part, partitions_after-append, ArePositive-append, size-greatest_within, ArePositive-greatest_within, partitions_within-first}
 
 -- the buffer after a write of all its places

@@ -6,11 +6,11 @@ use Rattle.sym_model.specs.Sum.{select}
 use Rattle.sym_model.specs.Partition.{after}
 use Rattle.sym_model.specs.PlaceOrders.{inversions}
 use Rattle.sym_model.specs.Permutation.{kept, with_fixed, times_swap, covers_among, covers_up, covers_down}
+use Rattle.sym_model.proofs.AfterLists.{after-more}
 use Rattle.schubert_laws.proofs.FixedTails.{inversions_kept}
 use Rattle.schubert_laws.proofs.MonkFromOne.{swap_is}
 use Rattle.schubert_laws.proofs.TransitionFromOne.{times_swap_kept, covers_down_kept, kept_swap}
 use Rattle.perm_codes.specs.Limits.{IsShortPermutation, IsWithinLimits}
-use Rattle.perm_codes.proofs.Prefixes.{after_next}
 use Rattle.perm_codes.proofs.WithinLimits.{kept_fixed, length-with_fixed, short_fixed, short_swap}
 
 select-append : {A : Type 0} (test : A → Bool) (xs : List A) (x : A) → select test (xs ++ x ∷ []) ≡ select test xs ++ cond (test x) (x ∷ []) []
@@ -35,7 +35,7 @@ pub one_more_place :
     (w : List ℕ) (f : ℕ → List ℕ) (start n : ℕ) (t : Bool) → (inversions (f (start + n + 1)) == inversions w + 1) ≡ t
     → covers_among w (map f (after start (n + 1))) ≡ covers_among w (map f (after start n)) ++ cond t (f (start + n + 1) ∷ []) []
 one_more_place w f start n t e =
-    ap (λ l. covers_among w (map f l)) (after_next start n)
+    ap (λ l. covers_among w (map f l)) (after-more start n)
     ∙ ap (covers_among w) (map-push f (after start n) (start + n + 1))
     ∙ select-append (λ (v : List ℕ). inversions v == inversions w + 1) (map f (after start n)) (f (start + n + 1))
     ∙ ap (λ s. covers_among w (map f (after start n)) ++ cond s (f (start + n + 1) ∷ []) []) e

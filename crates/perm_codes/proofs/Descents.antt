@@ -3,7 +3,7 @@ use Rattle.std.proofs.Common.{◌≡◌, ℕ, zero, suc, ◌<◌, ◌≤◌, Lis
 use Rattle.std.specs.Option.{option_or}
 use Rattle.std.proofs.lemmas.Bool.{lt-ltb}
 use Rattle.sym_model.specs.Permutation.{last_descent}
-use Rattle.schubert_laws.proofs.Dominant.{not_less}
+use Rattle.sym_model.proofs.Numbers.{nat_lt-false}
 
 -- no letter after the place k is greater than the next
 abbrev pub RisesAfter : ℕ → List ℕ → Type 0
@@ -14,7 +14,7 @@ no_descent [] r = refl
 no_descent (a ∷ []) r = refl
 no_descent (a ∷ b ∷ w) r =
     ap₂ (λ o t. option_or (option_map suc o) (cond t (Some 1) None)) (no_descent (b ∷ w) (λ j h l. r (suc j) (omega arith) (omega arith)))
-    (not_less b a (r 0 (omega arith) (omega arith)))
+    (nat_lt-false b a (r 0 (omega arith) (omega arith)))
 
 pub descent_here : (w : List ℕ) (q : ℕ) → suc q < length w → get_or w (suc q) 0 < get_or w q 0 → RisesAfter (suc q) w → last_descent w ≡ Some (suc q)
 descent_here [] q l f r = absurd (omega arith)

@@ -12,7 +12,7 @@ use Rattle.sym_model.specs.Sum.{Among, Once, Within}
 use Rattle.sym_model.specs.PlaceOrders.{places, inversions}
 use Rattle.sym_model.specs.Permutation.{IsOneLine, in_front_unless_fixed, without_fixed_from}
 use Rattle.sym_model.specs.PrintedOrder.{permutation_order, rising_letters}
-use Rattle.sym_model.proofs.Orders.{nat_cmp-equal}
+use Rattle.sym_model.proofs.Orders.{nat_cmp-equal, then-equal}
 use Rattle.sym_model.proofs.Sums.{Among-append_right, length_within}
 use Rattle.sym_model.proofs.AfterLists.{length_after, among_after}
 use Rattle.perm_codes.specs.Limits.{IsWithinLimits}
@@ -158,21 +158,16 @@ permutation_order-slice_cmp v w l m = ap (ordering_then (nat_cmp (inversions v) 
 
 -- ---- lists that tie are the same
 
-tie_then : (o p : Ordering) → ordering_then o p ≡ Equal → (o ≡ Equal) × (p ≡ Equal)
-tie_then Less p h = cc
-tie_then Equal p h = (refl, h)
-tie_then Greater p h = cc
-
 slice_cmp-equal : (v w : List ℕ) → slice_cmp nat_cmp v w ≡ Equal → v ≡ w
 slice_cmp-equal [] [] h = refl
 slice_cmp-equal [] (b ∷ w) h = cc
 slice_cmp-equal (a ∷ v) [] h = cc
 slice_cmp-equal (a ∷ v) (b ∷ w) h =
-    let t = tie_then (nat_cmp a b) (slice_cmp nat_cmp v w) h in
+    let t = then-equal (nat_cmp a b) (slice_cmp nat_cmp v w) h in
     let first = nat_cmp-equal a b t.0 in
     let rest = slice_cmp-equal v w t.1 in
     cc
 
 pub permutation_order-equal : (v w : List ℕ) → IsWithinLimits v → IsWithinLimits w → permutation_order v w ≡ Equal → v ≡ w
 permutation_order-equal v w l m h =
-    slice_cmp-equal v w (sym (letters_order v w l m) ∙ (tie_then (nat_cmp (inversions v) (inversions w)) (rising_letters 0 v w) h).1)
+    slice_cmp-equal v w (sym (letters_order v w l m) ∙ (then-equal (nat_cmp (inversions v) (inversions w)) (rising_letters 0 v w) h).1)

@@ -5,10 +5,11 @@ use Rattle.std.specs.List.{swap, list_any}
 use Rattle.std.proofs.lemmas.Bool.{cases_lt, lt-ltb, ne_eqb}
 use Rattle.sym_model.specs.Sum.{Among, Once}
 use Rattle.sym_model.specs.PlaceOrders.{smaller, inversions}
-use Rattle.schubert_laws.proofs.Dominant.{counted, not_counted, not_less}
+use Rattle.sym_model.proofs.Numbers.{counts-not_less, counts-less, nat_lt-false}
+use Rattle.sym_model.proofs.Lists.{get_or-any}
 use Rattle.schubert_laws.proofs.MonkFromOne.{swap_is}
 use Rattle.schubert_laws.proofs.Transition.{once_get}
-use Rattle.schubert_laws.proofs.Swaps.{swap_at, length-swap_at, smaller_swap, once_swap, swap_twice, get_swap_left, get_swap_right, default_free, among_get}
+use Rattle.schubert_laws.proofs.Swaps.{swap_at, length-swap_at, smaller_swap, once_swap, swap_twice, get_swap_left, get_swap_right, among_get}
 
 -- whether a letter lies between two others
 abbrev pub lies_between : ℕ → ℕ → ℕ → Bool
@@ -24,10 +25,10 @@ within_both : (low high a : ℕ) → low < a → a < high → cond {A = ℕ} (li
 within_both low high a h l = ap₂ (λ s t. cond {A = ℕ} (s && t) 1 0) (lt-ltb low a h) (lt-ltb a high l)
 
 below_both : (low high a : ℕ) → a ≤ low → cond {A = ℕ} (lies_between low high a) 1 0 ≡ 0
-below_both low high a h = ap (λ s. cond {A = ℕ} (s && nat_lt a high) 1 0) (not_less low a h)
+below_both low high a h = ap (λ s. cond {A = ℕ} (s && nat_lt a high) 1 0) (nat_lt-false low a h)
 
 above_both : (low high a : ℕ) → low < a → high ≤ a → cond {A = ℕ} (lies_between low high a) 1 0 ≡ 0
-above_both low high a h l = ap₂ (λ s t. cond {A = ℕ} (s && t) 1 0) (lt-ltb low a h) (not_less a high l)
+above_both low high a h l = ap₂ (λ s t. cond {A = ℕ} (s && t) 1 0) (lt-ltb low a h) (nat_lt-false a high l)
 
 -- what one letter behind the first counts for
 one_letter : (low high a : ℕ) → low < high → (low ≡ a → ⊥) → (a ≡ high → ⊥)
@@ -36,25 +37,25 @@ one_letter : (low high a : ℕ) → low < high → (low ≡ a → ⊥) → (a �
 one_letter low high a h n m = elim (cases_lt low a) [
   | inl p ↦ elim (cases_lt a high) [
     | inl q ↦
-        let x = counted a high q in
-        let y = counted low a p in
-        let z = not_counted a low (omega arith) in
-        let t = not_counted high a (omega arith) in
+        let x = counts-less a high q in
+        let y = counts-less low a p in
+        let z = counts-not_less a low (omega arith) in
+        let t = counts-not_less high a (omega arith) in
         let b = within_both low high a p q in
         omega arith
     | inr q ↦
-        let x = not_counted a high q in
-        let y = counted low a p in
-        let z = not_counted a low (omega arith) in
-        let t = counted high a (omega (arith, m)) in
+        let x = counts-not_less a high q in
+        let y = counts-less low a p in
+        let z = counts-not_less a low (omega arith) in
+        let t = counts-less high a (omega (arith, m)) in
         let b = above_both low high a p q in
         omega arith
   ]
   | inr p ↦
-      let x = counted a high (omega arith) in
-      let y = not_counted low a p in
-      let z = counted a low (omega (arith, n)) in
-      let t = not_counted high a (omega arith) in
+      let x = counts-less a high (omega arith) in
+      let y = counts-not_less low a p in
+      let z = counts-less a low (omega (arith, n)) in
+      let t = counts-not_less high a (omega arith) in
       let b = below_both low high a p in
       omega arith
 ]
@@ -65,8 +66,8 @@ first_swapped : (x b : ℕ) (w : List ℕ) → b < length w → Once (x ∷ w) �
     ≡ smaller x w + inversions w + 1 + 2 * between x (get_or w b x) b w
 first_swapped x b [] l o h = absurd (omega arith)
 first_swapped x zero (y ∷ w) l o h =
-    let p = counted x y h in
-    let q = not_counted y x (omega arith) in
+    let p = counts-less x y h in
+    let q = counts-not_less y x (omega arith) in
     omega arith
 first_swapped x (suc b) (z ∷ w) l o h =
     let r = first_swapped x b w (omega arith) (λ m. o.0 (inr m), o.1.1) h in
@@ -81,7 +82,7 @@ swapped_rising a b n d [] e l o h = absurd (omega arith)
 swapped_rising a zero n d (x ∷ w) e l o h = absurd (omega arith)
 swapped_rising zero (suc b) n d (x ∷ w) e l o h =
     let inside : b < length w = omega arith in
-    let g = default_free w b d x inside in
+    let g = get_or-any w b d x inside in
     let m : b ≡ n = omega arith in
     let r = first_swapped x b w inside o (subst (λ y. x < y) g h) in
     let q = ap₂ (λ y k. between x y k w) (sym g) m in
@@ -153,4 +154,4 @@ falling_test a b w h l o f =
     let d : get_or w a 0 ≡ get_or w b 0 → ⊥ = λ e. let q = once_get w a b o (omega arith) l e in omega arith in
     let s = ap inversions (swap_is w a b (omega arith) l) in
     let c = swapped_falling a b 0 w h l o (omega (arith, d)) in
-    not_less (get_or w a 0) (get_or w b 0) f ∙ sym (ne_eqb (inversions (swap w a b)) (inversions w + 1) (λ q. omega arith))
+    nat_lt-false (get_or w a 0) (get_or w b 0) f ∙ sym (ne_eqb (inversions (swap w a b)) (inversions w + 1) (λ q. omega arith))

@@ -3,10 +3,9 @@ use Rattle.std.proofs.Common.{◌≡◌, ℕ, ◌+◌, ◌-◌, ◌<◌, ◌≤�
 use Rattle.std.proofs.lemmas.List.{take_more}
 use Rattle.std.proofs.lemmas.List.Recursion.{is_count_by}
 use Rattle.std.proofs.lemmas.Bool.{cases_eq, ne_eqb}
-use Rattle.sym_model.specs.Partition.{after}
 use Rattle.sym_model.specs.PlaceOrders.{smaller}
 use Rattle.sym_model.specs.Permutation.{kept, without_fixed_from, in_front_unless_fixed}
-use Rattle.schubert_laws.proofs.FixedTails.{after_more, kept_added}
+use Rattle.schubert_laws.proofs.FixedTails.{kept_added}
 
 -- ---- counts
 
@@ -18,10 +17,6 @@ pub smaller-count_by : (a : ℕ) (w : List ℕ) → smaller a w ≡ count_by (λ
 smaller-count_by a w = is_count_by (smaller a) (λ b. nat_lt b a) refl (λ b v. one_more (nat_lt b a) (smaller a v)) w
 
 -- ---- fixed letters
-
--- one more number after the first n
-pub after_next : (a n : ℕ) → after a (n + 1) ≡ after a n ++ (a + n + 1) ∷ []
-after_next a n = after_more a n 1
 
 stays_in_front : (i a b : ℕ) (v : List ℕ) → in_front_unless_fixed i a (v ++ b ∷ []) ≡ a ∷ (v ++ b ∷ [])
 stays_in_front i a b [] = refl

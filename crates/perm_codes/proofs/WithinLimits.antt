@@ -19,7 +19,7 @@ some_kept (a ∷ w) h = omega arith
 kept_kept : (w : List ℕ) → 0 < length w → kept (kept w) ≡ kept w
 kept_kept w h = let t = kept_whole w in sym (kept_added (kept w) t.0 (some_kept w h)) ∙ ap kept (sym t.1)
 
-fewer_kept : (w : List ℕ) → length (kept w) ≤ length w
+pub fewer_kept : (w : List ℕ) → length (kept w) ≤ length w
 fewer_kept w = let t = kept_whole w in omega (arith, ap length t.1, length-append (kept w) (after (length (kept w)) t.0))
 
 pub kept_limits : (w : List ℕ) → IsShortPermutation w → IsWithinLimits (kept w)

@@ -2,53 +2,28 @@
 --     removal_found      the rows of `left_part` are what a removal leaves
 --     none_in_rows       where the tests fail, no removal has these rows
 --     fewer_rows         a removal leaves no row more
-use Rattle.std.proofs.Common.{◌≡◌, ℕ, zero, suc, ◌+◌, ◌-◌, ◌<◌, ◌≤◌, ◌⊎◌, List, [], ◌∷◌, length, get_or, sym, ◌∙◌, ap, subst, refl, inl, inr, arith}
+use Rattle.std.proofs.Common.{◌≡◌, ℕ, ◌+◌, ◌-◌, ◌<◌, ◌≤◌, ◌⊎◌, List, length, get_or, sym, ◌∙◌, ap, subst, refl, inl, inr, arith}
 use Rattle.std.proofs.lemmas.Bool.{cases_lt, cases_eq}
 use Rattle.std.proofs.lemmas.Bool.Decides.{nat_tests}
-use Rattle.sym_model.specs.Partition.{Falls, ArePositive, IsPartition, size, part, in_front, without_last_zeros}
+use Rattle.sym_model.specs.Partition.{Falls, IsPartition, size, part, without_last_zeros}
 use Rattle.sym_model.specs.Strip.{height}
 use Rattle.strip_laws.specs.HookRows.{IsHookRows}
 use Rattle.sym_model.specs.RimHookReduction.{IsRemoval}
 use Rattle.strip_laws.proofs.Strips.{falls_part}
-use Rattle.strip_laws.proofs.RimHooks.{hook_from_rows, height_of_rows, past_end}
+use Rattle.strip_laws.proofs.RimHooks.{hook_from_rows, height_of_rows}
 use Rattle.strip_laws.proofs.HookSizes.{hook_size}
 use Rattle.sym_model.proofs.SortedParts.{IsPartition-without_last_zeros}
+use Rattle.sym_model.proofs.Parts.{past_end, get_or-without_last_zeros, at_least_one, part-get_or, Falls_from_places}
 use Rattle.plain_programs.specs.Removed.{left_part, HasNoneInRows}
 
 -- ---- parts by place
 
-part_of : (parts : List ℕ) (i : ℕ) → part parts (i + 1) ≡ get_or parts i 0
-part_of parts i = let e : i + 1 - 1 ≡ i = omega arith in ap (λ k. get_or parts k 0) e
-
 falls_at : (parts : List ℕ) → Falls parts → (i : ℕ) → get_or parts (i + 1) 0 ≤ get_or parts i 0
 falls_at parts f i =
-    let a = part_of parts (i + 1) in
-    let b = part_of parts i in
+    let a = part-get_or parts (i + 1) in
+    let b = part-get_or parts i in
     let c = falls_part parts f (i + 1) (omega arith) in
     omega (arith, a, b, c)
-
-positive_at : (parts : List ℕ) → ArePositive parts → (i : ℕ) → i < length parts → 1 ≤ get_or parts i 0
-positive_at [] p i h = absurd (omega arith)
-positive_at (a ∷ parts) p zero h = p.0
-positive_at (a ∷ parts) p (suc i) h = positive_at parts p.1 i (omega arith)
-
-falls_from_places : (numbers : List ℕ) → ((i : ℕ) → get_or numbers (i + 1) 0 ≤ get_or numbers i 0) → Falls numbers
-falls_from_places [] h = tt
-falls_from_places (a ∷ []) h = tt
-falls_from_places (a ∷ b ∷ numbers) h =
-    let e : 0 + 1 ≡ suc 0 = omega arith in
-    (h 0, falls_from_places (b ∷ numbers) (λ i. let d : suc i + 1 ≡ suc (i + 1) = omega arith in subst (λ n. get_or (a ∷ b ∷ numbers) n 0 ≤ get_or (b ∷ numbers) i 0) d (h (suc i))))
-
-in_front_at : (a : ℕ) (numbers : List ℕ) (i : ℕ) → get_or (in_front a numbers) i 0 ≡ get_or (a ∷ numbers) i 0
-in_front_at zero [] zero = refl
-in_front_at zero [] (suc i) = refl
-in_front_at zero (b ∷ numbers) i = refl
-in_front_at (suc a) numbers i = refl
-
-without_at : (numbers : List ℕ) (i : ℕ) → get_or (without_last_zeros numbers) i 0 ≡ get_or numbers i 0
-without_at [] i = refl
-without_at (a ∷ numbers) zero = in_front_at a (without_last_zeros numbers) zero
-without_at (a ∷ numbers) (suc i) = in_front_at a (without_last_zeros numbers) (suc i) ∙ without_at numbers i
 
 -- ---- the rows that are left
 
@@ -129,11 +104,11 @@ abbrev AreLeft : List ℕ → List ℕ → ℕ → ℕ → ℕ → Type 0
 AreLeft numbers shape first last rest = (i : ℕ) → get_or numbers i 0 ≡ left_part shape first last rest i
 
 row_left : (shape numbers : List ℕ) (first last rest i : ℕ) → AreLeft numbers shape first last rest → part (without_last_zeros numbers) (i + 1) ≡ left_part shape first last rest i
-row_left shape numbers first last rest i v = part_of (without_last_zeros numbers) i ∙ without_at numbers i ∙ v i
+row_left shape numbers first last rest i v = part-get_or (without_last_zeros numbers) i ∙ get_or-without_last_zeros numbers i ∙ v i
 
 partition_left : (n : ℕ) (shape numbers : List ℕ) (first last rest : ℕ) → Fits n shape first last rest → AreLeft numbers shape first last rest → IsPartition (without_last_zeros numbers)
 partition_left n shape numbers first last rest h v =
-    IsPartition-without_last_zeros numbers (falls_from_places numbers (λ i.
+    IsPartition-without_last_zeros numbers (Falls_from_places numbers (λ i.
     let a = v i in
     let b = v (i + 1) in
     let c = left_falls n shape first last rest i h in
@@ -152,14 +127,14 @@ hook_left n shape numbers first last rest h v = record { counts = omega arith; o
         let r = row_before i a in
         let k = r.0 in
         let x = left_above shape first last rest k (let e = r.1 in omega (arith, e)) in
-        subst (λ j. part shape j ≡ part (without_last_zeros numbers) j) (sym r.1) (part_of shape k ∙ sym x ∙ sym (row_left shape numbers first last rest k v))
+        subst (λ j. part shape j ≡ part (without_last_zeros numbers) j) (sym r.1) (part-get_or shape k ∙ sym x ∙ sym (row_left shape numbers first last rest k v))
 
     below : (i : ℕ) → last + 1 < i → part shape i ≡ part (without_last_zeros numbers) i
     below i b =
         let r = row_before i (omega arith) in
         let k = r.0 in
         let x = left_below shape first last rest k h.ordered (let e = r.1 in omega (arith, e)) in
-        subst (λ j. part shape j ≡ part (without_last_zeros numbers) j) (sym r.1) (part_of shape k ∙ sym x ∙ sym (row_left shape numbers first last rest k v))
+        subst (λ j. part shape j ≡ part (without_last_zeros numbers) j) (sym r.1) (part-get_or shape k ∙ sym x ∙ sym (row_left shape numbers first last rest k v))
 
     chained : (i : ℕ) → first + 1 ≤ i → i < last + 1 → part shape (i + 1) ≡ part (without_last_zeros numbers) i + 1
     chained i a b =
@@ -168,8 +143,8 @@ hook_left n shape numbers first last rest h v = record { counts = omega arith; o
         let e : i ≡ k + 1 = r.1 in
         let x = left_inside shape first last rest k (omega (arith, e)) (omega (arith, e)) in
         let w = h.within in
-        let p = positive_at shape h.partition.positive (k + 1) (omega (arith, e, w)) in
-        let q = part_of shape (k + 1) in
+        let p = at_least_one shape h.partition.positive (k + 1) (omega (arith, e, w)) in
+        let q = part-get_or shape (k + 1) in
         let y = row_left shape numbers first last rest k v in
         subst (λ j. part shape (j + 1) ≡ part (without_last_zeros numbers) j + 1) (sym e) (omega (arith, x, p, q, y))
 
@@ -177,7 +152,7 @@ hook_left n shape numbers first last rest h v = record { counts = omega arith; o
     end =
         let x = left_last shape first last rest last h.ordered refl in
         let y = row_left shape numbers first last rest last v in
-        let q = part_of shape last in
+        let q = part-get_or shape last in
         let g = h.end in
         omega (arith, x, y, q, g)
 
@@ -187,7 +162,7 @@ removal_found n shape numbers first last rest h v =
     let left = without_last_zeros numbers in
     let hook = hook_left n shape numbers first last rest h v in
     let s = hook_size shape left (first + 1) (last + 1) hook in
-    let a = part_of shape first in
+    let a = part-get_or shape first in
     let b = row_left shape numbers first last rest last v in
     let c = left_last shape first last rest last h.ordered refl in
     let d = h.cells in
@@ -215,9 +190,9 @@ bounds_of : (n : ℕ) (shape left : List ℕ) (first last : ℕ) → IsPartition
 bounds_of n shape left first last p h e =
     let s = hook_size shape left (first + 1) (last + 1) h in
     let o = h.ordered in
-    let a = part_of shape first in
-    let b = part_of shape last in
-    let c = part_of shape (last + 1) in
+    let a = part-get_or shape first in
+    let b = part-get_or shape last in
+    let c = part-get_or shape (last + 1) in
     let d = h.below (last + 1 + 1) (omega arith) in
     let f = falls_part left p.falls (last + 1) (omega arith) in
     let g = h.end in
@@ -243,10 +218,10 @@ pub fewer_rows : (n : ℕ) (shape left : List ℕ) → IsRemoval n shape left �
 fewer_rows n shape left r = elim (cases_lt (length shape) (length left)) [
   | inr h ↦ h
   | inl h ↦ (
-      let a = positive_at left r.partition.positive (length shape) h in
+      let a = at_least_one left r.partition.positive (length shape) h in
       let b = past_end shape (length shape) (omega arith) in
       let c = r.hook.holds (length shape + 1) in
-      let d = part_of left (length shape) in
-      let e = part_of shape (length shape) in
+      let d = part-get_or left (length shape) in
+      let e = part-get_or shape (length shape) in
       absurd (omega (arith, a, b, c, d, e)))
 ]

@@ -9,7 +9,8 @@ use Rattle.sym_model.specs.Strip.{height}
 use Rattle.strip_laws.specs.HookRows.{IsHookRows}
 use Rattle.sym_model.specs.PlaceOrders.{minus_one_to}
 use Rattle.sym_model.specs.RimHookReduction.{IsRemoval, HasNoRemoval, GoesTo}
-use Rattle.strip_laws.proofs.RimHooks.{hook_rows, past_end}
+use Rattle.sym_model.proofs.Parts.{past_end}
+use Rattle.strip_laws.proofs.RimHooks.{hook_rows}
 use Rattle.plain_programs.specs.Removed.{HasNoneInRows, IsFoundFrom}
 use Rattle.plain_programs.specs.declared.removals.Removal.{Removal}
 

@@ -3,8 +3,7 @@ use Rattle.std.proofs.Common.{◌≡◌, ℕ, zero, suc, ◌+◌, ◌≤◌, tru
 use Rattle.std.specs.Cmp.{IsTotalOrder}
 use Rattle.std.specs.Cmp.Lexicographic.{slice_cmp}
 use Rattle.std.specs.Ordering.{nat_cmp, ordering_then, ordering_reverse}
-use Rattle.std.specs.declared.cmp.Ordering.{Ordering}
-use Rattle.std.specs.declared.cmp.Ordering.TheVariants.{Less, Equal, Greater}
+use Rattle.std.specs.declared.cmp.Ordering.TheVariants.{Less, Equal}
 use Rattle.std.proofs.lemmas.Cmp.{nat_cmp_total, lists_total, on_total, then_total, tied_itself}
 use Rattle.std.proofs.lemmas.Bool.{and_parts, eq-eqb, cond-true}
 use Rattle.sym_model.specs.Partition.{size, without_last_zeros, in_front}
@@ -13,14 +12,8 @@ use Rattle.sym_model.specs.Permutation.{kept, without_fixed_from, in_front_unles
 use Rattle.sym_model.specs.PrintedOrder.{falling_lexicographic, printed_order, pair_order, power_order, rising_letters, permutation_order}
 use Rattle.sym_model.specs.LabelLimits.{is_label, is_pair_label, is_power_label, is_permutation_label, is_monomial_label}
 use Rattle.sym_model.specs.Kind.{Kind, number, expansion, product, pairs, powers, permutations, polynomial, Label, label_rules}
-use Rattle.sym_model.proofs.Orders.{printed_order-total, printed_order-equal, nat_cmp-equal, is_partition-tells}
+use Rattle.sym_model.proofs.Orders.{printed_order-total, printed_order-equal, nat_cmp-equal, is_partition-tells, then-equal}
 use Rattle.sym_model.proofs.Exponents.{same_true}
-
--- what ties in two orders one after the other ties in both
-then-ties : (o p : Ordering) → ordering_then o p ≡ Equal → (o ≡ Equal) × (p ≡ Equal)
-then-ties Less p h = cc
-then-ties Equal p h = (refl, h)
-then-ties Greater p h = cc
 
 -- ---- totality
 
@@ -87,20 +80,20 @@ partitions-tie x y h k e =
 falling_lexicographic-ties : (x y : List ℕ) → falling_lexicographic x y ≡ Equal → without_last_zeros x ≡ without_last_zeros y
 falling_lexicographic-ties [] [] e = refl
 falling_lexicographic-ties [] (b ∷ y) e =
-    let p = then-ties (nat_cmp b 0) (falling_lexicographic [] y) e in
+    let p = then-equal (nat_cmp b 0) (falling_lexicographic [] y) e in
     ap₂ in_front (sym (nat_cmp-equal b 0 p.0)) (falling_lexicographic-ties [] y p.1)
 falling_lexicographic-ties (a ∷ x) [] e =
-    let p = then-ties (nat_cmp 0 a) (falling_lexicographic x []) e in
+    let p = then-equal (nat_cmp 0 a) (falling_lexicographic x []) e in
     ap₂ in_front (sym (nat_cmp-equal 0 a p.0)) (falling_lexicographic-ties x [] p.1)
 falling_lexicographic-ties (a ∷ x) (b ∷ y) e =
-    let p = then-ties (nat_cmp b a) (falling_lexicographic x y) e in
+    let p = then-equal (nat_cmp b a) (falling_lexicographic x y) e in
     ap₂ in_front (sym (nat_cmp-equal b a p.0)) (falling_lexicographic-ties x y p.1)
 
 monomials-tie : (x y : List ℕ) → is_monomial_label x ≡ true → is_monomial_label y ≡ true → printed_order x y ≡ Equal → x ≡ y
 monomials-tie x y h k e =
     let p = same_true (without_last_zeros x) x (and_parts _ _ (and_parts _ _ h).0).0 in
     let q = same_true (without_last_zeros y) y (and_parts _ _ (and_parts _ _ k).0).0 in
-    sym p ∙ (falling_lexicographic-ties x y (then-ties (nat_cmp (size y) (size x)) (falling_lexicographic x y) e).1 ∙ q)
+    sym p ∙ (falling_lexicographic-ties x y (then-equal (nat_cmp (size y) (size x)) (falling_lexicographic x y) e).1 ∙ q)
 
 -- a fixed letter in front of nothing
 fixed-nothing : (i a : ℕ) → a ≡ i → in_front_unless_fixed i a [] ≡ []
@@ -110,39 +103,39 @@ fixed-nothing i a e = cond-true (eqb a i) [] (a ∷ []) (eq-eqb a i e)
 rising_letters-ties : (i : ℕ) (x y : List ℕ) → rising_letters i x y ≡ Equal → without_fixed_from (i + 1) x ≡ without_fixed_from (i + 1) y
 rising_letters-ties i [] [] e = refl
 rising_letters-ties i [] (b ∷ y) e =
-    let p = then-ties (nat_cmp (i + 1) b) (rising_letters (i + 1) [] y) e in
+    let p = then-equal (nat_cmp (i + 1) b) (rising_letters (i + 1) [] y) e in
     sym (ap (in_front_unless_fixed (i + 1) b) (sym (rising_letters-ties (i + 1) [] y p.1)) ∙ fixed-nothing (i + 1) b (sym (nat_cmp-equal (i + 1) b p.0)))
 rising_letters-ties i (a ∷ x) [] e =
-    let p = then-ties (nat_cmp a (i + 1)) (rising_letters (i + 1) x []) e in
+    let p = then-equal (nat_cmp a (i + 1)) (rising_letters (i + 1) x []) e in
     ap (in_front_unless_fixed (i + 1) a) (rising_letters-ties (i + 1) x [] p.1) ∙ fixed-nothing (i + 1) a (nat_cmp-equal a (i + 1) p.0)
 rising_letters-ties i (a ∷ x) (b ∷ y) e =
-    let p = then-ties (nat_cmp a b) (rising_letters (i + 1) x y) e in
+    let p = then-equal (nat_cmp a b) (rising_letters (i + 1) x y) e in
     ap₂ (in_front_unless_fixed (i + 1)) (nat_cmp-equal a b p.0) (rising_letters-ties (i + 1) x y p.1)
 
 kept-ties : (x y : List ℕ) → ltb 0 (length x) ≡ true → ltb 0 (length y) ≡ true → rising_letters 0 x y ≡ Equal → kept x ≡ kept y
 kept-ties [] y h k e = cc
 kept-ties (a ∷ x) [] h k e = cc
 kept-ties (a ∷ x) (b ∷ y) h k e =
-    let p = then-ties (nat_cmp a b) (rising_letters 1 x y) e in
+    let p = then-equal (nat_cmp a b) (rising_letters 1 x y) e in
     ap₂ ◌∷◌ (nat_cmp-equal a b p.0) (rising_letters-ties 1 x y p.1)
 
 permutations-tie : (x y : List ℕ) → is_permutation_label x ≡ true → is_permutation_label y ≡ true → permutation_order x y ≡ Equal → x ≡ y
 permutations-tie x y h k e =
     let fore = and_parts _ _ (and_parts _ _ h).0 in
     let back = and_parts _ _ (and_parts _ _ k).0 in
-    let letters = (then-ties (nat_cmp (inversions x) (inversions y)) (rising_letters 0 x y) e).1 in
+    let letters = (then-equal (nat_cmp (inversions x) (inversions y)) (rising_letters 0 x y) e).1 in
     sym (same_true (kept x) x fore.1) ∙ (kept-ties x y (and_parts _ _ fore.0).1 (and_parts _ _ back.0).1 letters ∙ same_true (kept y) y back.1)
 
 pairs-tie : (x y : List ℕ × List ℕ) → is_pair_label x ≡ true → is_pair_label y ≡ true → pair_order x y ≡ Equal → x ≡ y
 pairs-tie x y h k e =
-    let p = then-ties (printed_order x.0 y.0) (printed_order x.1 y.1) e in
+    let p = then-equal (printed_order x.0 y.0) (printed_order x.1 y.1) e in
     let first = partitions-tie x.0 y.0 (and_parts _ _ h).0 (and_parts _ _ k).0 p.0 in
     let second = partitions-tie x.1 y.1 (and_parts _ _ h).1 (and_parts _ _ k).1 p.1 in
     ap₂ (λ a b. (a, b)) first second
 
 powers-tie : (x y : ℕ × List ℕ) → is_power_label x ≡ true → is_power_label y ≡ true → power_order x y ≡ Equal → x ≡ y
 powers-tie x y h k e =
-    let p = then-ties (nat_cmp x.0 y.0) (printed_order x.1 y.1) e in
+    let p = then-equal (nat_cmp x.0 y.0) (printed_order x.1 y.1) e in
     ap₂ (λ a b. (a, b)) (nat_cmp-equal x.0 y.0 p.0) (partitions-tie x.1 y.1 (and_parts _ _ h).1 (and_parts _ _ k).1 p.1)
 
 pub label_order-ties : (kind : Kind) (x y : Label kind) → (label_rules kind).is_within_limits x ≡ true → (label_rules kind).is_within_limits y ≡ true → (label_rules kind).order x y ≡ Equal → x ≡ y

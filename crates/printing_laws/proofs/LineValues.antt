@@ -4,15 +4,16 @@ use Rattle.std.proofs.lemmas.Int.{ints}
 use Rattle.std.proofs.lemmas.Bool.{eqb-true, and_parts}
 use Rattle.std.proofs.Math.Nat.{mul-div_cancel}
 use Rattle.sym_model.specs.Polynomial.{coefficient, one, scale, negate, times as product_of}
-use Rattle.sym_model.specs.Partition.{ArePositive, without_last_zeros, in_front}
+use Rattle.sym_model.specs.Partition.{ArePositive, without_last_zeros}
 use Rattle.sym_model.specs.Expansion.{Basis, Fraction, Terms, basis_polynomial, denominators, cleared, IsExpansionOf}
 use Rattle.sym_model.specs.Expression.{Tree, number, fraction, atom, negation, sum, difference, product, lcm, denominator, cleared_value}
 use Rattle.sym_model.specs.NumberText.{decimal_value}
 use Rattle.sym_model.specs.Phrase.{Phrase, numeral, ratio, operation, times, tree}
 use Rattle.sym_model.specs.OneLine.{is_unit}
-use Rattle.sym_model.proofs.Ring.{ring}
+use Rattle.sym_model.proofs.Ring.{ring, one-product}
 use Rattle.sym_model.proofs.Polynomials.{coefficient_plus, coefficient_scale, coefficient_negate}
 use Rattle.sym_model.proofs.PolynomialLaws.{one-times, scale-times}
+use Rattle.sym_model.proofs.Parts.{without_last_zeros-positive}
 use Rattle.monomial_laws.proofs.Majorants.{In-atom}
 use Rattle.monomial_laws.proofs.WeightBounds.{lcm-left, lcm-right, lcm-positive}
 use Rattle.printing_laws.proofs.Decimals.{decimal_value-decimal}
@@ -47,22 +48,14 @@ of_negation l s q x e =
 of_sign : (a r c : ℤ) → (neg_ℤ a *ℤ r) *ℤ c ≡ neg_ℤ ((a *ℤ r) *ℤ c)
 of_sign a r c = simp ring (omega (arith, ints))
 
-one-with : (z : ℤ) → pos 1 *ℤ z ≡ z
-one-with z = simp ring (omega (arith, ints))
-
 -- ---- trees
-
-trimmed : (parts : List ℕ) → ArePositive parts → without_last_zeros parts ≡ parts
-trimmed [] p = refl
-trimmed (zero ∷ parts) p = absurd (omega (arith, p.0))
-trimmed (suc a ∷ parts) p = ap (in_front (suc a)) (trimmed parts p.1)
 
 values : (numbers : List ℕ) → AreShort numbers → map decimal_value (map decimal numbers) ≡ numbers
 values [] h = refl
 values (a ∷ numbers) h = ap₂ ◌∷◌ (decimal_value-decimal a h.0) (values numbers h.1)
 
 tree_atom : (basis : Basis) (numbers : List ℕ) → AreShort numbers → ArePositive numbers → tree (atom_phrase basis numbers) ≡ atom basis numbers
-tree_atom basis numbers h p = ap (λ ns. atom basis (without_last_zeros ns)) (values numbers h) ∙ ap (atom basis) (trimmed numbers p)
+tree_atom basis numbers h p = ap (λ ns. atom basis (without_last_zeros ns)) (values numbers h) ∙ ap (atom basis) (without_last_zeros-positive numbers p)
 
 -- what a term has to be so that its expression is the term
 pub record IsProper (t : List ℕ × Fraction) : Type 0 where
@@ -113,7 +106,7 @@ module _ (basis : Basis) (n : ℕ) (α : List ℕ) where
   stands-unit : (q : ℕ) (numbers : List ℕ) → Stands q (atom basis numbers) ((pos 1 *ℤ pos (q / 1)) *ℤ at_label numbers)
   stands-unit q numbers = record {
     positive = omega arith;
-    equal = of_term (pos 1) (pos (q / 1)) (pos 1) (at_label numbers) (pos q) (ap pos (let e : q / 1 * 1 ≡ q = omega arith in e)) ∙ ap (λ z. pos q *ℤ z) (one-with (at_label numbers));
+    equal = of_term (pos 1) (pos (q / 1)) (pos 1) (at_label numbers) (pos q) (ap pos (let e : q / 1 * 1 ≡ q = omega arith in e)) ∙ ap (λ z. pos q *ℤ z) (one-product (at_label numbers));
   }
 
   stands-product : (q a d : ℕ) (numbers : List ℕ) (e : Tree) → 0 < d → q / d * d ≡ q → denominator e ≡ d → cleared_value e n ≡ scale (pos a) (one n)
@@ -221,7 +214,7 @@ module _ (basis : Basis) (n : ℕ) (α : List ℕ) where
   pub stands-line : (q : ℕ) (terms : Terms (List ℕ)) → AreProper terms → AreDivisors q terms → Stands q (tree (line_phrase basis terms)) (shares q terms)
   stands-line q [] h divides = record {
     positive = omega arith;
-    equal = one-with (pos 0) ∙ sym (ap (λ z. pos q *ℤ z) (coefficient_scale (pos 0) (one n) α) ∙ none (pos q) (coefficient (one n) α));
+    equal = one-product (pos 0) ∙ sym (ap (λ z. pos q *ℤ z) (coefficient_scale (pos 0) (one n) α) ∙ none (pos q) (coefficient (one n) α));
   }
     where
       none : (q c : ℤ) → q *ℤ (pos 0 *ℤ c) ≡ pos 0

@@ -55,7 +55,7 @@ without_last-push [] byte = refl
 without_last-push (b ∷ []) byte = refl
 without_last-push (b ∷ c ∷ text) byte = ap (λ t. b ∷ t) (without_last-push (c ∷ text) byte)
 
-numbers_of-nonempty : (text : List ℕ) → 0 < length text → numbers_of text ≡ map decimal_value (split_at 44 text)
+pub numbers_of-nonempty : (text : List ℕ) → 0 < length text → numbers_of text ≡ map decimal_value (split_at 44 text)
 numbers_of-nonempty [] h = absurd (omega arith)
 numbers_of-nonempty (b ∷ text) h = refl
 

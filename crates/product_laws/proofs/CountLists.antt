@@ -1,47 +1,30 @@
 -- Lists of terms with coefficients that are not negative, and what a coefficient that is not 0 tells.
-use Rattle.std.proofs.Common.{◌≡◌, ◌+◌, ◌*◌, ◌⊎◌, inl, inr, Bool, true, false, cond, ℕ, zero, suc, List, [], ◌∷◌, ◌++◌, map, refl, sym, ◌∙◌, ap, ap₂, subst, arith, ℤ, pos, negsuc, ◌+ℤ◌, ◌*ℤ◌}
+use Rattle.std.proofs.Common.{◌≡◌, ◌+◌, ◌*◌, ◌⊎◌, inl, inr, cond, ℕ, List, [], ◌∷◌, ◌++◌, map, refl, sym, ◌∙◌, ap, ap₂, subst, arith, ℤ, pos, ◌+ℤ◌, ◌*ℤ◌}
 use Rattle.std.specs.Prelude.{◌≤ℤ◌}
 use Rattle.std.proofs.lemmas.Int.{ints}
-use Rattle.std.proofs.Math.Nat.{mul-suc}
 use Rattle.sym_model.specs.Sum.{each, Among, Once}
 use Rattle.sym_model.specs.Polynomial.{Term, same, coefficient, scale}
 use Rattle.sym_model.specs.WholeTerms.{WholeTerms}
 use Rattle.sym_model.proofs.Sums.{total_none, Among-map, Among_from_map, Among_from_each}
 use Rattle.sym_model.proofs.Exponents.{same_refl, same_from, same_apart, same_or_not}
 use Rattle.sym_model.proofs.Polynomials.{coefficient_plus}
+use Rattle.sym_model.proofs.Integers.{product-nonnegative, cond-nonnegative}
 use Rattle.product_laws.specs.CountedProducts.{AreCounts}
 use lib.IntN.{+ℤ_idl, +ℤ_idr}
 
--- ---- products of counts
-
-product_not_negative : (a b : ℤ) → pos 0 ≤ℤ a → pos 0 ≤ℤ b → pos 0 ≤ℤ (a *ℤ b)
-product_not_negative (pos a) (pos b) h k = omega (arith, ints)
-product_not_negative (pos a) (negsuc b) h k = absurd (omega (arith, ints))
-product_not_negative (negsuc a) b h k = absurd (omega (arith, ints))
-
-pub times_at_least : (a b : ℤ) → pos 0 ≤ℤ a → pos 1 ≤ℤ b → a ≤ℤ (a *ℤ b)
-times_at_least (pos a) (pos zero) h k = absurd (omega (arith, ints))
-times_at_least (pos a) (pos (suc b)) h k = let e = mul-suc a b in omega (arith, ints)
-times_at_least (pos a) (negsuc b) h k = absurd (omega (arith, ints))
-times_at_least (negsuc a) b h k = absurd (omega (arith, ints))
-
 -- ---- coefficients of lists of counts
-
-chosen : (b : Bool) (z : ℤ) → pos 0 ≤ℤ z → pos 0 ≤ℤ cond b z (pos 0)
-chosen true z h = h
-chosen false z h = omega (arith, ints)
 
 pub counts-coefficient : (terms : WholeTerms) (α : List ℕ) → AreCounts terms → pos 0 ≤ℤ coefficient terms α
 counts-coefficient [] α h = omega (arith, ints)
 counts-coefficient (t ∷ terms) α h =
     let r = counts-coefficient terms α (λ u m. h u (inr m)) in
-    let c = chosen (same t.0 α) t.1 (h t (inl refl)) in
+    let c = cond-nonnegative (same t.0 α) t.1 (h t (inl refl)) in
     omega (arith, ints)
 
 pub counts-scale : (c : ℤ) (terms : WholeTerms) → pos 0 ≤ℤ c → AreCounts terms → AreCounts (scale c terms)
 counts-scale c terms h k t m =
     let s = Among_from_map (λ (u : Term). let scaled : Term = (u.0, c *ℤ u.1) in scaled) t terms m in
-    subst (λ (z : ℤ). pos 0 ≤ℤ z) (sym (ap (λ (u : Term). u.1) s.2)) (product_not_negative c s.0.1 h (k s.0 s.1))
+    subst (λ (z : ℤ). pos 0 ≤ℤ z) (sym (ap (λ (u : Term). u.1) s.2)) (product-nonnegative c s.0.1 h (k s.0 s.1))
 
 pub counts-each : {A : Type 0} (h : A → WholeTerms) (xs : List A) → ((x : A) → Among x xs → AreCounts (h x)) → AreCounts (each h xs)
 counts-each h xs c t m = let s = Among_from_each h t xs m in c s.0 s.1 t s.2

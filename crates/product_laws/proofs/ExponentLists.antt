@@ -5,7 +5,7 @@ use Rattle.sym_model.specs.Sum.{Among, Once}
 use Rattle.sym_model.specs.Partition.{size}
 use Rattle.sym_model.specs.Bases.{down_from, exponent_lists}
 use Rattle.sym_model.proofs.Sums.{Among-each, Among-map, Among_from_map, Once-each, Once-map}
-use Rattle.schur_laws.proofs.GreatestLetters.{down_from-tells}
+use Rattle.monomial_laws.proofs.Arrangements.{down_from-below}
 
 among_down_from : (a d : ℕ) → a ≤ d → Among a (down_from d)
 among_down_from a zero h = inl (omega arith)
@@ -17,7 +17,7 @@ among_down_from a (suc d) h = by (cases_eq a (suc d)) (λ g. among_down_from a d
 
 once_down_from : (d : ℕ) → Once (down_from d)
 once_down_from zero = (λ m. m, tt)
-once_down_from (suc d) = (λ m. let h = down_from-tells d (suc d) m in absurd (omega arith), once_down_from d)
+once_down_from (suc d) = (λ m. let h = down_from-below d (suc d) m in absurd (omega arith), once_down_from d)
 
 pub among_exponent_lists : (α : List ℕ) (n d : ℕ) → length α ≡ n → size α ≡ d → Among α (exponent_lists n d)
 among_exponent_lists [] zero d l s = subst (λ (b : Bool). Among {A = List ℕ} [] (cond {A = List (List ℕ)} b ([] ∷ []) [])) (sym (eq-eqb d 0 (sym s))) (inl refl)

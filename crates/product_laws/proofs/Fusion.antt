@@ -3,8 +3,8 @@
 --     window_unique         it is an alternating sum, so it can be multiplied by a Schur polynomial
 --     reflected_early       a label may be reflected before it is multiplied
 --     fusion_step           so reflecting after each factor gives what reflecting once gives
-use Rattle.std.proofs.Common.{◌≡◌, ◌⊎◌, ℕ, zero, suc, ◌+◌, ◌%◌, ◌<◌, ◌≤◌, ◌==◌, ◌||◌, Bool, true, false, cond, List, [], ◌∷◌, ◌++◌, map, length, drop, refl, sym, ◌∙◌, ap, ap₂, subst, inl, inr, arith, ℤ, pos, neg_ℤ, ◌*ℤ◌, Option, Some, None}
-use Rattle.std.proofs.lemmas.Bool.{cases_eq, eq-eqb, eqb-true, le-leb, or_right, or_cases}
+use Rattle.std.proofs.Common.{◌≡◌, ◌⊎◌, ℕ, zero, suc, ◌+◌, ◌%◌, ◌<◌, ◌≤◌, ◌==◌, Bool, true, false, cond, List, [], ◌∷◌, ◌++◌, map, length, drop, refl, sym, ◌∙◌, ap, ap₂, subst, inl, inr, arith, ℤ, pos, neg_ℤ, ◌*ℤ◌, Option, Some, None}
+use Rattle.std.proofs.lemmas.Bool.{cases_eq, eq-eqb, eqb-true, le-leb, or_cases}
 use Rattle.std.proofs.lemmas.List.{length-map}
 use Rattle.std.proofs.Math.Nat.{mod-mod, mod-add-mod}
 use Rattle.std.proofs.Math.IntN.{*ℤ-zero, +ℤ_idr}
@@ -29,9 +29,10 @@ use Rattle.alternant_laws.proofs.Alternants.{alternant_exchange, opposite_is_zer
 use Rattle.alternant_laws.proofs.SortedAlternants.{alternant-equal, alternant-sorted}
 use Rattle.beta_list_laws.specs.AlcoveEnd.{remainders, IsAlcoveEnd, past, up}
 use Rattle.beta_list_laws.proofs.Lowest.{strict_falls}
-use Rattle.beta_list_laws.proofs.Windows.{map_append, sorted-map-sorted, last_of, LieIn, narrow_lie, window_back, alcove_only, length-end}
-use Rattle.beta_list_laws.proofs.AlcoveEnds.{equal_map, not_both, remainders_of_ups, matches_up, same_remainders_has, Reduced, alcove_reduced, end_found}
+use Rattle.beta_list_laws.proofs.Windows.{sorted-map-sorted, last_of, LieIn, narrow_lie, window_back, alcove_only, length-end}
+use Rattle.beta_list_laws.proofs.AlcoveEnds.{equal_map, not_both, remainders_of_ups, matches_up, same_remainders_has, Reduced, alcove_reduced, end_found, equal_inside}
 use Rattle.beta_list_laws.proofs.ReducedSums.{alcove_value, alcove_share, reflected_sum}
+use Rattle.beta_list_laws.proofs.BetaLowerings.{map_append}
 use Rattle.product_laws.specs.FactorSteps.{ArePartitions, fused}
 use Rattle.product_laws.proofs.Straightened.{IsShape, at_shape, on_strict, pair-value, at_strict, shape_of_strict}
 use Rattle.product_laws.proofs.ManyFactors.{sums-schur, added, join-beta, pair_shapes, two_value, step_value}
@@ -86,10 +87,6 @@ sorted_value label u sum = value (has_equal_entries u) (size u == sum) (same (fr
 abbrev pub window_value : ℕ → ℕ → List ℕ → List ℕ → ℤ
 window_value n t label b = sorted_value label (ups n t b) (size b)
 
-pub equal_here : (left : List ℕ) (x y : ℕ) (right : List ℕ) → x ≡ y → has_equal_entries (left ++ (x ∷ y ∷ right)) ≡ true
-equal_here [] x y right e = let t : (y == x) ≡ true = eq-eqb y x (sym e) in ap (λ v. (v || has x right) || has_equal_entries (y ∷ right)) t
-equal_here (c ∷ left) x y right e = ap (λ v. has c (left ++ (x ∷ y ∷ right)) || v) (equal_here left x y right e) ∙ or_right (has c (left ++ (x ∷ y ∷ right))) true refl
-
 sorted_value-exchange : (label left : List ℕ) (x y : ℕ) (right : List ℕ) (sum : ℕ) → sorted_value label (left ++ (x ∷ y ∷ right)) sum ≡ neg_ℤ (sorted_value label (left ++ (y ∷ x ∷ right)) sum)
 sorted_value-exchange label left x y right sum = by (cases_eq x y)
   where
@@ -98,8 +95,8 @@ sorted_value-exchange label left x y right sum = by (cases_eq x y)
 
     by : (x ≡ y) ⊎ (x ≡ y → ⊥) → sorted_value label (left ++ (x ∷ y ∷ right)) sum ≡ neg_ℤ (sorted_value label (left ++ (y ∷ x ∷ right)) sum)
     by (inl e) =
-        ap (λ v. value v (size (left ++ (x ∷ y ∷ right)) == sum) (same (from_beta (sorted_falling (left ++ (x ∷ y ∷ right)))) label) (sorting_sign (left ++ (x ∷ y ∷ right)))) (equal_here left x y right e)
-        ∙ sym (ap (λ v. neg_ℤ (value v (size (left ++ (y ∷ x ∷ right)) == sum) (same (from_beta (sorted_falling (left ++ (y ∷ x ∷ right)))) label) (sorting_sign (left ++ (y ∷ x ∷ right))))) (equal_here left y x right (sym e)))
+        ap (λ v. value v (size (left ++ (x ∷ y ∷ right)) == sum) (same (from_beta (sorted_falling (left ++ (x ∷ y ∷ right)))) label) (sorting_sign (left ++ (x ∷ y ∷ right)))) (equal_inside left x y right e)
+        ∙ sym (ap (λ v. neg_ℤ (value v (size (left ++ (y ∷ x ∷ right)) == sum) (same (from_beta (sorted_falling (left ++ (y ∷ x ∷ right)))) label) (sorting_sign (left ++ (y ∷ x ∷ right))))) (equal_inside left y x right (sym e)))
     by (inr n) =
         ap (λ v. value v (size (left ++ (x ∷ y ∷ right)) == sum) (same (from_beta (sorted_falling (left ++ (x ∷ y ∷ right)))) label) (sorting_sign (left ++ (x ∷ y ∷ right)))) (equal-exchange left x y right)
         ∙ ap (λ v. value (has_equal_entries (left ++ (y ∷ x ∷ right))) (v == sum) (same (from_beta (sorted_falling (left ++ (x ∷ y ∷ right)))) label) (sorting_sign (left ++ (x ∷ y ∷ right)))) (size-exchange left x y right)

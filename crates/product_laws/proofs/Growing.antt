@@ -17,13 +17,14 @@ use Rattle.sym_model.proofs.PartitionLists.{partitions_of-tells}
 use Rattle.sym_model.proofs.Exponents.{same_true}
 use Rattle.sym_model.proofs.SortedParts.{IsPartition-none}
 use Rattle.sym_model.proofs.Polynomials.{coefficient_scale}
+use Rattle.sym_model.proofs.Integers.{product-at_least}
 use Rattle.tableau_laws.proofs.ColumnCounts.{contains_nothing}
 use Rattle.alternant_laws.proofs.ClassicalProducts.{classical_product-coefficient, classical_product-term, classical_product-once, IsClassicalTerm}
 use Rattle.alternant_laws.proofs.CountedTerms.{schur_coefficient_of_schur, product_coefficients, coefficient_counts, no_long_labels}
 use Rattle.product_laws.specs.FactorSteps.{ArePartitions, multiplied}
-use Rattle.product_laws.proofs.ManyFactors.{classical_step}
+use Rattle.product_laws.proofs.ManyFactors.{classical_step, are_more}
 use Rattle.product_laws.specs.CountedProducts.{AreCounts, Reaches}
-use Rattle.product_laws.proofs.CountLists.{times_at_least, counts-coefficient, counts-scale, counts-each, coefficient-each, some_term, coefficient_of_once}
+use Rattle.product_laws.proofs.CountLists.{counts-coefficient, counts-scale, counts-each, coefficient-each, some_term, coefficient_of_once}
 use Rattle.product_laws.proofs.SomeLabel.{some_label}
 
 -- a term of the classical product has the Schur coefficient at its label
@@ -162,7 +163,7 @@ step_reaches k c front next p q few one h r =
     let u_counts = two_counts k t.0 next old.partition q u label.1 in
     let u_positive : pos 1 ≤ℤ u.1 = at_least_one u.1 u_counts new.counts in
     let t_counts = h.counts t found.1 in
-    let grows = times_at_least t.1 u.1 t_counts u_positive in
+    let grows = product-at_least t.1 u.1 t_counts u_positive in
     let scaled : coefficient (scale t.1 (classical_product k pair)) u.0 ≡ t.1 *ℤ u.1 = coefficient_scale t.1 (classical_product k pair) u.0 ∙ ap (λ z. t.1 *ℤ z) u_is in
     let within = coefficient-each (λ (v : Term). scale v.1 (classical_product k (v.0 ∷ next ∷ []))) terms t u.0
     (λ v m. counts-scale v.1 (classical_product k (v.0 ∷ next ∷ [])) (h.counts v m) (two_counts k v.0 next (labels_are k front v m) q)) found.1 in
@@ -184,12 +185,6 @@ step_reaches k c front next p q few one h r =
     chain a b c d e f g h i j k l m = omega (arith, ints)
 
 -- ---- with any number of factors more
-
-pub are_more : (front : List (List ℕ)) (next : List ℕ) → ArePartitions front → IsPartition next → ArePartitions (front ++ (next ∷ []))
-are_more [] next p q parts (inl e) = subst IsPartition (sym e) q
-are_more [] next p q parts (inr m) = absurd m
-are_more (x ∷ front) next p q parts (inl e) = p parts (inl e)
-are_more (x ∷ front) next p q parts (inr m) = are_more front next (λ y n. p y (inr n)) q parts m
 
 pub counted-append : (k : ℕ) (front rest : List (List ℕ)) → ArePartitions front → ArePartitions rest → IsCounted k front → IsCounted k (front ++ rest)
 counted-append k front [] p q h = subst (λ factors. IsCounted k factors) (sym (append-nil front)) h

@@ -14,8 +14,8 @@ use Rattle.sym_model.proofs.Exponents.{length-join_same, join_assoc, join_comm, 
 use Rattle.sym_model.proofs.SortedParts.{IsPartition-none}
 use Rattle.sym_model.proofs.Polynomials.{at_only, coefficient_pair, pair_ext, pair_in, pair_one, pair_times, pair_each, pair_scale, pair_determined, same_from_pair, Same_refl, Same_sym, Same_trans, times_respects, In_one, In_times}
 use Rattle.sym_model.proofs.PolynomialLaws.{times_assoc, one-times, times-one}
+use Rattle.sym_model.proofs.Parts.{length-staircase}
 use Rattle.alternant_laws.proofs.TableauInvolution.{symmetric-skew_schur}
-use Rattle.alternant_laws.proofs.Staircase.{length_staircase}
 use Rattle.alternant_laws.proofs.Alternants.{In_alternant}
 use Rattle.alternant_laws.proofs.AlternantProducts.{alternant_times, pair_alternants_over}
 use Rattle.alternant_laws.proofs.GoodAlternants.{In-skew_schur}
@@ -77,12 +77,12 @@ classical_straightened : (k : ℕ) (factors : List (List ℕ)) → ArePartitions
 classical_straightened k factors p =
     same_shapes k (classical_product k factors) (straightened_sum (staircase k) f)
     (λ t m. let c = classical_product-term k factors t m in record { partition = c.partition; few = c.few })
-    (λ t m. straightened-shape k (staircase k) f t (length_staircase k) s.within m)
+    (λ t m. straightened-shape k (staircase k) f t (length-staircase k) s.within m)
     (λ label q.
     classical_product-coefficient k factors label q.partition q.few
     ∙ coefficient_pair (times (alternant (staircase k)) f) (join label (staircase k))
-    ∙ s.sums (staircase k) (at_only (join label (staircase k))) (length_staircase k)
-    ∙ sym (coefficient-straightened k (staircase k) label f (length_staircase k) s.within q))
+    ∙ s.sums (staircase k) (at_only (join label (staircase k))) (length-staircase k)
+    ∙ sym (coefficient-straightened k (staircase k) label f (length-staircase k) s.within q))
   where
     f : Poly
     f = schur_product factors k
@@ -95,8 +95,8 @@ pub classical_pairing : (k : ℕ) (factors : List (List ℕ)) (φ : List ℕ →
 classical_pairing k factors φ p =
     let s = sums-product k factors p in
     pair_determined (classical_product k factors) (straightened_sum (staircase k) (schur_product factors k)) (at_shape k φ) (classical_straightened k factors p)
-    ∙ pair-straightened k (staircase k) (schur_product factors k) φ (length_staircase k) s.within
-    ∙ sym (s.sums (staircase k) φ (length_staircase k))
+    ∙ pair-straightened k (staircase k) (schur_product factors k) φ (length-staircase k) s.within
+    ∙ sym (s.sums (staircase k) φ (length-staircase k))
 
 -- ---- one factor more
 
@@ -119,7 +119,7 @@ moved_out k f next φ =
     (Same_sym _ _ (times_assoc (alternant (staircase k)) f (schur next k)))
     ∙ pair_times (times (alternant (staircase k)) f) (schur next k) φ
 
-are_more : (front : List (List ℕ)) (next : List ℕ) → ArePartitions front → IsPartition next → ArePartitions (front ++ (next ∷ []))
+pub are_more : (front : List (List ℕ)) (next : List ℕ) → ArePartitions front → IsPartition next → ArePartitions (front ++ (next ∷ []))
 are_more [] next p q parts (inl e) = subst IsPartition (sym e) q
 are_more [] next p q parts (inr m) = absurd m
 are_more (x ∷ front) next p q parts (inl e) = p parts (inl e)

@@ -32,17 +32,18 @@ use Rattle.alternant_laws.proofs.SortedAlternants.{alternant-equal, alternant-so
 use Rattle.beta_list_laws.specs.AlcoveEnd.{remainders}
 use Rattle.beta_list_laws.specs.LowestList.{alike, lowest, end_of, end_sign, power_of, reduction_by_remainders}
 use Rattle.beta_list_laws.proofs.Remainders.{test_unlike}
-use Rattle.beta_list_laws.proofs.Windows.{map_append, has_alike, lacks_alike}
+use Rattle.beta_list_laws.proofs.Windows.{has_alike, lacks_alike}
 use Rattle.beta_list_laws.proofs.Ends.{goes_to_end, goes_cells, narrow, wide}
-use Rattle.beta_list_laws.proofs.AlcoveEnds.{equal_map}
-use Rattle.beta_list_laws.proofs.ReducedSums.{reduced_value, reduced_share, reduced_sum}
+use Rattle.beta_list_laws.proofs.AlcoveEnds.{equal_map, equal_inside}
+use Rattle.beta_list_laws.proofs.ReducedSums.{reduced_value, reduced_share, reduced_sum, times_chosen}
 use Rattle.sym_model.specs.WholeTerms.{WholeTerms, WholeTermsOf, coefficient_by, same_power}
 use Rattle.sym_model.specs.Target.{Reduction, classical_product, reduced_terms}
 use Rattle.beta_list_laws.specs.ReductionLists.{reductions_of}
+use Rattle.beta_list_laws.proofs.BetaLowerings.{map_append}
 use Rattle.product_laws.specs.FactorSteps.{ArePartitions, reduced_product, raised, quantized}
 use Rattle.product_laws.proofs.Straightened.{IsShape, at_shape, on_strict, pair-value, at_strict, shape_of_strict}
 use Rattle.product_laws.proofs.ManyFactors.{sums-schur, added, join-beta, pair_shapes, two_value, step_value}
-use Rattle.product_laws.proofs.Fusion.{repeated, equal_here, remainders-join, exchanged_remainders, exchanged_size, exchanged_length}
+use Rattle.product_laws.proofs.Fusion.{repeated, remainders-join, exchanged_remainders, exchanged_size, exchanged_length}
 
 -- ---- lists with no two entries of one remainder
 
@@ -142,7 +143,7 @@ wide_end k n (a ∷ l) e f x =
     let c : columns (from_beta (a ∷ l)) ≡ a - length l = part-from_beta (a ∷ l) 1 in
     omega arith
 
-length-lowest : (n : ℕ) (b : List ℕ) → length (lowest n b) ≡ length b
+pub length-lowest : (n : ℕ) (b : List ℕ) → length (lowest n b) ≡ length b
 length-lowest n [] = refl
 length-lowest n (x ∷ b) = ap suc (length-lowest n b)
 
@@ -186,8 +187,8 @@ sorted_value-exchange k n power label left x y right s = by (cases_eq x y)
 
     by : (x ≡ y) ⊎ (x ≡ y → ⊥) → sorted_value k n power label (left ++ (x ∷ y ∷ right)) s ≡ neg_ℤ (sorted_value k n power label (left ++ (y ∷ x ∷ right)) s)
     by (inl e) =
-        ap (λ t. value t (s == size u + power * n) (same (from_beta (sorted_falling u)) label) (c *ℤ sorting_sign u)) (equal_here left x y right e)
-        ∙ sym (ap (λ t. neg_ℤ (value t (s == size v + power * n) (same (from_beta (sorted_falling v)) label) (c *ℤ sorting_sign v))) (equal_here left y x right (sym e)))
+        ap (λ t. value t (s == size u + power * n) (same (from_beta (sorted_falling u)) label) (c *ℤ sorting_sign u)) (equal_inside left x y right e)
+        ∙ sym (ap (λ t. neg_ℤ (value t (s == size v + power * n) (same (from_beta (sorted_falling v)) label) (c *ℤ sorting_sign v))) (equal_inside left y x right (sym e)))
     by (inr m) =
         ap (λ t. value t (s == size u + power * n) (same (from_beta (sorted_falling u)) label) (c *ℤ sorting_sign u)) (equal-exchange left x y right)
         ∙ ap (λ t. value (has_equal_entries v) (s == t + power * n) (same (from_beta (sorted_falling u)) label) (c *ℤ sorting_sign u)) (size-exchange left x y right)
@@ -457,10 +458,6 @@ powers_determined f xs ys e =
     alike_coded [] = none xs ∙ sym (none ys)
     alike_coded (p ∷ label) = one_label p label xs ∙ e (p, label) ∙ sym (one_label p label ys)
 
-chosen : (t : Bool) (c x : ℤ) → cond t (c *ℤ x) (pos 0) ≡ c *ℤ cond t x (pos 0)
-chosen true c x = refl
-chosen false c x = sym (*ℤ-zero c)
-
 coefficient-raised : (q : ℕ) (c : ℤ) (terms : WholeTermsOf (ℕ × List ℕ)) (power : ℕ) (label : List ℕ)
     → coefficient_by same_power (raised q c terms) (power, label) ≡ c *ℤ within power q (λ p. coefficient_by same_power terms (p, label))
 coefficient-raised q c terms power label =
@@ -471,7 +468,7 @@ coefficient-raised q c terms power label =
         → total (λ (t : (ℕ × List ℕ) × ℤ). cond ((q + t.0.0 == power) && same t.0.1 label) (c *ℤ t.1) (pos 0)) terms ≡ c *ℤ cond v (coefficient_by same_power terms (power - q, label)) (pos 0)
     by true l =
         total_ext (λ (t : (ℕ × List ℕ) × ℤ). cond ((q + t.0.0 == power) && same t.0.1 label) (c *ℤ t.1) (pos 0)) (λ (t : (ℕ × List ℕ) × ℤ). c *ℤ cond ((t.0.0 == power - q) && same t.0.1 label) t.1 (pos 0))
-        (λ t. ap (λ v. cond (v && same t.0.1 label) (c *ℤ t.1) (pos 0)) (moved t.0.0 l) ∙ chosen ((t.0.0 == power - q) && same t.0.1 label) c t.1) terms
+        (λ t. ap (λ v. cond (v && same t.0.1 label) (c *ℤ t.1) (pos 0)) (moved t.0.0 l) ∙ times_chosen ((t.0.0 == power - q) && same t.0.1 label) c t.1) terms
         ∙ total_scale c (λ (t : (ℕ × List ℕ) × ℤ). cond ((t.0.0 == power - q) && same t.0.1 label) t.1 (pos 0)) terms
       where
         moved : (p : ℕ) → nat_le q power ≡ true → (q + p == power) ≡ (p == power - q)

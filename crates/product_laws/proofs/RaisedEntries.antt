@@ -16,6 +16,7 @@ use Rattle.sym_model.proofs.Monomials.{one_place}
 use Rattle.beta_list_laws.specs.StrictFall.{FallsStrictly}
 use Rattle.beta_list_laws.proofs.BetaLists.{strict_tail}
 use Rattle.beta_list_laws.proofs.NeighbourExchanges.{parity_of}
+use Rattle.beta_list_laws.proofs.BetaLowerings.{not_below}
 use Rattle.product_laws.proofs.Overlaps.{Turns}
 
 -- ---- an entry moved past others
@@ -58,11 +59,6 @@ sign_twice k x = elim (parity_of k) [ inl e ↦ ap (λ s. s *ℤ (s *ℤ x)) e.1
     twice x = omega (arith, ints)
 
 -- ---- entries of strict lists
-
--- an entry of a list whose first entry is smaller does not stand in it
-not_below : (y z : ℕ) (b : List ℕ) → FallsStrictly (y ∷ b) → y ≤ z → has z b ≡ false
-not_below y z [] f l = refl
-not_below y z (x ∷ b) f l = let h = f.0 in has_past z x b (λ e. omega (arith, e, h, l)) ∙ not_below x z b f.1 (omega (arith, h, l))
 
 pub strict_distinct : (b : List ℕ) → FallsStrictly b → has_equal_entries b ≡ false
 strict_distinct [] f = refl

@@ -11,12 +11,14 @@ use Rattle.sym_model.proofs.Sums.{total_among, total_none, total_select}
 use Rattle.sym_model.proofs.Exponents.{length-join}
 use Rattle.sym_model.proofs.Polynomials.{pair_times_each, pair_ext, pair_zero, pair_factor, pair_each, pair_times, pair_determined, same_from_pair, times_respects, Same_refl, Same_sym, Same_trans, In_each, In_times}
 use Rattle.sym_model.proofs.PolynomialLaws.{times_assoc, times_comm}
+use Rattle.sym_model.proofs.Parts.{length-staircase}
 use Rattle.monomial_laws.proofs.SchurMajorants.{In-schur}
 use Rattle.alternant_laws.proofs.AlternantProducts.{alternant_times, pair_alternants_over}
-use Rattle.alternant_laws.proofs.Staircase.{length_staircase, staircase_cancels}
+use Rattle.alternant_laws.proofs.Staircase.{staircase_cancels}
 use Rattle.alternant_laws.proofs.SchurProducts.{bialternant, schur_few_variables}
 use lib.IntN.{*ℤ-zero}
-use Rattle.product_laws.proofs.StripShapes.{holds_get, rows_held}
+use Rattle.strip_laws.proofs.Containment.{Holds-get_or}
+use Rattle.product_laws.proofs.StripShapes.{rows_held}
 
 -- a_ρ times a product is an alternant times the other factor
 staircase_first : (n : ℕ) (parts : List ℕ) (f : Poly) (φ : List ℕ → ℤ) → IsPartition parts → rows parts ≤ n → In n f → Symmetric f
@@ -33,7 +35,7 @@ staircase_first n parts f φ p h i s =
     S = schur parts n
 
     long : length (join parts (staircase n)) ≡ n
-    long = let a = length-join parts (staircase n) in let b = length_staircase n in omega arith
+    long = let a = length-join parts (staircase n) in let b = length-staircase n in omega arith
 
     same : Same (times A (times f S)) (times (alternant (join parts (staircase n))) f)
     same =
@@ -64,7 +66,7 @@ strip_product n parts f h c list p i s inside multiple shapes sums = by (cases_l
         ∙ pair_ext f (λ α. pair (schur parts n) (λ β. φ (join α β))) (λ α. pos 0) (λ α. pair_determined (schur parts n) nothing (λ β. φ (join α β)) (schur_few_variables n parts p l))
         ∙ pair_zero f
         ∙ sym (pair_each h list φ ∙ total_none (λ (ν : List ℕ). pair (h ν) φ) list
-        (λ ν m. let q = shapes ν m in let r = rows_held parts ν p.positive (holds_get ν parts q.1) in none ν φ q.0 (omega arith))))
+        (λ ν m. let q = shapes ν m in let r = rows_held parts ν p.positive (Holds-get_or ν parts q.1) in none ν φ q.0 (omega arith))))
 
     one_shape : (φ : List ℕ → ℤ) (ν : List ℕ) → IsPartition ν → cond (nat_le (rows ν) n) (c ν *ℤ pair (alternant (join ν (staircase n))) φ) (pos 0) ≡ pair (times A (h ν)) φ
     one_shape φ ν q = sides (cases_lt n (rows ν))

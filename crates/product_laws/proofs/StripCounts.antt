@@ -15,12 +15,14 @@ use Rattle.sym_model.proofs.Sums.{length_within, Among-map}
 use Rattle.sym_model.proofs.Exponents.{size-join, length-resize}
 use Rattle.sym_model.proofs.SortedParts.{rows_within_size}
 use Rattle.sym_model.proofs.Monomials.{one_place}
+use Rattle.sym_model.proofs.Tableaux.{length-row_lengths}
 use Rattle.alternant_laws.proofs.FallingAlternants.{without_last_zeros-resize}
 use Rattle.product_laws.specs.StripLists.{ListsEach, AddsHorizontalStrip, AddsVerticalStrip, AddsRimHook}
 use Rattle.product_laws.proofs.ExponentLists.{among_exponent_lists}
-use Rattle.product_laws.proofs.StripShapes.{holds_get, join_less, length-less, size-padded}
+use Rattle.product_laws.proofs.StripShapes.{join_less, size-padded}
 use Rattle.product_laws.proofs.RimHookSums.{raised_shape, found}
 use native.Mathlib.Nat.{mul-le-mul_right}
+use Rattle.strip_laws.proofs.Containment.{Holds-get_or}
 
 -- ---- the exponent lists of n places with the sum d are at most n^d
 
@@ -97,7 +99,7 @@ shapes_within k parts S list p held l =
     within ν i =
         let q = (l.members ν).0 i in
         let h : rows ν ≤ size parts + k = let r = rows_within_size ν q.0.positive in let s = q.1 in omega arith in
-        let whole : join m (from ν) ≡ resize n ν = join_less n parts ν (holds_get ν parts (held ν q.2)) in
+        let whole : join m (from ν) ≡ resize n ν = join_less n parts ν (Holds-get_or ν parts (held ν q.2)) in
         let again : to (from ν) ≡ ν = ap without_last_zeros whole ∙ without_last_zeros-resize n ν q.0.positive h in
         let a = size-join m (from ν) in
         let b = ap size whole in
@@ -106,7 +108,7 @@ shapes_within k parts S list p held l =
         let e = q.1 in
         let sized : size (from ν) ≡ k = omega arith in
         subst (λ z. Among z (map to (exponent_lists n k))) again
-        (Among-map to (from ν) (exponent_lists n k) (among_exponent_lists (from ν) n k (length-less (resize n ν) m ∙ length-resize n ν) sized))
+        (Among-map to (from ν) (exponent_lists n k) (among_exponent_lists (from ν) n k (length-row_lengths (resize n ν) m ∙ length-resize n ν) sized))
 
 pub hooks_within : (k : ℕ) (parts : List ℕ) (list : List (List ℕ)) → IsPartition parts → ListsEach (AddsRimHook k parts) list → length list ≤ size parts + k
 hooks_within k parts list p l =

@@ -2,41 +2,26 @@
 use Rattle.std.proofs.Common.{◌≡◌, ℕ, zero, suc, ◌+◌, ◌-◌, ◌≤◌, Bool, true, ◌&&◌, nat_le, List, [], ◌∷◌, length, get_or, refl, sym, ◌∙◌, ap, ap₂, subst, arith, ℤ}
 use Rattle.std.proofs.lemmas.Bool.{and_parts, and_from, le-leb, leb-true}
 use Rattle.sym_model.specs.Sum.{total, select, Among}
-use Rattle.sym_model.specs.Partition.{Falls, ArePositive, IsPartition, Holds, part, rows, size, in_front, without_last_zeros}
+use Rattle.sym_model.specs.Partition.{Falls, ArePositive, IsPartition, Holds, part, rows, size, without_last_zeros}
 use Rattle.sym_model.specs.Polynomial.{join, resize}
 use Rattle.sym_model.specs.Strip.{IsHorizontalStrip, IsVerticalStrip}
 use Rattle.sym_model.specs.Schur.{row_lengths}
 use Rattle.sym_model.specs.GoodTableau.{is_falling}
 use Rattle.sym_model.specs.Bases.{at_most_one, exponent_lists}
 use Rattle.sym_model.proofs.Sums.{total_among, total_bijection, Among-select, Among_from_select, Once-select}
-use Rattle.sym_model.proofs.Exponents.{length-join_same, length-resize, resize_same, size-join}
+use Rattle.sym_model.proofs.Exponents.{length-join_same, length-resize, resize_same, size-join, get_or-join}
 use Rattle.sym_model.proofs.SortedParts.{IsPartition-without_last_zeros, size-without_last_zeros}
 use Rattle.sym_model.proofs.Monomials.{members_of-exponent_lists}
+use Rattle.sym_model.proofs.Parts.{length-without_last_zeros, get_or-without_last_zeros as get-cut}
+use Rattle.sym_model.proofs.Tableaux.{length-row_lengths}
 use Rattle.strip_laws.proofs.Strips.{horizontal_from_rows, horizontal_rows, vertical_from_rows, vertical_rows}
+use Rattle.strip_laws.proofs.Containment.{Holds-get_or}
 use Rattle.tableau_laws.proofs.ColumnCounts.{falling-resize}
-use Rattle.alternant_laws.proofs.OrderSums.{part-join}
-use Rattle.alternant_laws.proofs.FallingAlternants.{resize-without_last_zeros, without_last_zeros-resize, length-without_last_zeros, falls_from_test}
+use Rattle.alternant_laws.proofs.FallingAlternants.{resize-without_last_zeros, without_last_zeros-resize, falls_from_test}
 use Rattle.product_laws.specs.StripLists.{ListsEach}
 use Rattle.product_laws.proofs.ExponentLists.{among_exponent_lists, once_exponent_lists}
 
 -- ---- parts of padded and of cut lists
-
-pub holds_get : (outer inner : List ℕ) → Holds outer inner → (k : ℕ) → get_or inner k 0 ≤ get_or outer k 0
-holds_get outer inner h k = let e : suc k - 1 ≡ k = omega arith in subst (λ j. get_or inner j 0 ≤ get_or outer j 0) e (h (suc k))
-
-get-cut : (l : List ℕ) (k : ℕ) → get_or (without_last_zeros l) k 0 ≡ get_or l k 0
-get-cut [] k = refl
-get-cut (a ∷ l) k = front a (without_last_zeros l) k ∙ rest a l k (λ j. get-cut l j)
-  where
-    front : (a : ℕ) (l : List ℕ) (k : ℕ) → get_or (in_front a l) k 0 ≡ get_or (a ∷ l) k 0
-    front zero [] zero = refl
-    front zero [] (suc k) = refl
-    front zero (b ∷ l) k = refl
-    front (suc a) l k = refl
-
-    rest : (a : ℕ) (l : List ℕ) (k : ℕ) → ((j : ℕ) → get_or (without_last_zeros l) j 0 ≡ get_or l j 0) → get_or (a ∷ without_last_zeros l) k 0 ≡ get_or (a ∷ l) k 0
-    rest a l zero h = refl
-    rest a l (suc k) h = h k
 
 get-padded : (n : ℕ) (parts : List ℕ) (k : ℕ) → length parts ≤ n → get_or (resize n parts) k 0 ≡ get_or parts k 0
 get-padded zero [] k h = refl
@@ -68,11 +53,6 @@ less_join [] [] e = refl
 less_join [] (x ∷ α) e = absurd (omega arith)
 less_join (a ∷ inner) [] e = absurd (omega arith)
 less_join (a ∷ inner) (x ∷ α) e = ap₂ (λ (y : ℕ) l. y ∷ l) (let d : a + x - a ≡ x = omega arith in d) (less_join inner α (omega arith))
-
-pub length-less : (outer inner : List ℕ) → length (row_lengths outer inner) ≡ length outer
-length-less [] inner = refl
-length-less (a ∷ outer) [] = ap suc (length-less outer [])
-length-less (a ∷ outer) (b ∷ inner) = ap suc (length-less outer inner)
 
 -- ---- sums over exponents and over shapes
 
@@ -122,10 +102,10 @@ shapes_total n k parts p few test S sound complete held list l g =
         Among-select (λ (ν : List ℕ). nat_le (rows ν) n) (to α) list ((l.members (to α)).1 (IsPartition-without_last_zeros (join m α) s.0, sizes, s.1)) (le-leb (rows (to α)) n (omega arith))
 
     whole : (ν : List ℕ) → Among ν ys → join m (from ν) ≡ resize n ν
-    whole ν i = join_less n parts ν (holds_get ν parts (held ν (shapes ν i).3))
+    whole ν i = join_less n parts ν (Holds-get_or ν parts (held ν (shapes ν i).3))
 
     long : (ν : List ℕ) → length (from ν) ≡ n
-    long ν = length-less (resize n ν) m ∙ length-resize n ν
+    long ν = length-row_lengths (resize n ν) m ∙ length-resize n ν
 
     again : (ν : List ℕ) → Among ν ys → to (from ν) ≡ ν
     again ν i = let q = shapes ν i in ap without_last_zeros (whole ν i) ∙ without_last_zeros-resize n ν q.1.positive q.0
@@ -192,7 +172,7 @@ below_from (a ∷ b ∷ m) (x ∷ y ∷ α) e h =
 sum_holds : (n : ℕ) (parts α : List ℕ) → rows parts ≤ n → Holds (without_last_zeros (join (resize n parts) α)) parts
 sum_holds n parts α h i =
     let a = get-cut (join (resize n parts) α) (i - 1) in
-    let b = part-join (resize n parts) α (i - 1) in
+    let b = get_or-join (resize n parts) α (i - 1) in
     let c = get-padded n parts (i - 1) h in
     omega (arith, a, b, c)
 
@@ -255,7 +235,7 @@ vertical_sound n parts α h e t =
       vertical_from_rows (without_last_zeros (join (resize n parts) α)) parts (sum_holds n parts α h)
           (λ i o.
           let a = get-cut (join (resize n parts) α) (i - 1) in
-          let b = part-join (resize n parts) α (i - 1) in
+          let b = get_or-join (resize n parts) α (i - 1) in
           let c = get-padded n parts (i - 1) h in
           let d = one_tells α p.0 (i - 1) in
           omega (arith, a, b, c, d)),
@@ -274,5 +254,5 @@ vertical_complete n parts α h e falls s =
         let a = get-cut (join (resize n parts) α) k in
         let b = vertical_rows (without_last_zeros (join (resize n parts) α)) parts s (suc k) (omega arith) in
         let c = get-padded n parts k h in
-        let d = part-join (resize n parts) α k in
+        let d = get_or-join (resize n parts) α k in
         omega (arith, u, v, a, b, c, d)

@@ -2,53 +2,30 @@
 --     collects-more       one term more
 --     refused_product     a sign times a coefficient that does not fit
 --     refused_sum         a sum that does not fit
-use Rattle.std.proofs.Common.{◌≡◌, ◌+◌, ◌^◌, ◌≤◌, inl, inr, Bool, true, false, cond, [], ◌∷◌, ◌++◌, refl, sym, ◌∙◌, ap, subst, arith, ℤ, pos, negsuc, ◌+ℤ◌, ◌*ℤ◌, Some, None, FitsSigned, to_z, of_z, w8}
+use Rattle.std.proofs.Common.{◌≡◌, ◌+◌, ◌^◌, ◌≤◌, inl, inr, Bool, true, false, cond, [], ◌∷◌, ◌++◌, refl, sym, ◌∙◌, ap, subst, arith, ℤ, pos, negsuc, ◌+ℤ◌, ◌*ℤ◌, FitsSigned, to_z, of_z, w8}
 use Rattle.std.specs.Prelude.{nat_abs}
 use Rattle.std.specs.Int.{w128}
 use Rattle.std.proofs.lemmas.Bool.Decides.{nat_tests}
-use Rattle.std.proofs.lemmas.Int.{ints}
 use Rattle.std.proofs.Math.IntN.{+ℤ_idr}
 use Rattle.sym_model.specs.Canonical.{fits_128_bits}
 use Rattle.sym_model.specs.Expansion.{Terms, Fraction}
 use Rattle.sym_model.specs.WholeTerms.{WholeTermsOf, coefficient_by, absolute_total}
 use Rattle.sym_model.proofs.Sums.{total_append}
+use Rattle.sym_model.proofs.Integers.{nat_abs-sum}
 use Rattle.coeff_rings.specs.Fractions.{whole, fraction_sum}
 use Rattle.coeff_rings.specs.Checked.{checked_i128}
 use Rattle.coeff_rings.specs.Proved.Whole.{sum-whole}
+use Rattle.coeff_rings.proofs.Sizes.{refused_size}
 use Rattle.sparse_polys.specs.Combination.{coefficient, HasMoreAt}
 use Rattle.sparse_polys.specs.Refusal.{IsRefused}
 use Rattle.rim_hooks.specs.Collected.{Collects, IsSign}
+use Rattle.rim_hooks.proofs.Reducing.{signed_size}
 
 -- ---- absolute values
-
-pub nat_abs-sum : (a b : ℤ) → nat_abs (a +ℤ b) ≤ nat_abs a + nat_abs b
-nat_abs-sum (pos m) (pos n) = omega (arith, ints)
-nat_abs-sum (pos m) (negsuc n) = omega (arith, ints)
-nat_abs-sum (negsuc m) (pos n) = omega (arith, ints)
-nat_abs-sum (negsuc m) (negsuc n) = omega (arith, ints)
-
-nat_abs-signed : (c sign : ℤ) → IsSign sign → nat_abs (c *ℤ sign) ≡ nat_abs c
-nat_abs-signed c sign (inl e) = ap (λ s. nat_abs (c *ℤ s)) e ∙ by c
-  where
-    by : (z : ℤ) → nat_abs (z *ℤ pos 1) ≡ nat_abs z
-    by (pos n) = omega (arith, ints)
-    by (negsuc n) = omega (arith, ints)
-nat_abs-signed c sign (inr e) = ap (λ s. nat_abs (c *ℤ s)) e ∙ by c
-  where
-    by : (z : ℤ) → nat_abs (z *ℤ negsuc 0) ≡ nat_abs z
-    by (pos n) = omega (arith, ints)
-    by (negsuc n) = omega (arith, ints)
 
 past_bound : (z : ℤ) → fits_128_bits z ≡ false → 2 ^ 127 ≤ nat_abs z
 past_bound (pos n) e = grind (arith, nat_tests)
 past_bound (negsuc n) e = let h : 2 ^ 127 ≤ n = grind (arith, nat_tests) in omega arith
-
-pub unanswered : (z : ℤ) → checked_i128 z ≡ None → 2 ^ 127 ≤ nat_abs z
-unanswered z e = by (fits_128_bits z) refl e
-  where
-    by : (b : Bool) → fits_128_bits z ≡ b → cond b (Some z) None ≡ None → 2 ^ 127 ≤ nat_abs z
-    by true d h = absurd (cc)
-    by false d h = past_bound z d
 
 module _ {L : Type 0} (eq : L → L → Bool) where
   coefficient-push : (before : WholeTermsOf L) (label : L) (z : ℤ) (other : L)
@@ -95,23 +72,16 @@ module _ {L : Type 0} (eq : L → L → Bool) where
   refused_sum before label c sign z old s e was r =
       let left : r.left ≡ coefficient_by eq before label = ap (λ (f : Fraction). f.0) (r.left_value ∙ was label) in
       let right : r.right ≡ c *ℤ sign = ap (λ (f : Fraction). f.0) r.right_value ∙ e in
-      let past = unanswered (r.left +ℤ r.right) r.refused in
+      let past = refused_size (r.left +ℤ r.right) r.refused in
       let sum = nat_abs-sum r.left r.right in
       let a = ap nat_abs left in
-      let b = ap nat_abs right ∙ nat_abs-signed c sign s in
+      let b = ap nat_abs right ∙ signed_size c sign s in
       let w = coefficient_within before label in
       omega arith
 
 pub collects_same : {L : Type 0} (eq : L → L → Bool) (xs ys : WholeTermsOf L) (table : Terms L) → ((label : L) → coefficient_by eq xs label ≡ coefficient_by eq ys label)
     → Collects eq xs table → Collects eq ys table
 collects_same eq xs ys table e was label = was label ∙ ap whole (e label)
-
-pub answered_is : (z s : ℤ) → Some s ≡ checked_i128 z → s ≡ z
-answered_is z s e = by (fits_128_bits z) e
-  where
-    by : (b : Bool) → Some s ≡ cond b (Some z) None → s ≡ z
-    by true h = cc
-    by false h = absurd (cc)
 
 pub kept_wide : (z : ℤ) → IsSign z → to_z w128 (of_z w128 z) ≡ z
 kept_wide z (inl e) = subst (λ y. to_z w128 (of_z w128 y) ≡ y) (sym e) refl

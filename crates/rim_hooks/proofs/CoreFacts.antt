@@ -1,5 +1,5 @@
 -- The end of the removals, made from the sorted lowest list.
-use Rattle.std.proofs.Common.{◌≡◌, ℕ, suc, ◌+◌, ◌-◌, ◌*◌, ◌/◌, ◌<◌, ◌≤◌, Bool, true, false, List, [], ◌∷◌, length, refl, sym, ◌∙◌, ap, ap₂, subst, arith, ℤ, ◌*ℤ◌, Option, Some, None, to_z, of_z, w8}
+use Rattle.std.proofs.Common.{◌≡◌, ℕ, ◌+◌, ◌-◌, ◌*◌, ◌/◌, ◌<◌, ◌≤◌, Bool, true, false, List, length, refl, sym, ◌∙◌, ap, ap₂, subst, arith, ℤ, ◌*ℤ◌, Option, Some, None, to_z, of_z, w8}
 use Rattle.sym_model.specs.Partition.{size, rows, columns}
 use Rattle.sym_model.specs.PlaceOrders.{minus_one_to}
 use Rattle.sym_model.specs.BetaList.{beta, from_beta, sorted_falling, rising_pairs, sorting_sign}
@@ -12,6 +12,7 @@ use Rattle.beta_list_laws.proofs.BetaLists.{length-beta, beta_strict}
 use Rattle.beta_list_laws.proofs.NeighbourExchanges.{length-sorted}
 use Rattle.beta_list_laws.specs.LowestList.{lowest, end_of, power_of, end_sign, reduction_by_remainders}
 use Rattle.beta_list_laws.proofs.Ends.{goes_to_end, goes_cells, goes_partition, goes_rows, wide, narrow, reduces_by_remainders, reduces_only}
+use Rattle.product_laws.proofs.Quantum.{length-lowest}
 use Rattle.rim_hooks.specs.Signs.{sign_of}
 use Rattle.rim_hooks.specs.Sorting.{Sorts}
 use Rattle.rim_hooks.specs.declared.sorted.Sorted.{Sorted}
@@ -19,10 +20,6 @@ use Rattle.rim_hooks.specs.declared.sorted.Sorted.{Sorted}
 pub kept_sign : (b : Bool) → to_z w8 (of_z w8 (sign_of b)) ≡ sign_of b
 kept_sign true = refl
 kept_sign false = refl
-
-length-lowest : (n : ℕ) (b : List ℕ) → length (lowest n b) ≡ length b
-length-lowest n [] = refl
-length-lowest n (x ∷ b) = ap suc (length-lowest n b)
 
 -- what the code holds: the numbers are the sorted lowest list of the partition, and the truth value its sign
 pub record Holds (k n : ℕ) (shape numbers : List ℕ) (odd : Bool) : Type 0 where

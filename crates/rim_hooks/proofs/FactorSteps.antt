@@ -11,6 +11,7 @@ use Rattle.sym_model.specs.Sum.{Among}
 use Rattle.sym_model.specs.Partition.{IsPartition, rows}
 use Rattle.sym_model.specs.WholeTerms.{WholeTermsOf}
 use Rattle.sym_model.specs.ReductionSteps.{StepsLead, step_weight}
+use Rattle.schur_laws.proofs.GoodTableaux.{drop_none}
 use Rattle.product_laws.specs.FactorSteps.{ArePartitions}
 use Rattle.rim_hooks.specs.FactorRows.{HasLong, AreFew}
 use Rattle.rim_hooks.specs.HeavySteps.{HasHeavyStep}
@@ -51,12 +52,8 @@ pub there : {B : Type 0} (xs : List (List ℕ)) (i : ℕ) (r : Option B) (b : B)
     → slice_get xs i ≡ Some (now b)
 there {B} xs i r b now e m = subst (λ (s : Option B). MatchOption s (length xs ≤ i) (λ factor. slice_get xs i ≡ Some (now factor))) e m
 
-pub all_factors : (xs : List (List ℕ)) → drop 0 xs ≡ xs
-all_factors [] = refl
-all_factors (x ∷ xs) = refl
-
 pub first_two : (xs : List (List ℕ)) (x y : List ℕ) → slice_get xs 0 ≡ Some x → slice_get xs 1 ≡ Some y → xs ≡ x ∷ y ∷ drop 2 xs
-first_two xs x y e d = sym (all_factors xs) ∙ factor_at xs 0 x e ∙ ap (λ (l : List (List ℕ)). x ∷ l) (factor_at xs 1 y d)
+first_two xs x y e d = sym (drop_none xs) ∙ factor_at xs 0 x e ∙ ap (λ (l : List (List ℕ)). x ∷ l) (factor_at xs 1 y d)
 
 -- the rest of factors with few rows
 pub few_rest : (k : ℕ) (x : List ℕ) (xs rest : List (List ℕ)) → xs ≡ x ∷ rest → AreFew k xs → AreFew k rest

@@ -27,11 +27,12 @@ use Rattle.beta_list_laws.proofs.AlcoveEnds.{Reduced, alcove_reduced}
 use Rattle.product_laws.specs.FactorSteps.{ArePartitions, fused}
 use Rattle.product_laws.proofs.Fusion.{fusion_step}
 use Rattle.sparse_polys.specs.Combination.{IsCombination, HasSameCoefficients}
+use Rattle.sparse_polys.specs.Labels.{same_partition}
+use Rattle.sparse_polys.proofs.Accumulating.{at_same}
 use Rattle.partitions.specs.FactorList.{cells_of}
 use Rattle.rim_hooks.specs.Collected.{Collects}
 use Rattle.rim_hooks.specs.FactorRows.{AreFew, HasLong, HaveShapeRoom}
 use Rattle.rim_hooks.specs.HeavySteps.{HasHeavyShapes, IsHeavyFusion}
-use Rattle.rim_hooks.proofs.Reducing.{equal_list, list_self}
 use Rattle.rim_hooks.proofs.ClassicalLists.{classical_sizes, classical_long_left, classical_long_right}
 use Rattle.rim_hooks.proofs.CollectedLists.{collected_table, table_read, same_read, label_there, each_append, each_among, each_from, numerator_among, gathered, coefficient-gathered, collected-gathered}
 use Rattle.rim_hooks.proofs.FactorSteps.{last_changed, none_stays, vanishes, factor_at}
@@ -43,8 +44,8 @@ pub fusion_step_table : (k n : ℕ) (factor : List ℕ) (terms : WholeTerms) (ne
     → Collects (pointwise nat_eq) (fused k n factor terms) next → IsCombination (pointwise nat_eq) is_label next
     → IsFusionStep k n factor terms (numerators next)
 fusion_step_table k n factor terms next c t = record {
-  collected = collected_table (pointwise nat_eq) same equal_list list_self same_true same_refl is_label next t;
-  sums = table_read (pointwise nat_eq) same equal_list list_self same_true same_refl is_label (fused k n factor terms) next c t;
+  collected = collected_table (pointwise nat_eq) same same_partition at_same same_true same_refl is_label next t;
+  sums = table_read (pointwise nat_eq) same same_partition at_same same_true same_refl is_label (fused k n factor terms) next c t;
 }
 
 -- another table with the same coefficients
@@ -52,8 +53,8 @@ pub fusion_step_other : (k n : ℕ) (factor : List ℕ) (terms : WholeTerms) (ne
     → IsCombination (pointwise nat_eq) is_label next → IsCombination (pointwise nat_eq) is_label other → HasSameCoefficients (pointwise nat_eq) next other
     → IsFusionStep k n factor terms (numerators next) → IsFusionStep k n factor terms (numerators other)
 fusion_step_other k n factor terms next other t u e s = record {
-  collected = collected_table (pointwise nat_eq) same equal_list list_self same_true same_refl is_label other u;
-  sums = λ label. same_read (pointwise nat_eq) same equal_list list_self same_true same_refl is_label next other t u e label ∙ s.sums label;
+  collected = collected_table (pointwise nat_eq) same same_partition at_same same_true same_refl is_label other u;
+  sums = λ label. same_read (pointwise nat_eq) same same_partition at_same same_true same_refl is_label next other t u e label ∙ s.sums label;
 }
 
 -- ---- room
@@ -120,8 +121,8 @@ pub shapes_left : (k n cells : ℕ) (factor : List ℕ) (terms : WholeTerms) (ne
 shapes_left k n cells factor terms next h p c t u m =
     each_among (ShapeLeaves k cells) (fused k n factor terms) (fused_room k n cells factor terms h p) u.0
     (label_there same same_true same_refl (fused k n factor terms) (numerators next)
-    (collected_table (pointwise nat_eq) same equal_list list_self same_true same_refl is_label next t)
-    (table_read (pointwise nat_eq) same equal_list list_self same_true same_refl is_label (fused k n factor terms) next c t)
+    (collected_table (pointwise nat_eq) same same_partition at_same same_true same_refl is_label next t)
+    (table_read (pointwise nat_eq) same same_partition at_same same_true same_refl is_label (fused k n factor terms) next c t)
     (u.0, u.1.0) (numerator_among u next m))
 
 pub shapes_table : (k cells : ℕ) (terms : Terms (List ℕ)) → HaveShapeRoom k cells terms → EachLabel (ShapeLeaves k cells) (numerators terms)
@@ -148,7 +149,7 @@ shapes_room_next k n at factors factor terms next g e h c t =
 
 -- ---- all steps
 
-are_front : (front back : List (List ℕ)) → ArePartitions (front ++ back) → ArePartitions front
+pub are_front : (front back : List (List ℕ)) → ArePartitions (front ++ back) → ArePartitions front
 are_front front back p parts m = p parts (Among-append_left parts front back m)
 
 later_steps : (k n : ℕ) (front factors : List (List ℕ)) (terms last : WholeTerms) → 1 ≤ n → ArePartitions (front ++ factors)

@@ -16,7 +16,7 @@ use Rattle.sym_model.specs.RimHookReduction.{ReducesTo}
 use Rattle.sym_model.specs.Target.{Reduction, AreReductions, IsRimHookReduction, classical_product, reduced_terms}
 use Rattle.sym_model.specs.ReductionSteps.{classical_weight, shape_of, step_weight, AreCollected, ReduceEach, reduced_each, IsQuantumStep, StepsLead, IsReducedInSteps}
 use Rattle.sym_model.proofs.Ring.{one-product}
-use Rattle.sym_model.proofs.Sums.{Among-append_left, Among-append_right}
+use Rattle.sym_model.proofs.Sums.{Among-append_right}
 use Rattle.beta_list_laws.specs.LowestList.{reduction_by_remainders}
 use Rattle.beta_list_laws.specs.ReductionLists.{reductions_of}
 use Rattle.beta_list_laws.proofs.Ends.{goes_cells, goes_rows, reduces_by_remainders, reduces_only}
@@ -33,6 +33,7 @@ use Rattle.rim_hooks.proofs.Reducing.{equal_power, power_label_self, power_true,
 use Rattle.rim_hooks.proofs.ClassicalLists.{classical_labels, classical_sizes, classical_long_left, classical_long_right}
 use Rattle.rim_hooks.proofs.CollectedLists.{collected_table, table_read, same_read, label_there, each_append, each_among, each_from, numerator_among, gathered, coefficient-gathered, collected-gathered}
 use Rattle.rim_hooks.proofs.FactorSteps.{last_changed, none_stays, vanishes, factor_at}
+use Rattle.rim_hooks.proofs.FusionSteps.{are_front}
 
 -- ---- reductions at each term
 
@@ -182,10 +183,6 @@ powers_room_next k n at factors factor terms next g e h c t =
     (room_table k (size factor + cells_of (drop (at + 1) factors)) terms (room_here k at factors factor terms e h)) c t
 
 -- ---- all steps
-
--- factors put together
-are_front : (front back : List (List ℕ)) → ArePartitions (front ++ back) → ArePartitions front
-are_front front back p parts m = p parts (Among-append_left parts front back m)
 
 later_steps : (k n : ℕ) (front factors : List (List ℕ)) (terms last : PowerTerms) → 1 ≤ n → ArePartitions (front ++ factors)
     → ((label : ℕ × List ℕ) → coefficient_by same_power terms label ≡ coefficient_by same_power (reduced_product k n front) label)

@@ -4,9 +4,8 @@
 --     raised_same                           what is reduced may be replaced by a list with the same coefficients
 --     absolute-raised                       absolute values
 --     quantized_push, quantized_within      one term more of the product with a factor, and its absolute values
-use Rattle.std.proofs.Common.{◌≡◌, ℕ, ◌+◌, ◌*◌, ◌^◌, ◌≤◌, Bool, true, false, cond, List, [], ◌∷◌, ◌++◌, refl, sym, ◌∙◌, ap, ap₂, subst, arith, append-nil, append_assoc, ℤ, pos, negsuc, ◌+ℤ◌, ◌*ℤ◌, Some, None}
+use Rattle.std.proofs.Common.{◌≡◌, ℕ, ◌+◌, ◌*◌, ◌^◌, ◌≤◌, Bool, true, false, cond, List, [], ◌∷◌, ◌++◌, refl, sym, ◌∙◌, ap, ap₂, subst, arith, append-nil, append_assoc, ℤ, pos, ◌+ℤ◌, ◌*ℤ◌, Some, None}
 use Rattle.std.specs.Prelude.{nat_abs}
-use Rattle.std.proofs.lemmas.Int.{ints}
 use Rattle.std.proofs.Math.Nat.{mul-le-mul_left}
 use Rattle.std.proofs.Math.IntN.{*ℤ-zero, +ℤ_idl}
 use Rattle.sym_model.specs.Sum.{total}
@@ -18,6 +17,7 @@ use Rattle.sym_model.specs.ReductionSteps.{classical_weight, shape_of, step_weig
 use Rattle.sym_model.proofs.Ring.{product_assoc, product_left_comm, product-one}
 use Rattle.sym_model.proofs.Sums.{total_ext, total_map, total_append}
 use Rattle.sym_model.proofs.Polynomials.{pair_determined}
+use Rattle.sym_model.proofs.Integers.{nat_abs-product}
 use Rattle.beta_list_laws.specs.LowestList.{reduction_by_remainders}
 use Rattle.beta_list_laws.specs.ReductionLists.{reductions_of}
 use Rattle.product_laws.specs.FactorSteps.{raised, reduced_product, quantized}
@@ -104,12 +104,6 @@ module _ (eq : ℕ × List ℕ → ℕ × List ℕ → Bool) where
       ∙ sym (total_append test before (raised power c (reduced_list k n g)))
 
 -- ---- absolute values
-
-pub nat_abs-product : (a b : ℤ) → nat_abs (a *ℤ b) ≡ nat_abs a * nat_abs b
-nat_abs-product (pos m) (pos n) = omega (arith, ints)
-nat_abs-product (pos m) (negsuc n) = omega (arith, ints)
-nat_abs-product (negsuc m) (pos n) = omega (arith, ints)
-nat_abs-product (negsuc m) (negsuc n) = omega (arith, ints)
 
 pub absolute-raised : (power : ℕ) (c : ℤ) (xs : PowerTerms) → absolute_total (raised power c xs) ≡ nat_abs c * absolute_total xs
 absolute-raised power c [] = omega arith

@@ -2,16 +2,14 @@
 --     core_sign              the sign of a reduction is 1 or -1
 --     collected_read         a list with the coefficients of a table, read back
 --     reduced_within         reductions raise no absolute values
-use Rattle.std.proofs.Common.{◌≡◌, ℕ, zero, suc, ◌+◌, ◌*◌, ◌≤◌, inl, inr, Bool, true, false, cond, nat_le, List, [], ◌∷◌, ◌++◌, map, length, refl, sym, ◌∙◌, ap, ap₂, subst, arith, append-nil, append_assoc, ℤ, pos, negsuc, neg_ℤ, ◌+ℤ◌, ◌*ℤ◌, Some, None}
-use Rattle.std.specs.Prelude.{nat_abs, nat_eq}
-use Rattle.std.specs.Cmp.Lexicographic.{pointwise}
+use Rattle.std.proofs.Common.{◌≡◌, ℕ, zero, suc, ◌+◌, ◌*◌, ◌≤◌, inl, inr, Bool, true, false, cond, nat_le, List, [], ◌∷◌, ◌++◌, map, length, refl, sym, ◌∙◌, ap, ap₂, subst, arith, append_assoc, ℤ, pos, negsuc, neg_ℤ, ◌+ℤ◌, ◌*ℤ◌, Some, None}
+use Rattle.std.specs.Prelude.{nat_abs}
 use Rattle.std.specs.Map.{lookup}
 use Rattle.std.specs.Option.{unwrap_or}
 use Rattle.std.proofs.Math.IntN.{+ℤ_idl, +ℤ_idr}
 use Rattle.std.proofs.lemmas.Int.{ints}
 use Rattle.sym_model.proofs.Ring.{product-one}
 use Rattle.std.proofs.lemmas.Bool.{and_parts, and_from, eq-eqb, eqb-true, both_ways}
-use Rattle.std.proofs.lemmas.Slice.Eq.{bytes_eq-Decides}
 use Rattle.sym_model.specs.Sum.{Among, Once}
 use Rattle.sym_model.specs.Partition.{columns}
 use Rattle.sym_model.specs.PlaceOrders.{minus_one_to}
@@ -22,8 +20,11 @@ use Rattle.sym_model.proofs.Sums.{total_ext}
 use Rattle.sym_model.proofs.Exponents.{same_refl, same_true, tests_agree}
 use Rattle.coeff_rings.specs.Fractions.{whole}
 use Rattle.sparse_polys.specs.Combination.{coefficient, terms_of, HasSameCoefficients}
+use Rattle.sparse_polys.specs.Labels.{same_partition}
 use Rattle.sparse_polys.proofs.Steps.{among-next}
+use Rattle.sparse_polys.proofs.Accumulating.{at_same}
 use Rattle.sym_model.specs.BetaList.{beta, rising_pairs}
+use Rattle.sym_model.proofs.Lists.{all_read}
 use Rattle.beta_list_laws.specs.LowestList.{lowest, end_of, end_sign, power_of, reduction_by_remainders}
 use Rattle.beta_list_laws.specs.ReductionLists.{reductions_of}
 use Rattle.rim_hooks.specs.Collected.{Collects, IsSign}
@@ -55,10 +56,6 @@ numerators-terms (x ∷ xs) = ap (λ l. x ∷ l) (numerators-terms xs)
 pub absolute-append : {L : Type 0} (xs ys : WholeTermsOf L) → absolute_total (xs ++ ys) ≡ absolute_total xs + absolute_total ys
 absolute-append [] ys = omega arith
 absolute-append (x ∷ xs) ys = let e = absolute-append xs ys in omega arith
-
-pub all_read : {A : Type 0} (done rest all : List A) → length rest ≡ 0 → done ++ rest ≡ all → done ≡ all
-all_read done [] all none e = sym (append-nil done) ∙ e
-all_read done (x ∷ rest) all none e = absurd (omega arith)
 
 pub all_done : {L : Type 0} (terms : Terms L) (done : WholeTermsOf L) → terms_of whole done ≡ terms → numerators terms ≡ done
 all_done {L} terms done e = ap (λ (l : Terms L). numerators l) (sym e) ∙ numerators-terms done
@@ -155,20 +152,14 @@ power_true a b e =
 pub power_self : (a : ℕ × List ℕ) → same_power a a ≡ true
 power_self a = and_from _ _ (eq-eqb a.0 a.0 refl) (same_refl a.1)
 
-pub equal_list : (a b : List ℕ) → pointwise nat_eq a b ≡ true → a ≡ b
-equal_list a b h = (bytes_eq-Decides a b).0 h
-
-pub list_self : (a : List ℕ) → pointwise nat_eq a a ≡ true
-list_self a = (bytes_eq-Decides a a).1 refl
-
 pub equal_power : (a b : ℕ × List ℕ) → same_power_label a b ≡ true → a ≡ b
 equal_power a b h =
     let p = and_parts _ _ h in
     let pair : ℕ → List ℕ → ℕ × List ℕ = λ x y. (x, y) in
-    ap₂ pair (eqb-true a.0 b.0 p.0) (equal_list a.1 b.1 p.1)
+    ap₂ pair (eqb-true a.0 b.0 p.0) (same_partition a.1 b.1 p.1)
 
 pub power_label_self : (a : ℕ × List ℕ) → same_power_label a a ≡ true
-power_label_self a = and_from _ _ (eq-eqb a.0 a.0 refl) (list_self a.1)
+power_label_self a = and_from _ _ (eq-eqb a.0 a.0 refl) (at_same a.1)
 
 -- ---- absolute values are not raised by reductions
 

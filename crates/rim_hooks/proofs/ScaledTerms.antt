@@ -16,11 +16,15 @@ use Rattle.sym_model.specs.Target.{classical_product, reflected_term, reflected_
 use Rattle.sym_model.specs.ReductionSteps.{classical_weight, step_weight}
 use Rattle.sym_model.proofs.Exponents.{same_refl, same_true}
 use Rattle.sym_model.proofs.Polynomials.{plus_respects, scale_respects, Same_refl}
+use Rattle.sym_model.proofs.Integers.{nat_abs-product}
 use Rattle.beta_list_laws.proofs.ReducedSums.{reflected_same}
 use Rattle.product_laws.specs.FactorSteps.{fused}
-use Rattle.rim_hooks.proofs.Reducing.{IsMet, absolute-append, met_numerators, collected_same, equal_list, list_self}
+use Rattle.sparse_polys.specs.Labels.{same_partition}
+use Rattle.sparse_polys.proofs.Accumulating.{at_same}
+use Rattle.lr_product.proofs.FactorSums.{scale-append}
+use Rattle.rim_hooks.proofs.Reducing.{IsMet, absolute-append, met_numerators, collected_same}
 use Rattle.rim_hooks.proofs.Reflecting.{reflected_size}
-use Rattle.rim_hooks.proofs.RaisedTerms.{nat_abs-product, weight-append}
+use Rattle.rim_hooks.proofs.RaisedTerms.{weight-append}
 
 -- ---- one term
 
@@ -36,22 +40,18 @@ reflected_append k n (t ∷ xs) ys =
     ap (λ (l : WholeTerms). reflected_term t.1 (alcove_reduction k n t.0) ++ l) (reflected_append k n xs ys)
     ∙ sym (append_assoc (reflected_term t.1 (alcove_reduction k n t.0)) (reflected_terms k n xs) (reflected_terms k n ys))
 
-scale_append : (c : ℤ) (xs ys : WholeTerms) → scale c (xs ++ ys) ≡ scale c xs ++ scale c ys
-scale_append c [] ys = refl
-scale_append c (x ∷ xs) ys = ap (λ (l : WholeTerms). (x.0, c *ℤ x.1) ∷ l) (scale_append c xs ys)
-
 -- the terms so far, and one more
 pub shapes_push : (before : WholeTerms) (c : ℤ) (k n : ℕ) (done : WholeTerms) (p : List ℕ × ℤ)
     → (before ++ scale c (reflected_terms k n done)) ++ scale c (reflected_terms k n (p ∷ [])) ≡ before ++ scale c (reflected_terms k n (done ++ p ∷ []))
 shapes_push before c k n done p =
     append_assoc before (scale c (reflected_terms k n done)) (scale c (reflected_terms k n (p ∷ [])))
     ∙ ap (λ (l : WholeTerms). before ++ l)
-    (sym (scale_append c (reflected_terms k n done) (reflected_terms k n (p ∷ []))) ∙ ap (scale c) (sym (reflected_append k n done (p ∷ []))))
+    (sym (scale-append c (reflected_terms k n done) (reflected_terms k n (p ∷ []))) ∙ ap (scale c) (sym (reflected_append k n done (p ∷ []))))
 
 -- ---- the same coefficients
 
 by_same : (terms : WholeTerms) (label : List ℕ) → coefficient_by (pointwise nat_eq) terms label ≡ coefficient_by same terms label
-by_same terms label = collected_same (pointwise nat_eq) same equal_list list_self same_true same_refl terms label
+by_same terms label = collected_same (pointwise nat_eq) same same_partition at_same same_true same_refl terms label
 
 pub scaled_same : (before : WholeTerms) (c : ℤ) (k n : ℕ) (f g : WholeTerms) (label : List ℕ) → Same f g
     → coefficient_by (pointwise nat_eq) (before ++ scale c (reflected_terms k n f)) label ≡ coefficient_by (pointwise nat_eq) (before ++ scale c (reflected_terms k n g)) label

@@ -155,7 +155,7 @@ inserting_end start first i rows letter h e s =
           ∙ omega arith,
     )
 
-nothing_left : (rows : List (List ℕ)) → drop (length rows) rows ≡ []
+pub nothing_left : (rows : List (List ℕ)) → drop (length rows) rows ≡ []
 nothing_left [] = refl
 nothing_left (row ∷ rows) = nothing_left rows
 

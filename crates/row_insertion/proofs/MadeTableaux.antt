@@ -4,13 +4,14 @@ use Rattle.std.specs.declared.alloc.Global.{Global}
 use Rattle.std.proofs.lemmas.Bool.{and_from}
 use Rattle.std.proofs.lemmas.List.{length-map, map-append, reverse-append, take_more}
 use Rattle.sym_model.specs.Partition.{rows, part, size}
-use Rattle.sym_model.specs.Schur.{row_lengths, letters_of, semistandard}
+use Rattle.sym_model.specs.Schur.{letters_of, semistandard}
 use Rattle.sym_model.specs.Tableau.{SkewFilling, shape_of, are_letters}
 use Rattle.sym_model.specs.TableauList.{reading_cells, letter_of_cell}
 use Rattle.sym_model.proofs.SortedParts.{rows_within_size}
+use Rattle.sym_model.proofs.Lists.{each-append}
+use Rattle.sym_model.proofs.Tableaux.{row_lengths-none}
 use Rattle.partitions.specs.Limits.{IsWithinLimits}
 use Rattle.skew_shapes.specs.CellFillings.{filled_with, is_tableau, row_of}
-use Rattle.skew_shapes.proofs.CellCounts.{each-append}
 use Rattle.skew_shapes.proofs.CellRows.{lengths-rows_by}
 use Rattle.insertion_laws.specs.Rows.{AreRows}
 use Rattle.insertion_laws.proofs.TableauRows.{tableau_from}
@@ -19,10 +20,6 @@ use Rattle.row_insertion.proofs.GrowingRows.{rows_in-at, length-rows_in}
 use Rattle.row_insertion.proofs.Overwriting.{IsWritingRows, length-at}
 
 -- ---- the shape
-
-pub straight_lengths : (outer : List ℕ) → row_lengths outer [] ≡ outer
-straight_lengths [] = refl
-straight_lengths (a ∷ outer) = ap (λ l. a ∷ l) (straight_lengths outer)
 
 pub row_within : (rows : List (Vec ℕ Global)) (i : ℕ) (row : Vec ℕ Global) → i < length rows → row ≡ get_or rows i row → length row.items ≤ size (shape_of (rows_in rows))
 row_within [] i row h e = absurd (omega arith)
@@ -64,7 +61,7 @@ rows_start p shape w filled e f =
       shape =
           ap (λ (t : SkewFilling). shape_of t.rows) g
           ∙ lengths-rows_by (λ row column. letter_of_cell row column (reading_cells (shape_of p) []) w) (shape_of p) []
-          ∙ straight_lengths (shape_of p);
+          ∙ row_lengths-none (shape_of p);
       filling =
           g
           ∙ ap (λ (l : List (List ℕ)). let t : SkewFilling = record { outer = shape_of p; inner = []; rows = l } in t)
@@ -112,7 +109,3 @@ read_more w after row rows (suc i) h l e f a =
     split i [] h = absurd (omega arith)
     split zero (row ∷ rows) h = refl
     split (suc i) (row ∷ rows) h = split i rows (omega arith)
-
-pub nothing_left : (rows : List (List ℕ)) → drop (length rows) rows ≡ []
-nothing_left [] = refl
-nothing_left (row ∷ rows) = nothing_left rows

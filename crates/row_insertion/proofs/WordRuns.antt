@@ -9,6 +9,7 @@ use Rattle.sym_model.specs.StandardTableau.{IsStandard}
 use Rattle.sym_model.specs.Tableau.{SkewFilling, IsTableau, IsStraightTableau, are_letters, shape_of}
 use Rattle.skew_shapes.specs.CellFillings.{IsTableauWithin}
 use Rattle.sym_model.specs.Growth.{grown, with_end}
+use Rattle.sym_model.proofs.Tableaux.{length-letters_of, row_lengths-none}
 use Rattle.insertion_laws.specs.Rows.{HasOneMore, HasCorner}
 use Rattle.insertion_laws.specs.Removal.{removed, row_ending, without_step, steps_back, word_back}
 use Rattle.insertion_laws.specs.Pairs.{IsPairAt}
@@ -16,11 +17,10 @@ use Rattle.insertion_laws.proofs.InsertedRows.{adds_cell}
 use Rattle.insertion_laws.proofs.LastSteps.{corner_found}
 use Rattle.insertion_laws.proofs.RecordedSteps.{step-here, step-below}
 use Rattle.insertion_laws.proofs.Removals.{grown-here, grown-below}
-use Rattle.insertion_laws.proofs.TableauRows.{length-letters, pair_from, standard_from}
+use Rattle.insertion_laws.proofs.TableauRows.{pair_from, standard_from}
 use Rattle.insertion_laws.proofs.WordsAndPairs.{pair_step, pair_before, pair_again, word_again}
 use Rattle.row_insertion.specs.Pairs.{HaveOneShape, IsTheWordOf}
 use Rattle.row_insertion.specs.RowLists.{without_end}
-use Rattle.row_insertion.proofs.MadeTableaux.{straight_lengths}
 use Rattle.row_insertion.proofs.ShrinkingRows.{without_ending}
 
 -- ---- the row that has grown
@@ -160,7 +160,7 @@ pub unwinding_ends :
     → word ≡ reverse letters → IsUnwinding p q n step now after letters → IsTheWordOf word p q
 unwinding_ends p q n step now after letters word e f s =
     let same : steps_back n p q ≡ word = s.word ∙ ap (λ k. steps_back k now after ++ reverse letters) e ∙ sym f in
-    let count : length (letters_of q) ≡ n = length-letters q ∙ s.start.cells in
+    let count : length (letters_of q) ≡ n = length-letters_of q ∙ s.start.cells in
     record {
       inserted = ap insertion_pair (sym same) ∙ pair_again 1 n p q s.start;
       only = λ other g.
@@ -171,7 +171,7 @@ unwinding_ends p q n step now after letters word e f s =
 
 straight_shape :
     (t : SkewFilling) (rows : List (List ℕ)) → shape_of rows ≡ row_lengths t.outer t.inner → t.inner ≡ [] → shape_of rows ≡ t.outer
-straight_shape t rows h e = h ∙ ap (row_lengths t.outer) e ∙ straight_lengths t.outer
+straight_shape t rows h e = h ∙ ap (row_lengths t.outer) e ∙ row_lengths-none t.outer
 
 -- p and q as they are copied
 pub given_pair :
@@ -186,7 +186,7 @@ given_pair p q n ps qs h s o e a b f g =
     let same : shape_of p.rows ≡ shape_of q.rows = shape_p ∙ o.same ∙ sym shape_q in
     let none : size p.inner ≡ 0 = ap size o.p_straight in
     let count : length (letters_of q.rows) ≡ n =
-    omega (arith, length-letters q.rows, ap size (shape_q ∙ sym o.same)) in
+    omega (arith, length-letters_of q.rows, ap size (shape_q ∙ sym o.same)) in
     subst (λ k. IsPairAt 1 k p.rows q.rows) count (pair_from p.rows q.rows straight s same)
 
 pub unwinding_given :

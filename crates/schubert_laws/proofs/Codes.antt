@@ -9,13 +9,13 @@ use Rattle.sym_model.specs.Partition.{size, after}
 use Rattle.sym_model.specs.PlaceOrders.{places, smaller, inversions}
 use Rattle.sym_model.specs.Permutation.{IsOneLine, kept, code, IsCode, letters_by_code, from_code}
 use Rattle.sym_model.proofs.Sums.{total_within}
-use Rattle.schubert_laws.proofs.Dominant.{counted, not_counted}
 use Rattle.schubert_laws.proofs.FixedLetters.{code_added}
 use Rattle.schubert_laws.proofs.FixedTails.{one_line_next, next_after, one_line_kept}
-use Rattle.schubert_laws.proofs.LowerPermutations.{kept_whole}
+use Rattle.schubert_laws.proofs.LowerPermutations.{kept_whole, smaller_of_none}
 use Rattle.schubert_laws.proofs.PathsFromOne.{below_next}
 use Rattle.schubert_laws.proofs.Swaps.{among_get}
 use Rattle.sym_model.proofs.AfterLists.{length_after, after_among, among_after}
+use Rattle.sym_model.proofs.Numbers.{counts-not_less, counts-less}
 
 -- ---- the code of a list
 
@@ -28,7 +28,7 @@ length-code [] = refl
 length-code (a ∷ w) = ap suc (length-code w)
 
 counts_one : (x y : ℕ) → cond {A = ℕ} (nat_lt x y) 1 0 ≤ 1
-counts_one x y = elim (cases_lt x y) [ inl l ↦ let c = counted x y l in omega arith | inr l ↦ let c = not_counted x y l in omega arith ]
+counts_one x y = elim (cases_lt x y) [ inl l ↦ let c = counts-less x y l in omega arith | inr l ↦ let c = counts-not_less x y l in omega arith ]
 
 smaller_most : (a : ℕ) (w : List ℕ) → smaller a w ≤ length w
 smaller_most a [] = omega arith
@@ -71,20 +71,16 @@ smaller-remove x c [] h = absurd (omega arith)
 smaller-remove x zero (y ∷ l) h = refl
 smaller-remove x (suc c) (y ∷ l) h = let e = smaller-remove x c l (omega arith) in omega arith
 
-smaller_none : (x : ℕ) (l : List ℕ) → ((y : ℕ) → Among y l → x ≤ y) → smaller x l ≡ 0
-smaller_none x [] h = refl
-smaller_none x (y ∷ l) h = let c = not_counted y x (h y (inl refl)) in let e = smaller_none x l (λ z m. h z (inr m)) in omega arith
-
 weak : (x : ℕ) (l : List ℕ) → ((y : ℕ) → Among y l → x < y) → (y : ℕ) → Among y l → x ≤ y
 weak x l h y m = let k = h y m in omega arith
 
 -- the entry with c smaller ones is that after the first c
 smaller_index : (c : ℕ) (l : List ℕ) → Ascends l → c < length l → smaller (get_or l c 0) l ≡ c
 smaller_index c [] a h = absurd (omega arith)
-smaller_index zero (x ∷ l) a h = let n = not_counted x x (omega arith) in let e = smaller_none x l (weak x l a.0) in omega arith
+smaller_index zero (x ∷ l) a h = let n = counts-not_less x x (omega arith) in let e = smaller_of_none x l (weak x l a.0) in omega arith
 smaller_index (suc c) (x ∷ l) a h =
     let e = smaller_index c l a.1 (omega arith) in
-    let n = counted x (get_or l c 0) (a.0 (get_or l c 0) (among_get c 0 l (omega arith))) in
+    let n = counts-less x (get_or l c 0) (a.0 (get_or l c 0) (among_get c 0 l (omega arith))) in
     omega arith
 
 -- ---- from a code to its letters
@@ -116,7 +112,7 @@ code-letters (c ∷ cs) l i e a =
     let s = smaller-letters (get_or l c 0) cs (remove l c) i.1 (omega arith) in
     let t = smaller-remove (get_or l c 0) c l (omega arith) in
     let u = smaller_index c l a (omega arith) in
-    let z = not_counted (get_or l c 0) (get_or l c 0) (omega arith) in
+    let z = counts-not_less (get_or l c 0) (get_or l c 0) (omega arith) in
     ap₂ ◌∷◌ (omega arith) (code-letters cs (remove l c) i.1 (omega arith) (ascends_remove c l a))
 
 among-letters : (y : ℕ) (cs l : List ℕ) → IsCode cs → length l ≡ length cs → Among y (letters_by_code cs l) → Among y l
@@ -193,20 +189,20 @@ found : (a : ℕ) (l : List ℕ) → Ascends l → smaller a l < smaller (suc a)
 found a [] s h = absurd (omega arith)
 found a (y ∷ l) s h = elim (cases_lt y a) [
   | inl k ↦
-      let p = counted y a k in
-      let q = counted y (suc a) (omega arith) in
+      let p = counts-less y a k in
+      let q = counts-less y (suc a) (omega arith) in
       let r = found a l s.1 (omega arith) in
       let e : smaller a (y ∷ l) ≡ suc (smaller a l) = omega arith in
       ap (λ n. get_or (y ∷ l) n 0) e ∙ r
   | inr k ↦ elim (cases_eq y a) [
     | inl d ↦
-        let p = not_counted y a k in
-        let z = smaller_none a l (λ x m. let g = s.0 x m in omega arith) in
+        let p = counts-not_less y a k in
+        let z = smaller_of_none a l (λ x m. let g = s.0 x m in omega arith) in
         let e : smaller a (y ∷ l) ≡ 0 = omega arith in
         ap (λ n. get_or (y ∷ l) n 0) e ∙ d
     | inr n ↦
-        let p = not_counted y (suc a) (omega arith) in
-        let z = smaller_none (suc a) l (λ x m. let g = s.0 x m in omega arith) in
+        let p = counts-not_less y (suc a) (omega arith) in
+        let z = smaller_of_none (suc a) l (λ x m. let g = s.0 x m in omega arith) in
         absurd (omega arith)
   ]
 ]
@@ -216,10 +212,10 @@ letters-code [] [] s r = refl
 letters-code [] (x ∷ l) s r = absurd (let e = r.lengths in omega arith)
 letters-code (a ∷ w) l s r =
     let rl = r.lengths in
-    let own = not_counted a a (omega arith) in
+    let own = counts-not_less a a (omega arith) in
     let here = r.counts a in
     let next = r.counts (suc a) in
-    let up = counted a (suc a) (omega arith) in
+    let up = counts-less a (suc a) (omega arith) in
     let more = smaller_grows a w in
     let c : smaller a w ≡ smaller a l = omega arith in
     let inside = smaller_below_length a l (omega arith) in
@@ -237,8 +233,8 @@ letters-code (a ∷ w) l s r =
     smaller_grows : (b : ℕ) (v : List ℕ) → smaller b v ≤ smaller (suc b) v
     smaller_grows b [] = omega arith
     smaller_grows b (y ∷ v) = let e = smaller_grows b v in elim (cases_lt y b) [
-      | inl k ↦ let p = counted y b k in let q = counted y (suc b) (omega arith) in omega arith
-      | inr k ↦ let p = not_counted y b k in omega arith
+      | inl k ↦ let p = counts-less y b k in let q = counts-less y (suc b) (omega arith) in omega arith
+      | inr k ↦ let p = counts-not_less y b k in omega arith
     ]
 
     smaller_below_length : (b : ℕ) (v : List ℕ) → smaller b v < smaller (suc b) v → smaller b v < length v

@@ -16,6 +16,7 @@ use Rattle.sym_model.specs.Schubert.{schubert, schubert_over}
 use Rattle.sym_model.proofs.Ring.{one-product}
 use Rattle.sym_model.proofs.SortedParts.{Falls_tail}
 use Rattle.sym_model.proofs.Polynomials.{same_from_pair}
+use Rattle.sym_model.proofs.Numbers.{counts-not_less, counts-less}
 use Rattle.schubert_laws.proofs.Climbs.{across}
 use Rattle.schubert_laws.proofs.Differences.{along, pair_differences}
 use Rattle.schubert_laws.proofs.Exchanges.{exchange_at, Rises, IsFirstAscent, first_ascent_cases, rising_pairs_exchange, length-exchange_at}
@@ -26,19 +27,6 @@ pub pair_x_to : (α : List ℕ) (φ : List ℕ → ℤ) → pair (x_to α) φ �
 pair_x_to α φ = +ℤ_idr _ ∙ one-product (φ α)
 
 -- ---- lists of different letters
-
-pub not_less : (x y : ℕ) → y ≤ x → nat_lt x y ≡ false
-not_less x y h = by (nat_lt x y) refl
-  where
-    by : (t : Bool) → nat_lt x y ≡ t → t ≡ false
-    by true e = absurd (omega (arith, ltb-true x y e))
-    by false e = refl
-
-pub counted : (x y : ℕ) → x < y → cond {A = ℕ} (nat_lt x y) 1 0 ≡ 1
-counted x y h = ap (λ t. cond t 1 0) (lt-ltb x y h)
-
-pub not_counted : (x y : ℕ) → y ≤ x → cond {A = ℕ} (nat_lt x y) 1 0 ≡ 0
-not_counted x y h = ap (λ t. cond t 1 0) (not_less x y h)
 
 pub smaller_exchange : (x k : ℕ) (w : List ℕ) → smaller x (exchange_at k w) ≡ smaller x w
 smaller_exchange x zero [] = refl
@@ -142,14 +130,14 @@ one_up zero (a ∷ []) f r = absurd r
 one_up zero (a ∷ b ∷ w) f r =
     let h = f.0 in
     let s = smaller_step a b w (omega arith) in
-    let d = not_counted b a (omega arith) in
-    let u = counted a b r in
+    let d = counts-not_less b a (omega arith) in
+    let u = counts-less a b r in
     (omega arith, ap₂ (λ x y. x ∷ y ∷ code w) (omega arith) (omega arith))
 one_up (suc k) (a ∷ w) f r = (sym (smaller_exchange a k w), one_up k w (Falls_tail (smaller a w) (code w) f) r)
 
 smaller_below : (a b : ℕ) (w : List ℕ) → b < a → suc (smaller b w) ≤ smaller a (b ∷ w)
 smaller_below a b w h =
-    let e = counted b a h in
+    let e = counts-less b a h in
     let s = smaller_step b a w (omega arith) in
     omega arith
 
@@ -158,7 +146,7 @@ falls_exchange k [] o f r n = absurd r
 falls_exchange zero (a ∷ []) o f r n = absurd r
 falls_exchange zero (a ∷ b ∷ w) o f r n =
     let u = one_up zero (a ∷ b ∷ w) f r in
-    let d = not_counted b a (omega arith) in
+    let d = counts-not_less b a (omega arith) in
     let e : smaller b w ≡ smaller a w = let h = u.0 in omega arith in
     (omega (arith, e), subst (λ x. Falls (x ∷ code w)) e f.1)
 falls_exchange (suc zero) (a ∷ []) o f r n = absurd r

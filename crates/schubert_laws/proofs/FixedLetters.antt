@@ -15,16 +15,14 @@ use Rattle.schubert_laws.proofs.Differences.{along, pair_differences}
 use Rattle.schubert_laws.proofs.Exchanges.{exchange_at, Rises, IsFirstAscent, first_ascent_cases, rising_pairs_exchange, length-exchange_at, rises_within}
 use Rattle.schubert_laws.proofs.DifferenceLaws.{differences_respect, In_differences}
 use Rattle.schubert_laws.proofs.Paths.{any_ascent, over_top, over_first}
-use Rattle.schubert_laws.proofs.Dominant.{pair_x_to, dominant, over_exchange, not_counted, once_exchange, among_exchange, code_no_ascent}
+use Rattle.schubert_laws.proofs.Dominant.{pair_x_to, dominant, over_exchange, once_exchange, among_exchange, code_no_ascent}
 use Rattle.schubert_laws.proofs.DifferencesFromOne.{In_divided}
 use Rattle.std.specs.Option.{option_map_or}
 use Rattle.sym_model.proofs.Sums.{Among_from_append}
+use Rattle.sym_model.proofs.Parts.{length-staircase}
+use Rattle.sym_model.proofs.Numbers.{counts-not_less}
 
 -- ---- the number of variables of a Schubert polynomial
-
-pub length-staircase : (n : ℕ) → length (staircase n) ≡ n
-length-staircase zero = refl
-length-staircase (suc n) = ap suc (length-staircase n)
 
 pub In_x_to : (n : ℕ) (α : List ℕ) → length α ≡ n → In n (x_to α)
 In_x_to n α e t (inl d) = ap (λ (s : Term). length s.0) d ∙ e
@@ -75,7 +73,7 @@ differences_one_more k n f i h =
 -- ---- a fixed letter added
 
 pub smaller_added : (a m : ℕ) (w : List ℕ) → a < m → smaller a (w ++ (m ∷ [])) ≡ smaller a w
-smaller_added a m [] h = let e = not_counted m a (omega arith) in omega arith
+smaller_added a m [] h = let e = counts-not_less m a (omega arith) in omega arith
 smaller_added a m (b ∷ w) h = ap (λ n. cond (nat_lt b a) 1 0 + n) (smaller_added a m w h)
 
 pub code_added : (m : ℕ) (w : List ℕ) → ((a : ℕ) → Among a w → a < m) → code (w ++ (m ∷ [])) ≡ code w ++ (0 ∷ [])

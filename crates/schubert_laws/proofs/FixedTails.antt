@@ -13,19 +13,10 @@ use Rattle.sym_model.specs.BetaList.{greater, rising_pairs}
 use Rattle.sym_model.specs.Permutation.{IsOneLine, in_front_unless_fixed, without_fixed_from, kept}
 use Rattle.sym_model.specs.Schubert.{schubert_in}
 use Rattle.sym_model.proofs.Sums.{Among_from_append, Among-append_left, Among-append_right}
-use Rattle.schubert_laws.proofs.Dominant.{counted, not_counted}
 use Rattle.schubert_laws.proofs.FixedLetters.{once_added, smaller_added}
 use Rattle.schubert_laws.proofs.PathsFromOne.{below_next, fixed_letter_in}
 use Rattle.sym_model.proofs.AfterLists.{length_after, among_after}
-
--- ---- the numbers after a
-
-pub after_more : (a j k : ℕ) → after a (j + k) ≡ after a j ++ after (a + j) k
-after_more a zero k = let e : 0 + k ≡ k = omega arith in let d : a ≡ a + 0 = omega arith in ap₂ after d e
-after_more a (suc j) k =
-    let e : suc j + k ≡ suc (j + k) = omega arith in
-    let d : a + 1 + j ≡ a + suc j = omega arith in
-    ap (after a) e ∙ ap (λ l. (a + 1) ∷ l) (after_more (a + 1) j k ∙ ap (λ b. after (a + 1) j ++ after b k) d)
+use Rattle.sym_model.proofs.Numbers.{counts-not_less, counts-less}
 
 -- ---- fixed letters added one at a time
 
@@ -146,8 +137,8 @@ greater_or_smaller a [] n = refl
 greater_or_smaller a (b ∷ w) n =
     let e = greater_or_smaller a w (λ m. n (inr m)) in
     elim (cases_lt a b) [
-      | inl l ↦ let p = counted a b l in let q = not_counted b a (omega arith) in omega arith
-      | inr l ↦ let q = counted b a (strict (λ d. n (inl d)) l) in let p = not_counted a b l in omega arith
+      | inl l ↦ let p = counts-less a b l in let q = counts-not_less b a (omega arith) in omega arith
+      | inr l ↦ let q = counts-less b a (strict (λ d. n (inl d)) l) in let p = counts-not_less a b l in omega arith
     ]
   where
     strict : (a ≡ b → ⊥) → b ≤ a → b < a

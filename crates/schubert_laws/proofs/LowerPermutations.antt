@@ -16,14 +16,17 @@ use Rattle.sym_model.specs.Schubert.{schubert, schubert_in}
 use Rattle.sym_model.proofs.Polynomials.{Same_trans, restrict_respects}
 use Rattle.sym_model.proofs.PolynomialLaws.{restrict-one}
 use Rattle.sym_model.proofs.Sums.{Among_from_map, Among_from_select}
-use Rattle.schubert_laws.proofs.Dominant.{not_less, not_counted, dominant}
+use Rattle.schubert_laws.proofs.Dominant.{dominant}
 use Rattle.schubert_laws.proofs.FixedTails.{one_line_next, next_after, one_line_kept, kept_tail, inversions_kept, one_more_inversion, one_less_rising}
 use Rattle.schubert_laws.proofs.PathsFromOne.{below_next}
-use Rattle.schubert_laws.proofs.Swaps.{swap_at, length-swap_at, default_free, raises, get_swap_left, get_swap_right, among_get}
+use Rattle.schubert_laws.proofs.Swaps.{swap_at, length-swap_at, raises, get_swap_left, get_swap_right, among_get}
 use Rattle.schubert_laws.proofs.MonkFromOne.{one_line_swap}
 use Rattle.schubert_laws.proofs.Transition.{IsStep, RisesFrom, last_descent_is, raises_by_one, rises_chain, strict_get, get_swap_other, once_get}
 use Rattle.schubert_laws.proofs.TransitionFromOne.{step_of, kept_swap, covers_down_kept, get_past}
 use Rattle.sym_model.proofs.AfterLists.{after_among}
+use Rattle.sym_model.proofs.Numbers.{counts-not_less, nat_lt-false}
+use Rattle.sym_model.proofs.Lists.{get_or-any}
+use Rattle.sym_model.proofs.Parts.{Falls-zeros}
 
 -- ---- fixed letters change neither letters nor descents
 
@@ -48,7 +51,7 @@ letter_added (suc k) w i h = ap (λ v. letter v i) (next_after w k) ∙ letter_a
 -- a last letter that is greater than all others
 last_descent_next : (m : ℕ) (w : List ℕ) → ((a : ℕ) → Among a w → a < m) → last_descent (w ++ (m ∷ [])) ≡ last_descent w
 last_descent_next m [] h = refl
-last_descent_next m (a ∷ []) h = ap (λ t. cond t (Some 1) None) (not_less m a (let g = h a (inl refl) in omega arith))
+last_descent_next m (a ∷ []) h = ap (λ t. cond t (Some 1) None) (nat_lt-false m a (let g = h a (inl refl) in omega arith))
 last_descent_next m (a ∷ b ∷ w) h = ap (λ o. option_or (option_map suc o) (cond (nat_lt b a) (Some 1) None)) (last_descent_next m (b ∷ w) (λ x i. h x (inr i)))
 
 pub last_descent_added : (k : ℕ) (w : List ℕ) → IsOneLine w → last_descent (w ++ after (length w) k) ≡ last_descent w
@@ -141,7 +144,7 @@ earlier y q top r l t = by (last_descent y) refl
           | inr h ↦ elim (cases_eq f.0 q) [
             | inl g ↦
                 let i : last_descent_place y - 1 ≡ q = omega arith in
-                let x = ap (λ j. get_or y j (last_descent_place y)) i ∙ default_free y q (last_descent_place y) 0 l in
+                let x = ap (λ j. get_or y j (last_descent_place y)) i ∙ get_or-any y q (last_descent_place y) 0 l in
                 inr (omega arith, omega arith)
             | inr n ↦ let x = r f.0 (omega arith) f2 in absurd (omega arith)
           ]
@@ -179,7 +182,7 @@ lowered_cover w p q b o s d h e =
     let dk : last_descent_place (kept (swap_at p q (swap_at q b w))) ≡ last_descent_place (swap_at p q (swap_at q b w)) = ap (λ t. unwrap_or t 0) (last_descent_kept (swap_at p q (swap_at q b w)) oy) in
     let dw : last_descent_place w ≡ suc q = ap (λ t. unwrap_or t 0) d in
     let i : suc q - 1 ≡ q = omega arith in
-    let lw = ap (letter w) dw ∙ ap (λ t. get_or w t (suc q)) i ∙ default_free w q (suc q) 0 (omega arith) in
+    let lw = ap (letter w) dw ∙ ap (λ t. get_or w t (suc q)) i ∙ get_or-any w q (suc q) 0 (omega arith) in
     inr (
       omega arith,
       elim ear [
@@ -270,9 +273,9 @@ transition_exists w r o e =
     let c1 = c.1.1 in
     let c2 = c.1.2 in
     let i : r - 1 ≡ f.0 = omega arith in
-    let lr = ap (λ t. get_or w t r) i ∙ default_free w f.0 r 0 (omega arith) in
+    let lr = ap (λ t. get_or w t r) i ∙ get_or-any w f.0 r 0 (omega arith) in
     let j : suc c.0 - 1 ≡ c.0 = omega arith in
-    let ls = ap (λ t. get_or w t (suc c.0)) j ∙ default_free w c.0 (suc c.0) 0 (omega arith) in
+    let ls = ap (λ t. get_or w t (suc c.0)) j ∙ get_or-any w c.0 (suc c.0) 0 (omega arith) in
     let m = (o.letters (get_or w f.0 0) (among_get f.0 0 w (omega arith))).1 in (
       suc c.0,
       record {
@@ -281,7 +284,7 @@ transition_exists w r o e =
         smaller = omega arith;
         last = λ d h. elim (cases_lt (d - 1) (length w)) [
           | inl l ↦
-              let x = default_free w (d - 1) d 0 l in
+              let x = get_or-any w (d - 1) d 0 l in
               let y = c.1.3 (d - 1) (omega arith) (omega arith) in
               omega arith
           | inr l ↦ let x = get_past w (d - 1) d l in omega arith
@@ -291,10 +294,10 @@ transition_exists w r o e =
 
 -- ---- the identity
 
-smaller_of_none : (a : ℕ) (w : List ℕ) → ((b : ℕ) → Among b w → a ≤ b) → smaller a w ≡ 0
+pub smaller_of_none : (a : ℕ) (w : List ℕ) → ((b : ℕ) → Among b w → a ≤ b) → smaller a w ≡ 0
 smaller_of_none a [] h = refl
 smaller_of_none a (b ∷ w) h =
-    let c = not_counted b a (h b (inl refl)) in
+    let c = counts-not_less b a (h b (inl refl)) in
     let e = smaller_of_none a w (λ x i. h x (inr i)) in
     omega arith
 
@@ -313,14 +316,9 @@ code_never_falls : (w : List ℕ) → NeverFalls w → code w ≡ replicate (len
 code_never_falls [] n = refl
 code_never_falls (a ∷ w) n = ap₂ ◌∷◌ (smaller_of_none a w (first_least a w n)) (code_never_falls w (λ i h. n (suc i) (omega arith)))
 
-falls_zeros : (n : ℕ) → Falls (replicate n 0)
-falls_zeros zero = tt
-falls_zeros (suc zero) = tt
-falls_zeros (suc (suc n)) = (omega arith, falls_zeros (suc n))
-
 pub identity_is_one : (w : List ℕ) (n : ℕ) → IsOneLine w → last_descent w ≡ None → Same (schubert_in w n) (one n)
 identity_is_one w n o e =
     let c = code_never_falls w (last_descent_is w None e) in
     Same_trans (restrict n (schubert w)) (restrict n (one (length w))) (one n)
-    (restrict_respects n (schubert w) (one (length w)) (λ α. dominant w o.once (subst Falls (sym c) (falls_zeros (length w))) α ∙ ap (λ d. coefficient (x_to d) α) c))
+    (restrict_respects n (schubert w) (one (length w)) (λ α. dominant w o.once (subst Falls (sym c) (Falls-zeros (length w))) α ∙ ap (λ d. coefficient (x_to d) α) c))
     (restrict-one n (length w))

@@ -19,21 +19,22 @@ use Rattle.sym_model.proofs.Polynomials.{pair_plus, pair_negate, pair_each, pair
 use Rattle.sym_model.proofs.PolynomialLaws.{restrict-times}
 use Rattle.schubert_laws.proofs.DifferenceLaws.{variable_after}
 use Rattle.schubert_laws.proofs.DifferencesFromOne.{variable_is}
-use Rattle.schubert_laws.proofs.FixedTails.{after_more, one_line_added, schubert_added, inversions_added, schubert_kept, inversions_kept, one_more_inversion, one_less_rising}
+use Rattle.schubert_laws.proofs.FixedTails.{one_line_added, schubert_added, inversions_added, schubert_kept, inversions_kept, one_more_inversion, one_less_rising}
 use Rattle.schubert_laws.proofs.PathsFromOne.{below_next}
-use Rattle.schubert_laws.proofs.Swaps.{swap_at, length-swap_at, default_free, among_swap, once_swap}
+use Rattle.schubert_laws.proofs.Swaps.{swap_at, length-swap_at, among_swap, once_swap}
 use Rattle.schubert_laws.proofs.PlaceSums.{sum_below, sum_below_ext}
 use Rattle.schubert_laws.proofs.MonkStep.{covered, value, signed_up, signed_down, signed_same, covered_sym, IsMonk}
 use Rattle.schubert_laws.proofs.MonkRule.{no_factors, monk_last, over_swap}
-use Rattle.sym_model.proofs.AfterLists.{length_after, after_among}
+use Rattle.sym_model.proofs.AfterLists.{length_after, after_among, after-append}
+use Rattle.sym_model.proofs.Lists.{get_or-any}
 
 -- ---- std's swap is the swap of proofs
 
 sets_are_swap : (w : List ℕ) (i j d : ℕ) → i < length w → j < length w → set (set w i (get_or w j d)) j (get_or w i d) ≡ swap_at i j w
 sets_are_swap [] i j d h l = absurd (omega arith)
 sets_are_swap (x ∷ w) zero zero d h l = refl
-sets_are_swap (x ∷ w) zero (suc j) d h l = ap (λ y. y ∷ set w j x) (default_free w j d x (omega arith))
-sets_are_swap (x ∷ w) (suc i) zero d h l = ap (λ y. y ∷ set w i x) (default_free w i d x (omega arith))
+sets_are_swap (x ∷ w) zero (suc j) d h l = ap (λ y. y ∷ set w j x) (get_or-any w j d x (omega arith))
+sets_are_swap (x ∷ w) (suc i) zero d h l = ap (λ y. y ∷ set w i x) (get_or-any w i d x (omega arith))
 sets_are_swap (x ∷ w) (suc i) (suc j) d h l = ap (λ v. x ∷ v) (sets_are_swap w i j d (omega arith) (omega arith))
 
 pub swap_is : (w : List ℕ) (i j : ℕ) → i < length w → j < length w → swap w i j ≡ swap_at i j w
@@ -77,7 +78,7 @@ sum_split n q f h =
     let d : q + 1 - 1 ≡ q = omega arith in
     let a = sum_below_ext n f (λ b. f (0 + b)) (λ b l. let z : b ≡ 0 + b = omega arith in ap f z) in
     let b = sum_after n 0 f in
-    let c = ap (λ l. total (λ i. f (i - 1)) l) (ap (after 0) (sym t) ∙ after_more 0 q (suc (n - (q + 1))) ∙ ap (λ s. after 0 q ++ after s (suc (n - (q + 1)))) e) in
+    let c = ap (λ l. total (λ i. f (i - 1)) l) (ap (after 0) (sym t) ∙ after-append 0 q (suc (n - (q + 1))) ∙ ap (λ s. after 0 q ++ after s (suc (n - (q + 1)))) e) in
     let p = total_append (λ i. f (i - 1)) (after 0 q) ((q + 1) ∷ after (q + 1) (n - (q + 1))) in
     let g = ap f d in
     omega (arith, ints)
@@ -116,7 +117,7 @@ longer_split w k m h =
     let a = length_after (length w) m in
     let d : length w + m ≡ length (w ++ after (length w) m) = omega arith in
     ap (λ t. w ++ after (length w) t) e
-    ∙ ap (λ t. w ++ t) (after_more (length w) m (k + 1 - m))
+    ∙ ap (λ t. w ++ t) (after-append (length w) m (k + 1 - m))
     ∙ sym (append_assoc w (after (length w) m) (after (length w + m) (k + 1 - m)))
     ∙ ap (λ t. (w ++ after (length w) m) ++ after t (k + 1 - m)) d
 
@@ -166,7 +167,7 @@ whole_longer w k =
     let la = length-append w (after (length w) k) in
     let lb = length_after (length w) k in
     let d : length w + k + 1 ≡ length (w ++ after (length w) k) + 1 = omega arith in
-    ap (λ t. w ++ t) (after_more (length w) k 1)
+    ap (λ t. w ++ t) (after-append (length w) k 1)
     ∙ sym (append_assoc w (after (length w) k) ((length w + k + 1) ∷ []))
     ∙ ap (λ t. (w ++ after (length w) k) ++ (t ∷ [])) d
 

@@ -16,9 +16,11 @@ use Rattle.sym_model.specs.DividedDifference.{x_to}
 use Rattle.sym_model.specs.Schubert.{schubert, schubert_over}
 use Rattle.sym_model.proofs.Sums.{Among_from_append}
 use Rattle.sym_model.proofs.Polynomials.{pair_determined}
+use Rattle.sym_model.proofs.Parts.{length-staircase}
+use Rattle.sym_model.proofs.Numbers.{counts-not_less, counts-less}
 use Rattle.schubert_laws.proofs.Exchanges.{exchange_at, raise, Rises, IsFirstAscent, first_ascent_cases, rises_within, rising_pairs_exchange, length-exchange_at}
-use Rattle.schubert_laws.proofs.Dominant.{pair_x_to, dominant, counted, not_counted, among_exchange, once_exchange, code_no_ascent, greater_head, smaller_of_all}
-use Rattle.schubert_laws.proofs.FixedLetters.{In_schubert, In_x_to, length-staircase, rises_added, exchange_added, once_added, code_added, smaller_added, falls_staircase}
+use Rattle.schubert_laws.proofs.Dominant.{pair_x_to, dominant, among_exchange, once_exchange, code_no_ascent, greater_head, smaller_of_all}
+use Rattle.schubert_laws.proofs.FixedLetters.{In_schubert, In_x_to, rises_added, exchange_added, once_added, code_added, smaller_added, falls_staircase}
 use Rattle.schubert_laws.proofs.Swaps.{swap_at, moved, moved_within, length-swap_at, raises, greater_swap, smaller_swap, once_swap, among_get}
 use Rattle.schubert_laws.proofs.PlaceSums.{sum_below_only}
 use Rattle.schubert_laws.proofs.MonkStep.{covered, value, signed_up, signed_down, signed_same, covered_sym, covered_none, covered_is, Passes, IsMonk, pair_factor_sum, monk_step}
@@ -70,13 +72,13 @@ rising_pairs_added m (a ∷ v) b =
     omega arith
   where
     greater_added : (x y : ℕ) (u : List ℕ) → x < y → greater x (u ++ (y ∷ [])) ≡ suc (greater x u)
-    greater_added x y [] h = let c = counted x y h in omega arith
+    greater_added x y [] h = let c = counts-less x y h in omega arith
     greater_added x y (z ∷ u) h = let e = greater_added x y u h in omega arith
 
 pub greater_of_none : (x : ℕ) (u : List ℕ) → ((y : ℕ) → Among y u → y ≤ x) → greater x u ≡ 0
 greater_of_none x [] h = refl
 greater_of_none x (y ∷ u) h =
-    let c = not_counted x y (h y (inl refl)) in
+    let c = counts-not_less x y (h y (inl refl)) in
     let e = greater_of_none x u (λ z i. h z (inr i)) in
     omega arith
 

@@ -17,12 +17,12 @@ use Rattle.sym_model.specs.DividedDifference.{differences_after}
 use Rattle.sym_model.specs.Schubert.{schubert_over}
 use Rattle.sym_model.proofs.Exponents.{tests_agree}
 use Rattle.sym_model.proofs.Polynomials.{pair_ext, pair_in, pair_add, pair_opposite, pair_zero, pair_plus, pair_times, pair_determined, times_respects, Same_refl}
+use Rattle.sym_model.proofs.Numbers.{nat_lt-false}
 use Rattle.schubert_laws.proofs.Climbs.{climb, across, stepped, across_ext, across_stepped}
 use Rattle.schubert_laws.proofs.Differences.{along, pair_differences, along_square}
 use Rattle.schubert_laws.proofs.Exchanges.{exchange_at, raise, Rises, rises_within, rising_pairs_exchange, exchange_twice, length-exchange_at}
 use Rattle.schubert_laws.proofs.DifferenceLaws.{variable_after, pair_variable_times}
 use Rattle.schubert_laws.proofs.Paths.{any_ascent}
-use Rattle.schubert_laws.proofs.Dominant.{not_less}
 use Rattle.schubert_laws.proofs.FixedLetters.{In_descended}
 use Rattle.schubert_laws.proofs.Swaps.{swap_at, moved, swap_at_sym, length-swap_at, moved_within, moved_order, get_moved, exchange_swap, swap_neighbour, raises, lowers, once_swap}
 use Rattle.schubert_laws.proofs.PlaceSums.{sum_below, sum_below_ext, sum_below_add, sum_below_only, sum_below_moved}
@@ -108,10 +108,10 @@ pub signed_up : (r b : ℕ) (z : ℤ) → r < b → signed r b z ≡ z
 signed_up r b z h = ap (λ t. cond t z (cond (nat_lt b r) (neg_ℤ z) (pos 0))) (lt-ltb r b h)
 
 pub signed_down : (r b : ℕ) (z : ℤ) → b < r → signed r b z ≡ neg_ℤ z
-signed_down r b z h = ap₂ (λ s t. cond s z (cond t (neg_ℤ z) (pos 0))) (not_less r b (omega arith)) (lt-ltb b r h)
+signed_down r b z h = ap₂ (λ s t. cond s z (cond t (neg_ℤ z) (pos 0))) (nat_lt-false r b (omega arith)) (lt-ltb b r h)
 
 pub signed_same : (r b : ℕ) (z : ℤ) → r ≡ b → signed r b z ≡ pos 0
-signed_same r b z e = ap₂ (λ s t. cond s z (cond t (neg_ℤ z) (pos 0))) (not_less r b (omega arith)) (not_less b r (omega arith))
+signed_same r b z e = ap₂ (λ s t. cond s z (cond t (neg_ℤ z) (pos 0))) (nat_lt-false r b (omega arith)) (nat_lt-false b r (omega arith))
 
 pub covered_sym : (g : Poly) (φ : List ℕ → ℤ) (w : List ℕ) (a b : ℕ) → covered g φ w a b ≡ covered g φ w b a
 covered_sym g φ w a b = ap (λ v. cond (rising_pairs w == suc (rising_pairs v)) (pair (schubert_over g v) φ) (pos 0)) (swap_at_sym a b w)

@@ -9,8 +9,9 @@ use Rattle.std.proofs.lemmas.Bool.{cases_eq, cases_lt}
 use Rattle.sym_model.specs.Sum.{Among, Once}
 use Rattle.sym_model.specs.PlaceOrders.{smaller}
 use Rattle.sym_model.specs.BetaList.{greater, rising_pairs}
+use Rattle.sym_model.proofs.Numbers.{counts-not_less, counts-less}
+use Rattle.sym_model.proofs.Lists.{get_or-any}
 use Rattle.schubert_laws.proofs.Exchanges.{exchange_at}
-use Rattle.schubert_laws.proofs.Dominant.{counted, not_counted}
 
 abbrev pub swap_at : ℕ → ℕ → List ℕ → List ℕ
 swap_at a b [] = []
@@ -104,12 +105,6 @@ swap_neighbour zero (x ∷ []) h = absurd (omega arith)
 swap_neighbour zero (x ∷ y ∷ w) h = refl
 swap_neighbour (suc k) (x ∷ w) h = ap (λ v. x ∷ v) (swap_neighbour k w (omega arith))
 
--- within a list the default does not matter
-pub default_free : (v : List ℕ) (i p q : ℕ) → i < length v → get_or v i p ≡ get_or v i q
-default_free [] i p q m = absurd (omega arith)
-default_free (y ∷ v) zero p q m = refl
-default_free (y ∷ v) (suc i) p q m = default_free v i p q (omega arith)
-
 -- ---- counts
 
 greater_set : (a b x : ℕ) (w : List ℕ) → cond (nat_lt a (get_or w b x)) 1 0 + greater a (set w b x) ≡ cond (nat_lt a x) 1 0 + greater a w
@@ -138,16 +133,16 @@ smaller_swap c (suc a) (suc b) (x ∷ w) = ap (λ n. cond (nat_lt x c) 1 0 + n) 
 
 counts_more : (x y z : ℕ) → y ≤ x → cond {A = ℕ} (nat_lt x z) 1 0 ≤ cond {A = ℕ} (nat_lt y z) 1 0
 counts_more x y z h = elim (cases_lt x z) [
-  | inl l ↦ let p = counted x z l in let q = counted y z (omega arith) in omega arith
-  | inr l ↦ let p = not_counted x z l in omega arith
+  | inl l ↦ let p = counts-less x z l in let q = counts-less y z (omega arith) in omega arith
+  | inr l ↦ let p = counts-not_less x z l in omega arith
 ]
 
 -- a greater entry in the place of a smaller one
 greater_more : (z b x d : ℕ) (w : List ℕ) → b < length w → get_or w b d < x → greater z w ≤ greater z (set w b x)
 greater_more z b x d [] l h = absurd (omega arith)
 greater_more z zero x d (y ∷ w) l h = elim (cases_lt z y) [
-  | inl m ↦ let p = counted z y m in let q = counted z x (omega arith) in omega arith
-  | inr m ↦ let p = not_counted z y m in omega arith
+  | inl m ↦ let p = counts-less z y m in let q = counts-less z x (omega arith) in omega arith
+  | inr m ↦ let p = counts-not_less z y m in omega arith
 ]
 greater_more z (suc b) x d (y ∷ w) l h = let e = greater_more z b x d w (omega arith) h in omega arith
 
@@ -155,8 +150,8 @@ raises_first : (x b d : ℕ) (w : List ℕ) → b < length w → get_or w b d < 
     → greater x w + rising_pairs w < greater (get_or w b d) (set w b x) + rising_pairs (set w b x)
 raises_first x b d [] l h = absurd (omega arith)
 raises_first x zero d (y ∷ w) l h =
-    let p = counted y x h in
-    let q = not_counted x y (omega arith) in
+    let p = counts-less y x h in
+    let q = counts-not_less x y (omega arith) in
     omega arith
 raises_first x (suc b) d (z ∷ w) l h =
     let r = raises_first x b d w (omega arith) h in
@@ -169,7 +164,7 @@ pub raises : (a b d : ℕ) (w : List ℕ) → a < b → b < length w → get_or 
 raises a b d [] o l h = absurd (omega arith)
 raises zero zero d (x ∷ w) o l h = absurd (omega arith)
 raises zero (suc b) d (x ∷ w) o l h =
-    let e = default_free w b d x (omega arith) in
+    let e = get_or-any w b d x (omega arith) in
     let r = raises_first x b x w (omega arith) (subst (λ y. y < x) e h) in
     r
 raises (suc a) zero d (x ∷ w) o l h = absurd (omega arith)
@@ -200,7 +195,7 @@ swap_twice (suc a) (suc b) (x ∷ w) l m = ap (λ v. x ∷ v) (swap_twice a b w 
 pub get_swap_left : (a b d : ℕ) (w : List ℕ) → a < length w → b < length w → get_or (swap_at a b w) a d ≡ get_or w b d
 get_swap_left a b d [] l m = absurd (omega arith)
 get_swap_left zero zero d (x ∷ w) l m = refl
-get_swap_left zero (suc b) d (x ∷ w) l m = default_free w b x d (omega arith)
+get_swap_left zero (suc b) d (x ∷ w) l m = get_or-any w b x d (omega arith)
 get_swap_left (suc a) zero d (x ∷ w) l m = get_set w a x d (omega arith)
 get_swap_left (suc a) (suc b) d (x ∷ w) l m = get_swap_left a b d w (omega arith) (omega arith)
 
@@ -229,10 +224,10 @@ lowers a b d w o l h = elim (cases_eq (get_or w a d) (get_or w b d)) [
     swap_equal i j p [] m n e = refl
     swap_equal zero zero p (x ∷ v) m n e = refl
     swap_equal zero (suc j) p (x ∷ v) m n e =
-        let g : get_or v j x ≡ x = default_free v j x p (omega arith) ∙ sym e in
+        let g : get_or v j x ≡ x = get_or-any v j x p (omega arith) ∙ sym e in
         ap₂ ◌∷◌ g (set_same v j x x (omega arith) g)
     swap_equal (suc i) zero p (x ∷ v) m n e =
-        let g : get_or v i x ≡ x = default_free v i x p (omega arith) ∙ e in
+        let g : get_or v i x ≡ x = get_or-any v i x p (omega arith) ∙ e in
         ap₂ ◌∷◌ g (set_same v i x x (omega arith) g)
     swap_equal (suc i) (suc j) p (x ∷ v) m n e = ap (λ u. x ∷ u) (swap_equal i j p v (omega arith) (omega arith) e)
 

@@ -20,33 +20,34 @@ use Rattle.sym_model.specs.DividedDifference.{variable_in}
 use Rattle.sym_model.specs.Schubert.{schubert_in, schuberts_in}
 use Rattle.sym_model.proofs.Sums.{total_only}
 use Rattle.sym_model.proofs.Polynomials.{pair_plus, pair_negate, pair_determined, same_from_pair}
-use Rattle.schubert_laws.proofs.Dominant.{counted, not_counted}
 use Rattle.schubert_laws.proofs.FixedTails.{schubert_kept, inversions_kept, one_more_inversion}
-use Rattle.schubert_laws.proofs.Swaps.{swap_at, length-swap_at, default_free, raises, greater_swap, swap_twice, get_swap_left, get_swap_right, among_get, once_swap}
+use Rattle.schubert_laws.proofs.Swaps.{swap_at, length-swap_at, raises, greater_swap, swap_twice, get_swap_left, get_swap_right, among_get, once_swap}
 use Rattle.schubert_laws.proofs.MonkStep.{covered, covered_none}
 use Rattle.schubert_laws.proofs.MonkFromOne.{swap_is, one_line_swap, longer, top_of, within, cover_value, cover_term, pair_covers, monk_in}
 use Rattle.sym_model.proofs.AfterLists.{length_after, after_among, among_after, once_after}
+use Rattle.sym_model.proofs.Numbers.{counts-not_less, counts-less}
+use Rattle.sym_model.proofs.Lists.{get_or-any}
 
 -- ---- a falling pair with only smaller entries between
 
 greater_set_both : (z b x d : ℕ) (w : List ℕ) → b < length w → z < get_or w b d → z < x → greater z (set w b x) ≡ greater z w
 greater_set_both z b x d [] h l m = absurd (omega arith)
-greater_set_both z zero x d (y ∷ w) h l m = let p = counted z y l in let q = counted z x m in omega arith
+greater_set_both z zero x d (y ∷ w) h l m = let p = counts-less z y l in let q = counts-less z x m in omega arith
 greater_set_both z (suc b) x d (y ∷ w) h l m = ap (λ n. cond (nat_lt z y) 1 0 + n) (greater_set_both z b x d w (omega arith) l m)
 
 raises_by_one_first : (x b d : ℕ) (w : List ℕ) → b < length w → get_or w b d < x → ((c : ℕ) → c < b → get_or w c d < get_or w b d)
     → greater (get_or w b d) (set w b x) + rising_pairs (set w b x) ≡ suc (greater x w + rising_pairs w)
 raises_by_one_first x b d [] h l s = absurd (omega arith)
 raises_by_one_first x zero d (y ∷ w) h l s =
-    let p = counted y x l in
-    let q = not_counted x y (omega arith) in
+    let p = counts-less y x l in
+    let q = counts-not_less x y (omega arith) in
     omega arith
 raises_by_one_first x (suc b) d (z ∷ w) h l s =
     let r = raises_by_one_first x b d w (omega arith) l (λ c k. s (suc c) (omega arith)) in
     let f = s 0 (omega arith) in
     let g = greater_set_both z b x d w (omega arith) f (omega arith) in
-    let p = not_counted x z (omega arith) in
-    let q = not_counted (get_or w b d) z (omega arith) in
+    let p = counts-not_less x z (omega arith) in
+    let q = counts-not_less (get_or w b d) z (omega arith) in
     omega arith
 
 pub raises_by_one : (a b d : ℕ) (w : List ℕ) → a < b → b < length w → get_or w b d < get_or w a d → ((c : ℕ) → a < c → c < b → get_or w c d < get_or w b d)
@@ -54,7 +55,7 @@ pub raises_by_one : (a b d : ℕ) (w : List ℕ) → a < b → b < length w → 
 raises_by_one a zero d w h l m s = absurd (omega arith)
 raises_by_one a (suc b) d [] h l m s = absurd (omega arith)
 raises_by_one zero (suc b) d (x ∷ w) h l m s =
-    let e = default_free w b x d (omega arith) in
+    let e = get_or-any w b x d (omega arith) in
     let r = raises_by_one_first x b d w (omega arith) m (λ c k. s (suc c) (omega arith) (omega arith)) in
     ap (λ y. greater y (set w b x) + rising_pairs (set w b x)) e ∙ r
 raises_by_one (suc a) (suc b) d (x ∷ w) h l m s =
@@ -74,7 +75,7 @@ set_by_way x (suc c) (suc b) (p ∷ u) y h l e = ap (λ v. p ∷ v) (set_by_way 
 get_by_way : (x c b d : ℕ) (u : List ℕ) → c < b → b < length u → get_or (swap_at c b (set u c x)) c d ≡ get_or u b d
 get_by_way x c b d [] h l = absurd (omega arith)
 get_by_way x c zero d (p ∷ u) h l = absurd (omega arith)
-get_by_way x zero (suc b) d (p ∷ u) h l = default_free u b x d (omega arith)
+get_by_way x zero (suc b) d (p ∷ u) h l = get_or-any u b x d (omega arith)
 get_by_way x (suc c) (suc b) d (p ∷ u) h l = get_by_way x c b d u (omega arith) (omega arith)
 
 swap_by_way : (a c b : ℕ) (w : List ℕ) → a < c → c < b → b < length w → swap_at a c (swap_at c b (swap_at a c w)) ≡ swap_at a b w
@@ -82,7 +83,7 @@ swap_by_way a c b [] h k l = absurd (omega arith)
 swap_by_way a zero b (x ∷ u) h k l = absurd (omega arith)
 swap_by_way a (suc c) zero (x ∷ u) h k l = absurd (omega arith)
 swap_by_way zero (suc c) (suc b) (x ∷ u) h k l =
-    ap₂ ◌∷◌ (get_by_way x c b (get_or u c x) u (omega arith) (omega arith) ∙ default_free u b (get_or u c x) x (omega arith)) (set_by_way x c b u (get_or u c x) (omega arith) (omega arith) refl)
+    ap₂ ◌∷◌ (get_by_way x c b (get_or u c x) u (omega arith) (omega arith) ∙ get_or-any u b (get_or u c x) x (omega arith)) (set_by_way x c b u (get_or u c x) (omega arith) (omega arith) refl)
 swap_by_way (suc a) (suc c) (suc b) (x ∷ u) h k l = ap (λ v. x ∷ v) (swap_by_way a c b u (omega arith) (omega arith) (omega arith))
 
 -- swapping a rising pair makes fewer pairs rise

@@ -3,7 +3,7 @@ use Rattle.std.proofs.Common.{◌≡◌, ℕ, zero, suc, ◌+◌, ◌-◌, ◌<�
 use Rattle.std.specs.List.{swap}
 use Rattle.std.proofs.lemmas.List.{append-nil}
 use Rattle.std.proofs.lemmas.Bool.{cases_lt}
-use Rattle.sym_model.specs.Sum.{Among, select}
+use Rattle.sym_model.specs.Sum.{select}
 use Rattle.sym_model.specs.Polynomial.{Same, coefficient, plus, times}
 use Rattle.sym_model.specs.Partition.{after}
 use Rattle.sym_model.specs.PlaceOrders.{inversions}
@@ -11,11 +11,12 @@ use Rattle.sym_model.specs.Permutation.{IsOneLine, IsTransition, with_fixed, kep
 use Rattle.sym_model.specs.DividedDifference.{variable_in}
 use Rattle.sym_model.specs.Schubert.{schubert_in, schuberts_in}
 use Rattle.sym_model.proofs.Polynomials.{Same_refl, Same_sym, plus_respects, times_respects}
-use Rattle.schubert_laws.proofs.FixedTails.{after_more, kept_tail, kept_added, schubert_kept, inversions_kept}
-use Rattle.schubert_laws.proofs.Swaps.{swap_at, length-swap_at, default_free, among_get}
+use Rattle.schubert_laws.proofs.FixedTails.{kept_tail, kept_added, schubert_kept, inversions_kept}
+use Rattle.schubert_laws.proofs.Swaps.{swap_at, length-swap_at, among_get}
 use Rattle.schubert_laws.proofs.MonkFromOne.{swap_is, one_line_swap, swap_at_append}
 use Rattle.schubert_laws.proofs.Transition.{IsStep, last_descent_is, transition_at}
-use Rattle.sym_model.proofs.AfterLists.{length_after, after_among}
+use Rattle.sym_model.proofs.AfterLists.{length_after, after_among, after-append}
+use Rattle.sym_model.proofs.Lists.{get_or-any, map-among}
 
 -- ---- fixed letters at the end do not matter to a swap
 
@@ -50,7 +51,7 @@ with_fixed_longer x t j =
       t + (j - (length x + t)) - (j - length x),
       ap (λ n. (x ++ after (length x) t) ++ after n (j - n)) e
           ∙ append_assoc x (after (length x) t) (after (length x + t) (j - (length x + t)))
-          ∙ ap (λ l. x ++ l) (sym (after_more (length x) t (j - (length x + t))) ∙ ap (after (length x)) s ∙ after_more (length x) (j - length x) (t + (j - (length x + t)) - (j - length x)))
+          ∙ ap (λ l. x ++ l) (sym (after-append (length x) t (j - (length x + t))) ∙ ap (after (length x)) s ∙ after-append (length x) (j - length x) (t + (j - (length x + t)) - (j - length x)))
           ∙ sym (append_assoc x (after (length x) (j - length x)) (after (length x + (j - length x)) (t + (j - (length x + t)) - (j - length x))))
           ∙ ap (λ n. with_fixed j x ++ after n (t + (j - (length x + t)) - (j - length x))) f,
     )
@@ -68,13 +69,9 @@ times_swap_kept w i j h l =
     let e : 0 + length (kept w) ≡ length (kept w) = omega arith in
     sym (swap_of_longer (kept w) t.0 i j h l) ∙ ap (times_swap i j) (sym (t.1 ∙ ap (λ n. kept w ++ after n t.0) e))
 
-map_among : {A B : Type 0} (f g : A → B) (xs : List A) → ((x : A) → Among x xs → f x ≡ g x) → map f xs ≡ map g xs
-map_among f g [] e = refl
-map_among f g (x ∷ xs) e = ap₂ ◌∷◌ (e x (inl refl)) (map_among f g xs (λ y m. e y (inr m)))
-
 pub covers_down_kept : (r : ℕ) (w : List ℕ) → IsOneLine w → covers_down r (kept w) ≡ covers_down r w
 covers_down_kept r w o =
-    ap (covers_among (kept w)) (map_among (λ i. times_swap i r (kept w)) (λ i. times_swap i r w) (after 0 (r - 1)) (λ i m.
+    ap (covers_among (kept w)) (map-among (λ i. times_swap i r (kept w)) (λ i. times_swap i r w) (after 0 (r - 1)) (λ i m.
     let a = after_among 0 (r - 1) i m in let p = a.0 in let q = a.1 in times_swap_kept w i r (omega arith) (omega arith)))
     ∙ ap (λ n. select (λ (v : List ℕ). inversions v == n + 1) (map (λ i. times_swap i r w) (after 0 (r - 1)))) (inversions_kept w o)
 
@@ -92,20 +89,20 @@ step_of w r s o t =
     let qf = f.3 in
     let c = t.counts in
     let rq : r - 1 ≡ f.0 = omega arith in
-    let lr = ap (λ i. get_or w i r) rq ∙ default_free w f.0 r 0 (omega arith) in
+    let lr = ap (λ i. get_or w i r) rq ∙ get_or-any w f.0 r 0 (omega arith) in
     let m = (o.letters (get_or w f.0 0) (among_get f.0 0 w (omega arith))).1 in
     let sm = t.smaller in
     let inside : s - 1 < length w = elim (cases_lt (s - 1) (length w)) [
       | inl h ↦ h
       | inr h ↦ let p = get_past w (s - 1) s h in absurd (omega arith)
     ] in
-    let ls = default_free w (s - 1) s 0 inside in
+    let ls = get_or-any w (s - 1) s 0 inside in
     let order : f.0 < s - 1 = elim (cases_lt f.0 (s - 1)) [
       | inl h ↦ h
       | inr h ↦
           let n = t.last (suc r) (omega arith) in
           let e : suc r - 1 ≡ suc f.0 = omega arith in
-          let g = ap (λ i. get_or w i (suc r)) e ∙ default_free w (suc f.0) (suc r) 0 qi in
+          let g = ap (λ i. get_or w i (suc r)) e ∙ get_or-any w (suc f.0) (suc r) 0 qi in
           absurd (omega arith)
     ] in (
       f.0,
@@ -120,7 +117,7 @@ step_of w r s o t =
         later = λ d h l.
             let n = t.last (suc d) (omega arith) in
             let e : suc d - 1 ≡ d = omega arith in
-            let g = ap (λ i. get_or w i (suc d)) e ∙ default_free w d (suc d) 0 l in
+            let g = ap (λ i. get_or w i (suc d)) e ∙ get_or-any w d (suc d) 0 l in
             omega arith;
       },
     )

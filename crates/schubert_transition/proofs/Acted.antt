@@ -4,16 +4,17 @@
 --     acted_start       1 times the Schubert polynomial
 --     acted_natural     it has no negative coefficients
 --     acted_at          and a monomial of it
-use Rattle.std.proofs.Common.{◌≡◌, ℕ, Bool, true, false, ◌&&◌, cond, List, [], ◌∷◌, refl, sym, ap, ◌∙◌, arith, ℤ, pos, ◌+ℤ◌, ◌≤ℤ◌}
+use Rattle.std.proofs.Common.{◌≡◌, ℕ, Bool, true, false, ◌&&◌, cond, List, [], refl, sym, ap, ◌∙◌, arith, ℤ, pos, ◌+ℤ◌, ◌≤ℤ◌}
 use Rattle.std.specs.Prelude.{None}
 use Rattle.std.proofs.lemmas.Int.{ints}
 use Rattle.sym_model.specs.Sum.{total}
 use Rattle.sym_model.specs.Polynomial.{Poly, same, join, pair, one, no_exponents, resize, fits_in}
 use Rattle.sym_model.specs.Permutation.{IsOneLine, IsTransition, last_descent, times_swap, covers_down}
 use Rattle.sym_model.specs.Schubert.{schubert, schubert_in}
-use Rattle.sym_model.proofs.Sums.{total_zero}
+use Rattle.sym_model.proofs.Sums.{total_zero, total_not_negative}
 use Rattle.sym_model.proofs.Exponents.{same_true, same_refl, join_comm, join_assoc, join_zeros, length-resize, resize-nil, resize-join, fits_in-join, fits_in_length}
 use Rattle.sym_model.proofs.Polynomials.{pair_ext, pair_in, pair_determined, pair_one, at_only, In_restrict}
+use Rattle.sym_model.proofs.Integers.{cond-nonnegative}
 use Rattle.schubert_laws.proofs.LowerPermutations.{identity_is_one}
 use Rattle.sparse_polys.specs.Raised.{raised}
 use Rattle.schubert_transition.specs.Transitions.{shown, acted}
@@ -59,19 +60,11 @@ acted_start n φ w =
 
 -- ---- coefficients
 
-pub total_natural : {A : Type 0} (f : A → ℤ) (xs : List A) → ((x : A) → pos 0 ≤ℤ f x) → pos 0 ≤ℤ total f xs
-total_natural f [] h = omega (arith, ints)
-total_natural f (x ∷ xs) h = let a = h x in let b = total_natural f xs h in omega (arith, ints)
-
 monomials_natural : (f : Poly) (φ : List ℕ → ℤ) (h : HasMonomials f) → ((α : List ℕ) → pos 0 ≤ℤ φ α) → φ h.first ≤ℤ pair f φ
-monomials_natural f φ h k = let a = h.sums φ in let b = total_natural φ h.others k in omega (arith, ints)
-
-cond_natural : (b : Bool) (z : ℤ) → pos 0 ≤ℤ z → pos 0 ≤ℤ cond b z (pos 0)
-cond_natural true z h = h
-cond_natural false z h = omega (arith, ints)
+monomials_natural f φ h k = let a = h.sums φ in let b = total_not_negative φ h.others k in omega (arith, ints)
 
 pub shown_natural : (n : ℕ) (φ : List ℕ → ℤ) (e : List ℕ) → ((α : List ℕ) → pos 0 ≤ℤ φ α) → pos 0 ≤ℤ shown n φ e
-shown_natural n φ e k = cond_natural (fits_in n e) (φ (resize n e)) (k (resize n e))
+shown_natural n φ e k = cond-nonnegative (fits_in n e) (φ (resize n e)) (k (resize n e))
 
 pub acted_natural : (n : ℕ) (φ : List ℕ → ℤ) (w e : List ℕ) → HasMonomials (schubert_in w n) → ((α : List ℕ) → pos 0 ≤ℤ φ α) → pos 0 ≤ℤ acted n φ w e
 acted_natural n φ w e h k =
@@ -79,7 +72,7 @@ acted_natural n φ w e h k =
     (λ α. let a = monomials_natural (schubert_in w n) (λ β. φ (join α β)) h (λ β. k (join α β)) in let b = k (join α h.first) in omega (arith, ints))
 
 pub at_only_natural : (γ α : List ℕ) → pos 0 ≤ℤ at_only γ α
-at_only_natural γ α = cond_natural (same α γ) (pos 1) (omega (arith, ints))
+at_only_natural γ α = cond-nonnegative (same α γ) (pos 1) (omega (arith, ints))
 
 at_only_here : (γ : List ℕ) → at_only γ γ ≡ pos 1
 at_only_here γ = ap (λ b. cond b (pos 1) (pos 0)) (same_refl γ)

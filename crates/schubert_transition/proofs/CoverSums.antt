@@ -1,12 +1,12 @@
 -- The covers of a permutation at a place, one place after another.
-use Rattle.std.proofs.Common.{◌≡◌, ℕ, ◌+◌, ◌-◌, ◌≤◌, ◌==◌, Bool, true, false, cond, List, [], ◌∷◌, ◌++◌, map, refl, ap, ◌∙◌, arith, append-nil, eq-eqb}
+use Rattle.std.proofs.Common.{◌≡◌, ℕ, ◌+◌, ◌-◌, ◌≤◌, ◌==◌, cond, List, [], ◌∷◌, ◌++◌, map, ap, ◌∙◌, arith, append-nil, eq-eqb}
 use Rattle.std.proofs.lemmas.Bool.{ne_eqb}
 use Rattle.std.proofs.lemmas.List.{map-append}
-use Rattle.sym_model.specs.Sum.{select}
 use Rattle.sym_model.specs.Partition.{after}
 use Rattle.sym_model.specs.PlaceOrders.{inversions}
 use Rattle.sym_model.specs.Permutation.{times_swap, covers_among, covers_down}
-use Rattle.schubert_laws.proofs.FixedTails.{after_more}
+use Rattle.sym_model.proofs.AfterLists.{after-append}
+use Rattle.sym_model.proofs.Lists.{select-append}
 
 -- the covers whose other place comes before place i
 abbrev pub covers_before : ℕ → ℕ → List ℕ → List (List ℕ)
@@ -16,22 +16,13 @@ covers_before i r w = covers_among w (map (λ j. times_swap j r w) (after 0 (i -
 abbrev pub covers_from : ℕ → ℕ → List ℕ → List (List ℕ)
 covers_from i r w = covers_among w (map (λ j. times_swap j r w) (after (i - 1) (r - i)))
 
-select_append : {A : Type 0} (test : A → Bool) (xs ys : List A) → select test (xs ++ ys) ≡ select test xs ++ select test ys
-select_append test [] ys = refl
-select_append test (x ∷ xs) ys = by (test x) (select_append test xs ys)
-  where
-    by : (b : Bool) → select test (xs ++ ys) ≡ select test xs ++ select test ys
-        → cond b (x ∷ select test (xs ++ ys)) (select test (xs ++ ys)) ≡ cond b (x ∷ select test xs) (select test xs) ++ select test ys
-    by true rest = ap (λ zs. x ∷ zs) rest
-    by false rest = rest
-
 covers_split : (a b r : ℕ) (w : List ℕ)
     → covers_among w (map (λ j. times_swap j r w) (after 0 (a + b)))
     ≡ covers_among w (map (λ j. times_swap j r w) (after 0 a)) ++ covers_among w (map (λ j. times_swap j r w) (after a b))
 covers_split a b r w =
-    ap (λ js. covers_among w (map (λ j. times_swap j r w) js)) (after_more 0 a b ∙ ap (λ k. after 0 a ++ after k b) (let e : 0 + a ≡ a = omega arith in e))
+    ap (λ js. covers_among w (map (λ j. times_swap j r w) js)) (after-append 0 a b ∙ ap (λ k. after 0 a ++ after k b) (let e : 0 + a ≡ a = omega arith in e))
     ∙ ap (covers_among w) (map-append (λ j. times_swap j r w) (after 0 a) (after a b))
-    ∙ select_append (λ (v : List ℕ). inversions v == inversions w + 1) (map (λ j. times_swap j r w) (after 0 a)) (map (λ j. times_swap j r w) (after a b))
+    ∙ select-append (λ (v : List ℕ). inversions v == inversions w + 1) (map (λ j. times_swap j r w) (after 0 a)) (map (λ j. times_swap j r w) (after a b))
 
 pub covers_all : (i r : ℕ) (w : List ℕ) → 1 ≤ i → i ≤ r → covers_down r w ≡ covers_before i r w ++ covers_from i r w
 covers_all i r w h l =

@@ -1,7 +1,7 @@
 -- The letters round the last descent.
 use Rattle.std.proofs.Common.{◌≡◌, ℕ, suc, ◌+◌, ◌-◌, ◌<◌, ◌≤◌, List, length, get_or, ap, ◌∙◌, arith, Some}
 use Rattle.sym_model.specs.Permutation.{IsOneLine, letter, last_descent}
-use Rattle.schubert_laws.proofs.Swaps.{default_free}
+use Rattle.sym_model.proofs.Lists.{get_or-any}
 use Rattle.schubert_laws.proofs.Transition.{last_descent_is}
 use Rattle.schubert_laws.proofs.TransitionFromOne.{get_past}
 use Rattle.schubert_transition.proofs.Ranks.{letter_within}
@@ -14,8 +14,8 @@ descent_facts w r e =
     let f3 = f.3 in
     let i : r - 1 ≡ f.0 = omega arith in
     let j : suc r - 1 ≡ suc f.0 = omega arith in
-    let a = ap (λ t. get_or w t r) i ∙ default_free w f.0 r 0 (omega arith) in
-    let b = ap (λ t. get_or w t (suc r)) j ∙ default_free w (suc f.0) (suc r) 0 f2 in
+    let a = ap (λ t. get_or w t r) i ∙ get_or-any w f.0 r 0 (omega arith) in
+    let b = ap (λ t. get_or w t (suc r)) j ∙ get_or-any w (suc f.0) (suc r) 0 f2 in
     (omega arith, omega arith, omega arith)
 
 pub letter_past : (w : List ℕ) (r j : ℕ) → IsOneLine w → r ≤ length w → length w < j → letter w r ≤ letter w j

@@ -2,9 +2,9 @@
 --     final_represents      a list with its pairings represents it
 --     final_fits            a list whose coefficients are below 2^127 shows that all its coefficients are
 --     past_from             and a pairing past that shows one that is not
-use Rattle.std.proofs.Common.{◌≡◌, ℕ, zero, suc, ◌+◌, ◌-◌, ◌^◌, ◌≤◌, Bool, true, false, cond, List, [], ◌∷◌, length, refl, sym, ap, ◌∙◌, subst, inl, inr, arith, ℤ, pos, negsuc, ◌*ℤ◌, ◌≤ℤ◌, nat_lt, None}
+use Rattle.std.proofs.Common.{◌≡◌, ℕ, zero, suc, ◌+◌, ◌-◌, ◌^◌, ◌≤◌, Bool, true, false, cond, List, [], ◌∷◌, length, refl, sym, ap, ◌∙◌, subst, inl, inr, arith, ℤ, pos, ◌*ℤ◌, ◌≤ℤ◌, nat_lt, None}
 use Rattle.std.proofs.lemmas.Int.{ints}
-use Rattle.std.proofs.lemmas.Bool.{and_parts, leb-true, le-leb}
+use Rattle.std.proofs.lemmas.Bool.{and_parts}
 use Rattle.sym_model.specs.Sum.{Among}
 use Rattle.sym_model.specs.Polynomial.{Poly, In, same, pair, coefficient as coefficient_of, resize, fits_in, restrict}
 use Rattle.sym_model.specs.Partition.{in_front, without_last_zeros}
@@ -17,18 +17,19 @@ use Rattle.sym_model.specs.Expansion.{Fraction, Terms, Represents}
 use Rattle.sym_model.specs.WholeTerms.{AreWhole, combined, numerators}
 use Rattle.sym_model.specs.LabelLimits.{is_monomial_label}
 use Rattle.sym_model.specs.Command as commands
-use Rattle.sym_model.specs.LargeAnswer.{is_past, HasPastCoefficient}
+use Rattle.sym_model.specs.LargeAnswer.{HasPastCoefficient}
 use Rattle.sym_model.proofs.Sums.{total_map, total_ext}
 use Rattle.sym_model.proofs.Exponents.{same_true, same_refl, same_from, fits_in_length, resize_same}
 use Rattle.sym_model.proofs.CanonicalLists.{each_term-among}
 use Rattle.sym_model.proofs.WholeTerms.{pair_of_combined, represents-whole}
 use Rattle.sym_model.proofs.Polynomials.{pair_in, pair_restrict, coefficient_pair, same_from_pair}
+use Rattle.sym_model.proofs.Integers.{is_past-tells, is_past-from}
 use Rattle.schubert_laws.proofs.Dominant.{pair_x_to}
 use Rattle.schubert_laws.proofs.FixedLetters.{In_schubert}
 use Rattle.schubert_transition.specs.TermLists.{over, only, AreTerms, IsTable}
 use Rattle.schubert_transition.specs.Transitions.{acted, shown}
-use Rattle.schubert_transition.proofs.TermSums.{product_more, over_at, found_small, at_only_natural}
-use Rattle.schubert_transition.proofs.Acted.{acted_identity, shown_natural}
+use Rattle.schubert_transition.proofs.TermSums.{product_more, over_at, found_small}
+use Rattle.schubert_transition.proofs.Acted.{acted_identity, shown_natural, at_only_natural}
 
 -- ---- what the list represents
 
@@ -57,16 +58,8 @@ restrict_pair n f φ i =
 pub coefficient_is : (w α : List ℕ) → coefficient_of (polynomials.schubert w) α ≡ pair (schubert_in w (length w)) (only α)
 coefficient_is w α = coefficient_pair (polynomials.schubert w) α ∙ sym (restrict_pair (length w) (polynomials.schubert w) (only α) (In_schubert w))
 
-past : (z : ℤ) → pos (2 ^ 127) ≤ℤ z → is_past z ≡ true
-past (pos n) h = le-leb (2 ^ 127) n (omega (arith, ints))
-past (negsuc n) h = absurd (omega (arith, ints))
-
 pub past_from : (w γ : List ℕ) → pos (2 ^ 127) ≤ℤ pair (schubert_in w (length w)) (only γ) → HasPastCoefficient (commands.schubert w)
-past_from w γ h = (coefficient_of (polynomials.schubert w) γ, (γ, refl), past (coefficient_of (polynomials.schubert w) γ) (subst (λ z. pos (2 ^ 127) ≤ℤ z) (sym (coefficient_is w γ)) h))
-
-pub not_past : (z : ℤ) → is_past z ≡ true → pos (2 ^ 127) ≤ℤ z
-not_past (pos n) h = let l = leb-true (2 ^ 127) n h in omega (arith, ints)
-not_past (negsuc n) h = cc
+past_from w γ h = (coefficient_of (polynomials.schubert w) γ, (γ, refl), is_past-from (coefficient_of (polynomials.schubert w) γ) (subst (λ z. pos (2 ^ 127) ≤ℤ z) (sym (coefficient_is w γ)) h))
 
 -- ---- a label is told by its exponents in enough variables
 
@@ -109,7 +102,7 @@ final_fits d w terms is bounded sums (c, (α, e), large) =
     (u.natural, shown_only (length w) α t.0 u.few (trimmed_label t.0 (and_parts _ _ (each_term-among _ terms is.proper t i)).1))) in
     let f = over_at terms is.distinct (without_last_zeros α) in
     let g = found_small terms (without_last_zeros α) (λ t i. (bounded t i).held) in
-    let p = not_past c large in
+    let p = is_past-tells c large in
     absurd (omega (arith, ints))
 
 -- ---- the sum so far

@@ -7,16 +7,13 @@ use Rattle.sym_model.specs.Permutation.{IsOneLine, IsTransition, with_fixed, kep
 use Rattle.sym_model.proofs.AfterLists.{length_after, after_among}
 use Rattle.sym_model.proofs.Sums.{Among_from_map, Among_from_select}
 use Rattle.schubert_laws.proofs.FixedTails.{one_line_added, one_line_kept}
-use Rattle.schubert_laws.proofs.LowerPermutations.{kept_whole}
 use Rattle.schubert_laws.proofs.MonkFromOne.{one_line_swap, swap_is}
 use Rattle.schubert_laws.proofs.Swaps.{swap_at, length-swap_at}
 use Rattle.schubert_laws.proofs.TransitionFromOne.{step_of, kept_swap}
 use Rattle.schubert_laws.proofs.FixedTails.{inversions_kept, one_more_inversion}
 use Rattle.schubert_laws.proofs.Transition.{raises_by_one, strict_get, rises_chain}
+use Rattle.perm_codes.proofs.WithinLimits.{fewer_kept}
 use Rattle.schubert_transition.specs.Transitions.{IsShort}
-
-pub fewer_kept : (w : List ℕ) → length (kept w) ≤ length w
-fewer_kept w = let t = kept_whole w in omega (arith, ap length t.1, length-append (kept w) (after (length (kept w)) t.0))
 
 pub short_swap : (n : ℕ) (w : List ℕ) (i j : ℕ) → IsShort n w → 1 ≤ i → i < j → j ≤ n → IsShort n (times_swap i j w)
 short_swap n w i j s h l m =

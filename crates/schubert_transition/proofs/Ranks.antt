@@ -6,7 +6,8 @@ use Rattle.std.proofs.Common.{◌≡◌, ℕ, zero, suc, ◌+◌, ◌-◌, ◌*�
 use Rattle.std.proofs.lemmas.Bool.{cases_lt}
 use Rattle.sym_model.specs.PlaceOrders.{inversions}
 use Rattle.sym_model.specs.Permutation.{IsOneLine, IsLower, letter, last_descent, last_descent_place}
-use Rattle.schubert_laws.proofs.Swaps.{default_free, among_get}
+use Rattle.sym_model.proofs.Lists.{get_or-any}
+use Rattle.schubert_laws.proofs.Swaps.{among_get}
 use Rattle.schubert_laws.proofs.Transition.{last_descent_is}
 use Rattle.schubert_laws.proofs.TransitionFromOne.{get_past}
 use Rattle.schubert_transition.specs.Transitions.{rank, weight}
@@ -16,7 +17,7 @@ use native.Mathlib.Nat.{mul-le-mul_left, pow-suc}
 pub letter_within : (v : List ℕ) (i : ℕ) → IsOneLine v → i ≤ length v → letter v i ≤ length v
 letter_within v i o h = elim (cases_lt (i - 1) (length v)) [
   | inl l ↦
-      let d = default_free v (i - 1) i 0 l in
+      let d = get_or-any v (i - 1) i 0 l in
       let m = (o.letters (get_or v (i - 1) 0) (among_get (i - 1) 0 v l)).1 in
       omega arith
   | inr l ↦ let p = get_past v (i - 1) i l in omega arith

@@ -1,23 +1,19 @@
 -- One term more in a sum that is made in place, whatever becomes of its label.
-use Rattle.std.proofs.Common.{◌≡◌, ℕ, ◌^◌, ◌≤◌, cond, List, [], ◌∷◌, ◌++◌, length, refl, sym, ap, ◌∙◌, subst, inr, arith, ℤ, pos, ◌+ℤ◌, ◌*ℤ◌, ◌≤ℤ◌, append_assoc}
+use Rattle.std.proofs.Common.{◌≡◌, ℕ, ◌^◌, ◌≤◌, cond, List, [], ◌∷◌, ◌++◌, length, sym, ap, ◌∙◌, subst, inr, arith, ℤ, pos, ◌+ℤ◌, ◌*ℤ◌, ◌≤ℤ◌, append_assoc}
 use Rattle.std.proofs.lemmas.Int.{ints}
 use Rattle.std.proofs.lemmas.List.{map-append}
 use Rattle.coeff_rings.specs.Fractions.{whole}
 use Rattle.sym_model.specs.Sum.{Among}
 use Rattle.sym_model.specs.Expansion.{Fraction, Terms}
-use Rattle.sym_model.specs.WholeTerms.{AreWhole}
 use Rattle.sym_model.proofs.Ring.{product-one}
 use Rattle.sym_model.proofs.Sums.{total_append, Among-append_right}
 use Rattle.sym_model.proofs.Exponents.{same_refl}
 use Rattle.sparse_polys.specs.Combination.{terms_of}
 use Rattle.sparse_polys.proofs.Steps.{among-next}
 use Rattle.schubert_transition.specs.TermLists.{over, only, HasLarge}
-use Rattle.schubert_transition.proofs.TermSums.{over_natural, at_only_natural}
+use Rattle.schubert_transition.proofs.TermSums.{over_natural}
+use Rattle.schubert_transition.proofs.Acted.{at_only_natural}
 use lib.IntN.{+ℤ_idr}
-
-pub AreWhole-terms_of : (es : List (List ℕ × ℤ)) → AreWhole (terms_of whole es)
-AreWhole-terms_of [] = tt
-AreWhole-terms_of (e ∷ es) = (refl, AreWhole-terms_of es)
 
 -- the pairs of a list as terms
 abbrev pub terms : List (List ℕ × ℤ) → Terms (List ℕ)

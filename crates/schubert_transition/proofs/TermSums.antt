@@ -19,18 +19,19 @@ use Rattle.coeff_rings.specs.Fractions.{whole, fraction_sum}
 use Rattle.coeff_rings.specs.Checked.{checked_i128, where_fits}
 use Rattle.coeff_rings.specs.Proved.Whole.{sum-whole, same_whole, where_fits-true}
 use Rattle.sym_model.specs.Sum.{Among}
-use Rattle.sym_model.specs.Polynomial.{same}
 use Rattle.sym_model.specs.Partition.{size}
 use Rattle.sym_model.specs.Expansion.{Fraction, Terms}
 use Rattle.sym_model.specs.WholeTerms.{AreWhole}
 use Rattle.sym_model.proofs.Ring.{distributes_right, distributes_left, product-one}
 use Rattle.sym_model.proofs.Exponents.{same_from, same_apart}
 use Rattle.sym_model.proofs.Polynomials.{at_only}
+use Rattle.sym_model.proofs.Integers.{product-nonnegative}
+use Rattle.sym_model.proofs.Numbers.{nat_lt-false}
 use Rattle.sparse_polys.specs.Combination.{coefficient, HasMoreAt}
 use Rattle.sparse_polys.specs.Refusal.{IsRefused}
 use Rattle.sparse_polys.proofs.Totals.{total-more, carried}
-use Rattle.schubert_laws.proofs.Dominant.{not_less}
 use Rattle.schubert_transition.specs.TermLists.{equal, over, IsTerm, AreTerms, IsTable}
+use Rattle.schubert_transition.proofs.Acted.{at_only_natural}
 use lib.IntN.{+ℤ_idl, +ℤ_idr, *ℤ-zero, zero-*ℤ}
 
 pub equal_tells : (a b : List ℕ) → equal a b ≡ true → a ≡ b
@@ -41,16 +42,11 @@ equal_from a b e = subst (λ x. equal a x ≡ true) e (nat_list_eq_equiv.refl a)
 
 -- ---- sums of natural coefficients
 
-product_natural : (x y : ℤ) → pos 0 ≤ℤ x → pos 0 ≤ℤ y → pos 0 ≤ℤ (x *ℤ y)
-product_natural (pos a) (pos b) h k = omega (arith, ints)
-product_natural (pos a) (negsuc b) h k = absurd (omega (arith, ints))
-product_natural (negsuc a) y h k = absurd (omega (arith, ints))
-
 pub product_more : (x y z : ℤ) → pos 0 ≤ℤ x → y ≤ℤ z → (x *ℤ y) ≤ℤ (x *ℤ z)
 product_more x y z h k = by (z -ℤ y) (omega (arith, ints)) (omega (arith, ints))
   where
     by : (d : ℤ) → pos 0 ≤ℤ d → z ≡ y +ℤ d → (x *ℤ y) ≤ℤ (x *ℤ z)
-    by d n e = let p = product_natural x d h n in let q = ap (λ t. x *ℤ t) e ∙ distributes_left x y d in omega (arith, ints)
+    by d n e = let p = product-nonnegative x d h n in let q = ap (λ t. x *ℤ t) e ∙ distributes_left x y d in omega (arith, ints)
 
 -- no coefficient is negative
 abbrev pub AreNatural : Terms (List ℕ) → Type 0
@@ -59,7 +55,7 @@ AreNatural terms = (t : List ℕ × Fraction) → Among t terms → pos 0 ≤ℤ
 pub over_natural : (φ : List ℕ → ℤ) (terms : Terms (List ℕ)) → AreNatural terms → ((α : List ℕ) → pos 0 ≤ℤ φ α) → pos 0 ≤ℤ over φ terms
 over_natural φ [] n h = omega (arith, ints)
 over_natural φ (t ∷ terms) n h =
-    let a = product_natural t.1.0 (φ t.0) (n t (inl refl)) (h t.0) in
+    let a = product-nonnegative t.1.0 (φ t.0) (n t (inl refl)) (h t.0) in
     let b = over_natural φ terms (λ u m. n u (inr m)) h in
     omega (arith, ints)
 
@@ -138,13 +134,6 @@ look_up_among (u ∷ terms) d t (inr m) = by (equal t.0 u.0) refl (look_up_among
 found_among : (terms : Terms (List ℕ)) → IsDistinct equal (keys_of terms) → (t : List ℕ × Fraction) → Among t terms → coefficient equal terms t.0 ≡ t.1
 found_among terms d t m = ap (λ (o : Option Fraction). unwrap_or o (pos 0, 1)) (look_up_among terms d t m)
 
-pub at_only_natural : (k α : List ℕ) → pos 0 ≤ℤ at_only k α
-at_only_natural k α = by (same α k)
-  where
-    by : (b : Bool) → pos 0 ≤ℤ cond b (pos 1) (pos 0)
-    by true = omega (arith, ints)
-    by false = omega (arith, ints)
-
 -- what a look-up finds is below a bound of all coefficients
 pub found_small : (terms : Terms (List ℕ)) (label : List ℕ) → ((t : List ℕ × Fraction) → Among t terms → t.1.0 <ℤ pos (2 ^ 127)) → (coefficient equal terms label).0 <ℤ pos (2 ^ 127)
 found_small [] label h = omega (arith, ints)
@@ -166,7 +155,7 @@ answered_small a c h i k l n = by (a +ℤ c) refl
     by (negsuc z) e = omega (arith, ints)
     by (pos z) e = elim (cases_lt z (2 ^ 127)) [
       | inl f ↦ omega (arith, ints)
-      | inr f ↦ absurd (refuse (ap checked_i128 e ∙ ap (λ b. where_fits b (pos z)) (not_less z (2 ^ 127) f)))
+      | inr f ↦ absurd (refuse (ap checked_i128 e ∙ ap (λ b. where_fits b (pos z)) (nat_lt-false z (2 ^ 127) f)))
     ]
 
 pub terms_more : (is_label : List ℕ → Bool) (old new : Terms (List ℕ)) (k : List ℕ) (c : ℤ) → IsTable is_label old → IsTable is_label new → AreWhole old → HasMoreAt equal old k (whole c) new

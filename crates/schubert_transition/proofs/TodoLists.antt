@@ -58,11 +58,6 @@ same_at [] i w v h e f = absurd (omega arith)
 same_at (x ∷ todo) zero w v h e f = f ∙ sym e
 same_at (x ∷ todo) (suc i) w v h e f = same_at todo i w v (omega arith) e f
 
-pub among_at : {A : Type 0} (todo : List A) (i : ℕ) (w : A) → i < length todo → w ≡ get_or todo i w → Among w todo
-among_at [] i w h e = absurd (omega arith)
-among_at (x ∷ todo) zero w h e = inl e
-among_at (x ∷ todo) (suc i) w h e = inr (among_at todo i w (omega arith) e)
-
 pub total_set : {A : Type 0} (f : A → ℤ) (todo : List A) (i : ℕ) (w v : A) → i < length todo → w ≡ get_or todo i w
     → total f (set todo i v) +ℤ f w ≡ total f todo +ℤ f v
 total_set f [] i w v h e = absurd (omega arith)

@@ -1,23 +1,19 @@
 -- A polynomial that is added to the one of an entry (specs/Todo), whatever becomes of its labels.
 use Rattle.std.proofs.Common.{◌≡◌, ℕ, ◌-◌, ◌^◌, ◌<◌, ◌≤◌, true, List, length, get_or, set, sym, ap, subst, inl, inr, arith, ℤ, pos, ◌+ℤ◌, ◌≤ℤ◌}
-use Rattle.std.specs.Prelude.{Result, Ok, Err, OnOk}
 use Rattle.std.proofs.lemmas.Int.{ints}
 use Rattle.sym_model.specs.Polynomial.{join, resize, fits_in}
 use Rattle.sym_model.specs.PlaceOrders.{inversions}
 use Rattle.sym_model.specs.Expansion.{Terms}
 use Rattle.sym_model.proofs.Exponents.{fits_in_length}
+use Rattle.sym_model.proofs.Sums.{Among-get_or}
 use Rattle.schubert_transition.specs.declared.todo.Waiting.{Waiting}
 use Rattle.schubert_transition.specs.TermLists.{over, only, AreTerms, HasLarge}
 use Rattle.schubert_transition.specs.Transitions.{acted}
 use Rattle.schubert_transition.specs.Todo.{value_of, IsWaiting, AreWaiting, HasLargeValue}
-use Rattle.schubert_transition.proofs.TermSums.{AreNatural, over_natural, over_within, at_only_natural}
+use Rattle.schubert_transition.proofs.TermSums.{AreNatural, over_natural, over_within}
 use Rattle.schubert_transition.proofs.Monomials.{schubert_monomials}
-use Rattle.schubert_transition.proofs.Acted.{acted_natural, acted_at}
-use Rattle.schubert_transition.proofs.TodoLists.{among_at, among_set, total_set, one_at_most}
-
-pub on_ok : {A E : Type 0} {P Q : Type 0} (r : Result A E) → OnOk r P → (P → Q) → OnOk r Q
-on_ok (Ok x) h f = f h
-on_ok (Err e) h f = tt
+use Rattle.schubert_transition.proofs.Acted.{acted_natural, acted_at, at_only_natural}
+use Rattle.schubert_transition.proofs.TodoLists.{among_set, total_set, one_at_most}
 
 -- the entry with another polynomial
 abbrev pub entry : Waiting → Terms (List ℕ) → Waiting
@@ -37,7 +33,7 @@ pub set_waiting : (n d : ℕ) (todo : List Waiting) (at : ℕ) (w : Waiting) (fa
     → at < length todo → w ≡ get_or todo at w → AreWaiting n d todo → AreTerms n (d - inversions w.perm) factor → AreWaiting n d (set todo at (entry w factor))
 set_waiting n d todo at w factor inside is waiting terms x m = elim (among_set todo at (entry w factor) x m) [
   | inl e ↦
-      let was = waiting w (among_at todo at w inside is) in
+      let was = waiting w (Among-get_or todo at w inside is) in
       subst (IsWaiting n d) (sym e) (record { short = was.short; inside = was.inside; terms = terms })
   | inr k ↦ waiting x k
 ]
@@ -53,7 +49,7 @@ pub set_large : (n d : ℕ) (h : List ℕ → List ℕ) (todo : List Waiting) (a
     → HasLarge n (λ ψ. over ψ w.factor +ℤ over (λ e. ψ (h e)) terms)
     → HasLargeValue (λ φ. value_of n φ todo +ℤ over (λ e. acted n φ perm (h e)) terms)
 set_large n d h todo at w terms perm inside is same waiting natural (α, few, large) =
-    let here = among_at todo at w inside is in
+    let here = Among-get_or todo at w inside is in
     let was = waiting w here in
     let monomials = schubert_monomials n w.perm was.short in
     let fits : fits_in n α ≡ true = fits_in_length n α few in

@@ -4,6 +4,7 @@ use Rattle.std.proofs.Common.{◌≡◌, ℕ, zero, suc, ◌+◌, ◌<◌, ◌�
 use Rattle.std.proofs.lemmas.Bool.{cases_lt}
 use Rattle.std.proofs.lemmas.List.{get_or_past, get_or-map, length-map}
 use Rattle.sym_model.specs.Schur.{times_in}
+use Rattle.sym_model.proofs.Lists.{drop-none}
 use Rattle.schur_laws.proofs.RisingRows.{up_to_letter, one_more_letter, right_of_place, Rises, rising_same}
 use Rattle.schur_laws.proofs.Interlacing.{add_up, add_up-same, add_up-longer, Places, RightOf, by_columns, by_rows}
 use Rattle.schur_laws.proofs.SpelledWords.{spelled, spelled_rises, times_spelled}
@@ -105,10 +106,6 @@ letters_right_of P k h = record {
   second = λ j r. right_of_place (suc k) j (row P r) (h r);
 }
 
-drop_none : (w : List ℕ) → drop 0 w ≡ w
-drop_none [] = refl
-drop_none (a ∷ w) = refl
-
 nothing_dropped : (j x : ℕ) → times_in x (drop j []) ≡ 0
 nothing_dropped zero x = refl
 nothing_dropped (suc j) x = refl
@@ -136,8 +133,8 @@ rows_compare n start outer inner end P T k r =
     at_column zero =
         let e = right_in_more (suc (suc k)) 0 (suc r) P in
         let f = right_in_more (suc k) 0 (suc r) P in
-        let e' = add_up-same (λ i. times_in (suc (suc k)) (drop 0 (row P i))) (λ i. times_in (suc (suc k)) (row P i)) 0 (length P) (λ i. ap (times_in (suc (suc k))) (drop_none (row P i))) in
-        let f' = add_up-same (λ i. times_in (suc k) (drop 0 (row P i))) (λ i. times_in (suc k) (row P i)) 0 (length P) (λ i. ap (times_in (suc k)) (drop_none (row P i))) in
+        let e' = add_up-same (λ i. times_in (suc (suc k)) (drop 0 (row P i))) (λ i. times_in (suc (suc k)) (row P i)) 0 (length P) (λ i. ap (times_in (suc (suc k))) (drop-none (row P i))) in
+        let f' = add_up-same (λ i. times_in (suc k) (drop 0 (row P i))) (λ i. times_in (suc k) (row P i)) 0 (length P) (λ i. ap (times_in (suc k)) (drop-none (row P i))) in
         let g = T.all_good k in
         omega arith
     at_column (suc j) =
@@ -195,8 +192,8 @@ companion_tableau n start outer inner end P Q lq le T C = record {
   good = λ j r. columns_compare inner Q C.rises columns compare (suc j) r;
   all_good = λ r.
       (let a = columns_compare inner Q C.rises columns compare 0 r in
-      let e = add_up-same (λ i. times_in (suc (suc r)) (drop 0 (row Q i))) (λ i. times_in (suc (suc r)) (row Q i)) 0 (length Q) (λ i. ap (times_in (suc (suc r))) (drop_none (row Q i))) in
-      let f = add_up-same (λ i. times_in (suc r) (drop 0 (row Q i))) (λ i. times_in (suc r) (row Q i)) 0 (length Q) (λ i. ap (times_in (suc r)) (drop_none (row Q i))) in
+      let e = add_up-same (λ i. times_in (suc (suc r)) (drop 0 (row Q i))) (λ i. times_in (suc (suc r)) (row Q i)) 0 (length Q) (λ i. ap (times_in (suc (suc r))) (drop-none (row Q i))) in
+      let f = add_up-same (λ i. times_in (suc r) (drop 0 (row Q i))) (λ i. times_in (suc r) (row Q i)) 0 (length Q) (λ i. ap (times_in (suc r)) (drop-none (row Q i))) in
       omega arith);
   sums = λ r.
       (let a = tableau_up_to n start outer inner end P Q T C r n in

@@ -7,15 +7,17 @@ use Rattle.sym_model.specs.Partition.{IsPartition, columns, part, after, in_fron
 use Rattle.sym_model.specs.Polynomial.{Term, Same, pair}
 use Rattle.sym_model.specs.Schur.{contains, row_lengths, fillings_of, semistandard, columns_rise, times_in, letters_of, content, schur, skew_schur}
 use Rattle.sym_model.specs.Expansion.{beside}
-use Rattle.sym_model.proofs.AfterLists.{after_among}
+use Rattle.sym_model.proofs.AfterLists.{after_among, after-append}
 use Rattle.sym_model.proofs.Polynomials.{pair_beside, pair_each, same_from_pair}
 use Rattle.sym_model.proofs.Ring.{one-product}
 use Rattle.sym_model.proofs.Sums.{total_ext, total_among, total_map, total_select}
+use Rattle.sym_model.proofs.Contents.{times_in-append}
+use Rattle.sym_model.proofs.Lists.{map-among, map-map}
 use Rattle.tableau_laws.proofs.ColumnCounts.{contains_nothing}
-use Rattle.tableau_laws.proofs.Contents.{map_among, times_in-append}
+use Rattle.tableau_laws.proofs.PaddedTableaux.{columns_rise-nothing}
 use Rattle.schur_laws.specs.InnerShapes.{shapes_inside}
-use Rattle.schur_laws.proofs.RisingWords.{rising_words, raised_by, AreLetters, after_append, after_shift, rising-tells}
-use Rattle.schur_laws.proofs.CutRows.{tableaux_below, may_follow, rises_nothing, total_straight, total_semistandard, HaveLetters, below-tells, below-same}
+use Rattle.schur_laws.proofs.RisingWords.{rising_words, raised_by, AreLetters, after_shift, rising-tells}
+use Rattle.schur_laws.proofs.CutRows.{tableaux_below, may_follow, total_straight, total_semistandard, HaveLetters, below-tells, below-same}
 use Rattle.schur_laws.proofs.CutColumns.{AreUpTo}
 use Rattle.schur_laws.proofs.CutTableaux.{glued, cut_below, total_cut}
 use Rattle.schur_laws.proofs.InnerShapeLists.{IsInside, inside-tells, same-without_last_zeros, contains-without_last_zeros}
@@ -56,7 +58,7 @@ below_zeros n m (a ∷ outer) h =
 -- rows without cells at the end do not count
 row_in_front : (n b : ℕ) (l p : List ℕ) (g : List ℕ → ℤ)
     → total (λ w. cond (columns_rise p w) (total (λ T. g (w ++ letters_of T)) (tableaux_below n l [] 0 w)) (pos 0)) (rising_words n 0 b) ≡ total (λ T. g (letters_of T)) (tableaux_below n (in_front b l) [] 0 p)
-row_in_front n zero [] p g = ap (λ t. cond t (total (λ T. g ([] ++ letters_of T)) (tableaux_below n [] [] 0 [])) (pos 0) +ℤ pos 0) (rises_nothing p) ∙ +ℤ_idr (g [] +ℤ pos 0)
+row_in_front n zero [] p g = ap (λ t. cond t (total (λ T. g ([] ++ letters_of T)) (tableaux_below n [] [] 0 [])) (pos 0) +ℤ pos 0) (columns_rise-nothing p) ∙ +ℤ_idr (g [] +ℤ pos 0)
 row_in_front n zero (x ∷ l) p g = sym (total_straight n 0 (x ∷ l) p (λ T. g (letters_of T)))
 row_in_front n (suc b) l p g = sym (total_straight n (suc b) l p (λ T. g (letters_of T)))
 
@@ -114,17 +116,13 @@ times_in_high n j (v ∷ S) (w ∷ T) h l e =
     let c = times_in-append j w (letters_of T) in
     omega arith
 
-pub map-map : {A B C : Type 0} (f : B → C) (g : A → B) (xs : List A) → map f (map g xs) ≡ map (λ (x : A). f (g x)) xs
-map-map f g [] = refl
-map-map f g (x ∷ xs) = ap (λ l. f (g x) ∷ l) (map-map f g xs)
-
 content-glued : (n k : ℕ) (S T : List (List ℕ)) → HaveLetters n S → HaveLetters k T → length S ≡ length T → content (n + k) (letters_of (glued n S T)) ≡ content n (letters_of S) ++ content k (letters_of T)
 content-glued n k S T l m e =
     let w = letters_of (glued n S T) in
-    ap (map (λ j. times_in j w)) (after_append 0 n k ∙ ap (λ i. after 0 n ++ after i k) (let z : 0 + n ≡ n + 0 = omega arith in z) ∙ ap (λ i. after 0 n ++ i) (after_shift n 0 k))
+    ap (map (λ j. times_in j w)) (after-append 0 n k ∙ ap (λ i. after 0 n ++ after i k) (let z : 0 + n ≡ n + 0 = omega arith in z) ∙ ap (λ i. after 0 n ++ i) (after_shift n 0 k))
     ∙ map-append (λ j. times_in j w) (after 0 n) (map (λ j. n + j) (after 0 k))
-    ∙ ap₂ ◌++◌ (map_among (λ j. times_in j w) (λ j. times_in j (letters_of S)) (after 0 n) (λ j o. let r = after_among 0 n j o in let h = r.1 in times_in_low n k j S T (omega arith) m e))
-    (map-map (λ j. times_in j w) (λ j. n + j) (after 0 k) ∙ map_among (λ j. times_in (n + j) w) (λ j. times_in j (letters_of T)) (after 0 k) (λ j o. let r = after_among 0 k j o in times_in_high n j S T r.0 l e))
+    ∙ ap₂ ◌++◌ (map-among (λ j. times_in j w) (λ j. times_in j (letters_of S)) (after 0 n) (λ j o. let r = after_among 0 n j o in let h = r.1 in times_in_low n k j S T (omega arith) m e))
+    (map-map (λ j. times_in j w) (λ j. n + j) (after 0 k) ∙ map-among (λ j. times_in (n + j) w) (λ j. times_in j (letters_of T)) (after 0 k) (λ j o. let r = after_among 0 k j o in times_in_high n j S T r.0 l e))
 
 -- ---- the coproduct
 

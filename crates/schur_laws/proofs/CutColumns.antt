@@ -2,8 +2,10 @@
 use Rattle.std.proofs.Common.{◌≡◌, ℕ, zero, suc, ◌+◌, ◌-◌, ◌<◌, ◌≤◌, ◌⊎◌, inl, inr, nat_le, nat_lt, Bool, true, false, ◌&&◌, List, [], ◌∷◌, ◌++◌, length, drop, refl, sym, ap, ap₂, ◌∙◌, arith}
 use Rattle.std.proofs.lemmas.Bool.{cases_lt, le-leb, lt-leb, lt-ltb, le-ltb}
 use Rattle.sym_model.specs.Schur.{columns_rise}
+use Rattle.sym_model.proofs.Numbers.{nat_le-suc}
+use Rattle.sym_model.proofs.Lists.{drop-none}
+use Rattle.tableau_laws.proofs.PaddedTableaux.{columns_rise-nothing}
 use Rattle.schur_laws.proofs.RisingWords.{AreLetters, raised_by}
-use Rattle.schur_laws.proofs.CutRows.{drop_none, rises_nothing}
 
 -- no letter is past n
 abbrev pub AreUpTo : ℕ → List ℕ → Type 0
@@ -26,25 +28,18 @@ rises-raised n [] w = refl
 rises-raised n (a ∷ p) [] = refl
 rises-raised n (a ∷ p) (b ∷ w) = ap₂ (λ s t. s && t) (raise-lt n a b) (rises-raised n p w)
 
-leb-next : (a b : ℕ) → nat_le (suc a) (suc b) ≡ nat_le a b
-leb-next a b = by (cases_lt b a)
-  where
-    by : (b < a) ⊎ (a ≤ b) → nat_le (suc a) (suc b) ≡ nat_le a b
-    by (inl l) = lt-leb (suc a) (suc b) (omega arith) ∙ sym (lt-leb a b l)
-    by (inr l) = le-leb (suc a) (suc b) (omega arith) ∙ sym (le-leb a b l)
-
 pub columns_cut : (m n : ℕ) (p q v w : List ℕ) → AreUpTo n p → AreUpTo n v → AreLetters m w → length v + length w ≤ length p + length q
     → columns_rise (p ++ raised_by n q) (v ++ raised_by n w) ≡ nat_le (length v) (length p) && (columns_rise p v && columns_rise q (drop (length p - length v) w))
 columns_cut m n [] q [] w f g h k =
     rises-raised n q w
-    ∙ sym (ap₂ (λ t l. t && columns_rise q l) (le-leb 0 0 (omega arith)) (ap (λ i. drop i w) (let e : 0 - 0 ≡ 0 = omega arith in e) ∙ drop_none w))
+    ∙ sym (ap₂ (λ t l. t && columns_rise q l) (le-leb 0 0 (omega arith)) (ap (λ i. drop i w) (let e : 0 - 0 ≡ 0 = omega arith in e) ∙ drop-none w))
 columns_cut m n [] [] (b ∷ v) w f g h k = absurd (omega arith)
 columns_cut m n [] (a ∷ q) (b ∷ v) w f g h k =
     let l = g.0 in
     ap (λ t. t && columns_rise (raised_by n q) (v ++ raised_by n w)) (le-ltb (n + a) b (omega arith))
     ∙ sym (ap (λ t. t && (true && columns_rise (a ∷ q) (drop (0 - suc (length v)) w))) (lt-leb (suc (length v)) 0 (omega arith)))
 columns_cut m n (a ∷ p) q [] [] f g h k =
-    sym (ap₂ (λ s t. s && t) (le-leb 0 (suc (length p)) (omega arith)) (ap (columns_rise q) (nothing (suc (length p) - 0)) ∙ rises_nothing q))
+    sym (ap₂ (λ s t. s && t) (le-leb 0 (suc (length p)) (omega arith)) (ap (columns_rise q) (nothing (suc (length p) - 0)) ∙ columns_rise-nothing q))
   where
     nothing : (i : ℕ) → drop {A = ℕ} i [] ≡ []
     nothing zero = refl
@@ -55,14 +50,14 @@ columns_cut m n (a ∷ p) q [] (b ∷ w) f g h k =
     let e : suc (length p) - 0 ≡ suc (length p) = omega arith in
     let d : length p - 0 ≡ length p = omega arith in
     ap₂ (λ s t. s && t) (lt-ltb a (n + b) (omega arith)) (columns_cut m n p q [] w f.1 tt h.2 (omega arith))
-    ∙ ap₂ (λ s t. s && (t && columns_rise q (drop (length p - 0) w))) (le-leb 0 (length p) (omega arith)) (rises_nothing p)
+    ∙ ap₂ (λ s t. s && (t && columns_rise q (drop (length p - 0) w))) (le-leb 0 (length p) (omega arith)) (columns_rise-nothing p)
     ∙ ap (λ i. columns_rise q (drop i w)) d
     ∙ sym (ap₂ (λ s i. s && columns_rise q (drop i (b ∷ w))) (le-leb 0 (suc (length p)) (omega arith)) e)
 columns_cut m n (a ∷ p) q (b ∷ v) w f g h k =
     let e : suc (length p) - suc (length v) ≡ length p - length v = omega arith in
     ap (λ t. nat_lt a b && t) (columns_cut m n p q v w f.1 g.1 h (omega arith))
     ∙ regroup (nat_lt a b) (nat_le (length v) (length p)) (columns_rise p v) (columns_rise q (drop (length p - length v) w))
-    ∙ sym (ap₂ (λ s i. s && ((nat_lt a b && columns_rise p v) && columns_rise q (drop i w))) (leb-next (length v) (length p)) e)
+    ∙ sym (ap₂ (λ s i. s && ((nat_lt a b && columns_rise p v) && columns_rise q (drop i w))) (nat_le-suc (length v) (length p)) e)
   where
     regroup : (x y z u : Bool) → x && (y && (z && u)) ≡ y && ((x && z) && u)
     regroup true y z u = refl

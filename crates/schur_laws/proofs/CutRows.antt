@@ -3,8 +3,10 @@ use Rattle.std.proofs.Common.{◌≡◌, ℕ, zero, suc, ◌-◌, Bool, true, fa
 use Rattle.sym_model.specs.Sum.{total, each, Among}
 use Rattle.sym_model.specs.Partition.{part}
 use Rattle.sym_model.specs.Schur.{words, row_lengths, fillings_of, row_rises, columns_rise, semistandard}
-use Rattle.sym_model.proofs.Sums.{total_ext, total_map, total_each, Among_from_each, Among_from_map}
-use Rattle.schur_laws.proofs.RisingWords.{rising_words, IsWord, AreLetters, total_listed, total_tested, total_rising_words, rising-tells}
+use Rattle.sym_model.proofs.Sums.{total_ext, total_map, total_each, Among_from_each, Among_from_map, total_cond, total_cond_list as total_listed}
+use Rattle.sym_model.proofs.Lists.{drop-none}
+use Rattle.sym_model.proofs.Parts.{part-drop}
+use Rattle.schur_laws.proofs.RisingWords.{rising_words, IsWord, AreLetters, total_rising_words, rising-tells}
 
 -- the tableaux of outer/inner with entries from 1 to n that may stand below a row p, which begins in column c + 1
 abbrev pub tableaux_below : ℕ → List ℕ → List ℕ → ℕ → List ℕ → List (List (List ℕ))
@@ -16,14 +18,6 @@ tableaux_below n (a ∷ outer) inner c p =
 abbrev pub may_follow : ℕ → List ℕ → List (List ℕ) → Bool
 may_follow d p [] = true
 may_follow d p (w ∷ T) = columns_rise p (drop d w)
-
-pub drop_none : (w : List ℕ) → drop 0 w ≡ w
-drop_none [] = refl
-drop_none (a ∷ w) = refl
-
-pub rises_nothing : (p : List ℕ) → columns_rise p [] ≡ true
-rises_nothing [] = refl
-rises_nothing (a ∷ p) = refl
 
 -- ---- sums over the first row
 
@@ -43,7 +37,7 @@ pub total_straight : (n a : ℕ) (outer p : List ℕ) (h : List (List ℕ) → �
 total_straight n a outer p h =
     total_below n a outer [] 0 p h
     ∙ total_ext (λ w. cond (columns_rise p (drop 0 w)) (total (λ T. h (w ∷ T)) (tableaux_below n outer [] 0 w)) (pos 0)) (λ w. cond (columns_rise p w) (total (λ T. h (w ∷ T)) (tableaux_below n outer [] 0 w)) (pos 0))
-    (λ w. ap (λ v. cond (columns_rise p v) (total (λ T. h (w ∷ T)) (tableaux_below n outer [] 0 w)) (pos 0)) (drop_none w)) (rising_words n 0 (a - 0))
+    (λ w. ap (λ v. cond (columns_rise p v) (total (λ T. h (w ∷ T)) (tableaux_below n outer [] 0 w)) (pos 0)) (drop-none w)) (rising_words n 0 (a - 0))
     ∙ ap (λ i. total (λ w. cond (columns_rise p w) (total (λ T. h (w ∷ T)) (tableaux_below n outer [] 0 w)) (pos 0)) (rising_words n 0 i)) (let e : a - 0 ≡ a = omega arith in e)
 
 -- of a shape whose inner partition is written with a number for each row
@@ -51,13 +45,9 @@ pub total_skew : (n a b c : ℕ) (outer inner p : List ℕ) (h : List (List ℕ)
     → total h (tableaux_below n (a ∷ outer) (b ∷ inner) c p) ≡ total (λ w. cond (columns_rise p (drop (c - b) w)) (total (λ T. h (w ∷ T)) (tableaux_below n outer inner b w)) (pos 0)) (rising_words n 0 (a - b))
 total_skew n a b c outer inner p h =
     total_below n a outer (b ∷ inner) c p h
-    ∙ ap (λ l. total (λ w. cond (columns_rise p (drop (c - b) w)) (total (λ T. h (w ∷ T)) (tableaux_below n outer l b w)) (pos 0)) (rising_words n 0 (a - b))) (drop_none inner)
+    ∙ ap (λ l. total (λ w. cond (columns_rise p (drop (c - b) w)) (total (λ T. h (w ∷ T)) (tableaux_below n outer l b w)) (pos 0)) (rising_words n 0 (a - b))) (drop-none inner)
 
 -- ---- the tableaux of the definitions
-
-part_next : (inner : List ℕ) → part (drop 1 inner) 1 ≡ part inner 2
-part_next [] = refl
-part_next (b ∷ inner) = ap (λ l. part l 1) (drop_none inner)
 
 semistandard_row : (inner w : List ℕ) (T : List (List ℕ)) → semistandard inner (w ∷ T) ≡ row_rises w && (may_follow (part inner 1 - part (drop 1 inner) 1) w T && semistandard (drop 1 inner) T)
 semistandard_row inner w [] = by (row_rises w)
@@ -67,7 +57,7 @@ semistandard_row inner w [] = by (row_rises w)
     by false = refl
 semistandard_row inner w (v ∷ T) =
     by (row_rises w) (columns_rise w (drop (part inner 1 - part inner 2) v)) (semistandard (drop 1 inner) (v ∷ T))
-    ∙ ap (λ i. row_rises w && (columns_rise w (drop (part inner 1 - i) v) && semistandard (drop 1 inner) (v ∷ T))) (sym (part_next inner))
+    ∙ ap (λ i. row_rises w && (columns_rise w (drop (part inner 1 - i) v) && semistandard (drop 1 inner) (v ∷ T))) (sym (part-drop inner))
   where
     by : (p q r : Bool) → (p && q) && r ≡ p && (q && r)
     by true q r = refl
@@ -75,7 +65,7 @@ semistandard_row inner w (v ∷ T) =
 
 row_lengths-first : (a : ℕ) (outer inner : List ℕ) → row_lengths (a ∷ outer) inner ≡ (a - part inner 1) ∷ row_lengths outer (drop 1 inner)
 row_lengths-first a outer [] = ap (λ i. i ∷ row_lengths outer []) (let e : a ≡ a - 0 = omega arith in e)
-row_lengths-first a outer (b ∷ inner) = ap (λ l. (a - b) ∷ row_lengths outer l) (sym (drop_none inner))
+row_lengths-first a outer (b ∷ inner) = ap (λ l. (a - b) ∷ row_lengths outer l) (sym (drop-none inner))
 
 -- the sum over the tableaux with this first row
 abbrev row_sum : ℕ → List ℕ → List ℕ → ℕ → List ℕ → (List (List ℕ) → ℤ) → List ℕ → ℤ
@@ -111,9 +101,9 @@ total_semistandard n (a ∷ outer) inner c p h =
         (λ T. cond (row_rises w) (cond rises (cond (may_follow (part inner 1 - part (drop 1 inner) 1) w T && semistandard (drop 1 inner) T) (h (w ∷ T)) (pos 0)) (pos 0)) (pos 0))
         (λ T. ap (λ t. cond (rises && t) (h (w ∷ T)) (pos 0)) (semistandard_row inner w T)
         ∙ tests rises (row_rises w) (may_follow (part inner 1 - part (drop 1 inner) 1) w T && semistandard (drop 1 inner) T) (h (w ∷ T))) rows
-        ∙ total_tested (row_rises w) (λ T. cond rises (cond (may_follow (part inner 1 - part (drop 1 inner) 1) w T && semistandard (drop 1 inner) T) (h (w ∷ T)) (pos 0)) (pos 0)) rows
+        ∙ total_cond (row_rises w) (λ T. cond rises (cond (may_follow (part inner 1 - part (drop 1 inner) 1) w T && semistandard (drop 1 inner) T) (h (w ∷ T)) (pos 0)) (pos 0)) rows
         ∙ ap (λ z. cond (row_rises w) z (pos 0))
-        (total_tested rises (λ T. cond (may_follow (part inner 1 - part (drop 1 inner) 1) w T && semistandard (drop 1 inner) T) (h (w ∷ T)) (pos 0)) rows ∙ ap (λ z. cond rises z (pos 0)) rec)
+        (total_cond rises (λ T. cond (may_follow (part inner 1 - part (drop 1 inner) 1) w T && semistandard (drop 1 inner) T) (h (w ∷ T)) (pos 0)) rows ∙ ap (λ z. cond rises z (pos 0)) rec)
 
 -- ---- what the rows of a tableau are
 
@@ -153,7 +143,7 @@ next_parts inner other e i = at inner i ∙ e (suc i) ∙ sym (at other i)
     at : (l : List ℕ) (j : ℕ) → get_or (drop 1 l) j 0 ≡ get_or l (suc j) 0
     at [] zero = refl
     at [] (suc j) = refl
-    at (b ∷ l) j = ap (λ m. get_or m j 0) (drop_none l)
+    at (b ∷ l) j = ap (λ m. get_or m j 0) (drop-none l)
 
 pub below-same : (n : ℕ) (outer inner other : List ℕ) (c : ℕ) (p : List ℕ) (h : List (List ℕ) → ℤ) → SameParts inner other
     → total h (tableaux_below n outer inner c p) ≡ total h (tableaux_below n outer other c p)

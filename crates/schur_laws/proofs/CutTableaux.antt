@@ -6,9 +6,9 @@ use Rattle.sym_model.specs.Sum.{total, Among}
 use Rattle.sym_model.specs.Partition.{Falls, columns}
 use Rattle.sym_model.specs.Schur.{columns_rise}
 use Rattle.sym_model.proofs.AfterLists.{after_among}
-use Rattle.sym_model.proofs.Sums.{total_ext, total_among, total_zero, total_map, total_each, total_exchange}
+use Rattle.sym_model.proofs.Sums.{total_ext, total_among, total_zero, total_map, total_each, total_exchange, total_cond as total_tested}
 use Rattle.schur_laws.specs.InnerShapes.{up_to, shapes_inside}
-use Rattle.schur_laws.proofs.RisingWords.{rising_words, raised_by, cut_sum, total_tested, total_cut_words, total_up_to, rising-tells}
+use Rattle.schur_laws.proofs.RisingWords.{rising_words, raised_by, cut_sum, total_cut_words, total_up_to, rising-tells}
 use Rattle.schur_laws.proofs.CutRows.{tableaux_below, total_straight, total_skew}
 use Rattle.schur_laws.proofs.CutColumns.{AreUpTo, letters_up_to, columns_cut}
 

@@ -2,20 +2,20 @@
 -- the start come, for the inner partition of the first shape as the start, to its outer one.
 use Rattle.std.proofs.Common.{◌≡◌, ℕ, zero, suc, ◌<◌, ◌≤◌, ◌⊎◌, ◌==◌, Bool, true, false, cond, ◌&&◌, List, [], ◌∷◌, map, length, get_or, nat_le, sym, ◌∙◌, ap, subst, refl, inl, inr, arith, pos}
 use Rattle.std.proofs.lemmas.List.{length-map, get_or_past}
-use Rattle.std.proofs.lemmas.Bool.{and_parts, and_from, cases_lt, leb-true, le-leb, eqb-true, eq-eqb}
+use Rattle.std.proofs.lemmas.Bool.{and_parts, cases_lt, leb-true, eqb-true}
 use Rattle.sym_model.specs.Sum.{select, Among, Once, Within}
 use Rattle.sym_model.specs.Partition.{Falls, ArePositive, IsPartition, rows, without_last_zeros}
 use Rattle.sym_model.specs.Polynomial.{same, resize}
 use Rattle.sym_model.specs.Schur.{contains}
 use Rattle.sym_model.specs.GoodTableau.{is_falling}
-use Rattle.sym_model.proofs.Sums.{total_ext, Among-select, Among_from_select, Among_from_map, Once-map, Once-select, length_within}
+use Rattle.sym_model.proofs.Sums.{total_ext, Among-select, Among_from_select, Among_from_map, Once-map, Once-select, length_within, length-select}
 use Rattle.tableau_laws.specs.PaddedRows.{transposed, fillings_over, pattern_of}
 use Rattle.tableau_laws.specs.Grid.{are_tableau_columns}
 use Rattle.tableau_laws.specs.ColumnFold.{sum_reached, is_good_by_columns, over_columns, column_lines, is_sum}
 use Rattle.tableau_laws.proofs.PatternFillings.{filling_tells, filling_from, fillings_once}
 use Rattle.tableau_laws.proofs.Transposing.{transposed-sum}
 use Rattle.tableau_laws.proofs.ColumnSums.{of_good_columns, total_good_columns}
-use Rattle.tableau_laws.proofs.ColumnCounts.{contains_nothing, count_total, sum_at_start, falling-resize}
+use Rattle.tableau_laws.proofs.ColumnCounts.{sum_at_start, falling-resize}
 use Rattle.schur_laws.proofs.GoodTableaux.{is_counted, IsTableau, tableau_tells, tableau_back}
 use Rattle.schur_laws.proofs.Companions.{companion, length_companion, IsCompanion, companion_tells, companion_tableau, told_by_companion}
 
@@ -38,13 +38,6 @@ contains_places [] (b ∷ inner) h (suc r) =
     omega arith
 contains_places (a ∷ outer) (b ∷ inner) h zero = leb-true b a (and_parts (nat_le b a) (contains outer inner) h).0
 contains_places (a ∷ outer) (b ∷ inner) h (suc r) = contains_places outer inner (and_parts (nat_le b a) (contains outer inner) h).1 r
-
-pub contains_from_places : (outer inner : List ℕ) → ((r : ℕ) → get_or inner r 0 ≤ get_or outer r 0) → contains outer inner ≡ true
-contains_from_places outer [] h = contains_nothing outer
-contains_from_places [] (b ∷ inner) h =
-    and_from (b == 0) (contains [] inner) (eq-eqb b 0 (let p = h 0 in omega arith))
-    (contains_from_places [] inner (λ r. let p = h (suc r) in let e = get_or_past {X = ℕ} [] r 0 (omega arith) in omega arith))
-contains_from_places (a ∷ outer) (b ∷ inner) h = and_from (nat_le b a) (contains outer inner) (le-leb b a (h 0)) (contains_from_places outer inner (λ r. h (suc r)))
 
 positive_at : (parts : List ℕ) → ArePositive parts → (r : ℕ) → r < length parts → 0 < get_or parts r 0
 positive_at [] p r l = absurd (omega arith)
@@ -122,7 +115,7 @@ same_counts start outer inner end s o i e h g ls li =
 pub counted_by_columns : (n : ℕ) (start outer inner end : List ℕ) → IsPartition start → length start ≤ n
     → pos (length (counted n start outer inner end)) ≡ over_columns n (column_lines outer inner) (is_sum end) (resize n start) []
 counted_by_columns n start outer inner end s h =
-    count_total (is_counted n start end) (fillings_over n (pattern_of outer inner))
+    length-select (is_counted n start end) (fillings_over n (pattern_of outer inner))
     ∙ total_ext (λ (P : List (List ℕ)). cond (is_counted n start end P) (pos 1) (pos 0)) (λ (P : List (List ℕ)). of_good_columns n start (is_sum end) (transposed P))
     (λ P. both (are_tableau_columns (transposed P) && is_good_by_columns n start (transposed P)) (same (without_last_zeros (sum_reached n start (transposed P))) end))
     (fillings_over n (pattern_of outer inner))

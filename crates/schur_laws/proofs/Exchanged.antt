@@ -5,15 +5,12 @@ use Rattle.std.proofs.Common.{◌≡◌, ℕ, zero, suc, Bool, true, false, cond
 use Rattle.sym_model.specs.Polynomial.{Poly, coefficient}
 use Rattle.sym_model.specs.Partition.{insert_part, sorted_parts}
 use Rattle.sym_model.specs.Symmetric.{Symmetric}
-use Rattle.beta_list_laws.proofs.NeighbourExchanges.{KeptByExchanges}
-
-under : (P : List ℕ → Type 0) (c : ℕ) → KeptByExchanges P → KeptByExchanges (λ l. P (c ∷ l))
-under P c k left a b right p = k (c ∷ left) a b right p
+use Rattle.beta_list_laws.proofs.NeighbourExchanges.{KeptByExchanges, kept_under}
 
 -- an entry passes to the end
 to_end : (P : List ℕ → Type 0) (a : ℕ) (xs : List ℕ) → KeptByExchanges P → P (a ∷ xs) → P (xs ++ (a ∷ []))
 to_end P a [] k p = p
-to_end P a (b ∷ xs) k p = to_end (λ l. P (b ∷ l)) a xs (under P b k) (k [] a b xs p)
+to_end P a (b ∷ xs) k p = to_end (λ l. P (b ∷ l)) a xs (kept_under P b k) (k [] a b xs p)
 
 one_zero_more : (m : ℕ) → ◌++◌ {A = ℕ} (replicate m 0) (0 ∷ []) ≡ replicate (suc m) 0
 one_zero_more zero = refl
@@ -22,7 +19,7 @@ one_zero_more (suc m) = ap (λ (l : List ℕ). 0 ∷ l) (one_zero_more m)
 -- and to its place
 to_place : (P : List ℕ → Type 0) (a : ℕ) (parts zeros : List ℕ) → KeptByExchanges P → P (suc a ∷ (parts ++ zeros)) → P (insert_part (suc a) parts ++ zeros)
 to_place P a [] zeros k p = p
-to_place P a (b ∷ parts) zeros k p = by (nat_le b (suc a)) (λ q. to_place (λ l. P (b ∷ l)) a parts zeros (under P b k) q)
+to_place P a (b ∷ parts) zeros k p = by (nat_le b (suc a)) (λ q. to_place (λ l. P (b ∷ l)) a parts zeros (kept_under P b k) q)
   where
     by : (t : Bool) → (P (b ∷ suc a ∷ (parts ++ zeros)) → P (b ∷ (insert_part (suc a) parts ++ zeros))) → P (cond t (suc a ∷ b ∷ parts) (b ∷ insert_part (suc a) parts) ++ zeros)
     by true rec = p
@@ -30,7 +27,7 @@ to_place P a (b ∷ parts) zeros k p = by (nat_le b (suc a)) (λ q. to_place (λ
 
 to_sorted : (P : List ℕ → Type 0) (α : List ℕ) → KeptByExchanges P → P α → (m : ℕ) × P (sorted_parts α ++ replicate m 0)
 to_sorted P [] k p = (0, p)
-to_sorted P (a ∷ α) k p = by a (to_sorted (λ l. P (a ∷ l)) α (under P a k) p)
+to_sorted P (a ∷ α) k p = by a (to_sorted (λ l. P (a ∷ l)) α (kept_under P a k) p)
   where
     by : (a : ℕ) → (m : ℕ) × P (a ∷ (sorted_parts α ++ replicate m 0)) → (m : ℕ) × P (insert_part a (sorted_parts α) ++ replicate m 0)
     by zero r =

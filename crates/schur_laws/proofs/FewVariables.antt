@@ -9,6 +9,8 @@ use Rattle.sym_model.specs.BetaList.{sorted_falling}
 use Rattle.sym_model.proofs.Polynomials.{coefficient_outside}
 use Rattle.sym_model.proofs.Restrictions.{coefficient_restrict_padded}
 use Rattle.sym_model.proofs.SortedParts.{Falls_tail}
+use Rattle.sym_model.proofs.Exponents.{length-resize}
+use Rattle.sym_model.proofs.Parts.{size-zeros}
 use Rattle.beta_list_laws.proofs.NeighbourExchanges.{sort_back, sorted_falls}
 use Rattle.schur_laws.specs.SymmetricFamily.{IsSymmetricFamily, HasDegreeAtMost}
 
@@ -20,11 +22,6 @@ zeros_after [] f = refl
 zeros_after (zero ∷ α) f = ap (λ (l : List ℕ). 0 ∷ l) (zeros_after α f.1)
 zeros_after (suc a ∷ α) f = let h = f.0 in absurd (omega arith)
 
--- zeros add up to 0
-size_zeros : (m : ℕ) → size (replicate m 0) ≡ 0
-size_zeros zero = refl
-size_zeros (suc m) = omega (arith, size_zeros m)
-
 -- falling exponents that add up to at most d are their first d, with zeros behind them
 pub falling_padded : (d m : ℕ) (α : List ℕ) → Falls α → length α ≡ d + m → size α ≤ d → α ≡ resize d α ++ replicate m 0
 falling_padded zero zero [] f l h = refl
@@ -33,7 +30,7 @@ falling_padded zero m (zero ∷ α) f l h = let e : suc (length α) ≡ m = omeg
 falling_padded zero m (suc a ∷ α) f l h = absurd (omega arith)
 falling_padded (suc d) m [] f l h = absurd (omega arith)
 falling_padded (suc d) m (zero ∷ α) f l h =
-    let e : size (0 ∷ α) ≡ 0 = ap size (zeros_after α f) ∙ size_zeros (suc (length α)) in
+    let e : size (0 ∷ α) ≡ 0 = ap size (zeros_after α f) ∙ size-zeros (suc (length α)) in
     ap (λ (r : List ℕ). 0 ∷ r) (falling_padded d m α (Falls_tail 0 α f) (omega arith) (omega arith))
 falling_padded (suc d) m (suc a ∷ α) f l h = ap (λ (r : List ℕ). suc a ∷ r) (falling_padded d m α (Falls_tail (suc a) α f) (omega arith) (omega arith))
 
@@ -55,11 +52,6 @@ agree_in_fewer f g n m s t e α =
     coefficient_in_fewer f n m α s
     ∙ ap (λ c. cond (eqb (length α) n) c (pos 0)) (e (α ++ replicate m 0))
     ∙ sym (coefficient_in_fewer g n m α t)
-
-length-resize : (d : ℕ) (α : List ℕ) → length (resize d α) ≡ d
-length-resize zero α = refl
-length-resize (suc d) [] = ap suc (length-resize d [])
-length-resize (suc d) (a ∷ α) = ap suc (length-resize d α)
 
 -- coefficients at falling exponents agree
 agree_falling : (d m : ℕ) (f g : ℕ → Poly) → IsSymmetricFamily f → IsSymmetricFamily g

@@ -106,7 +106,7 @@ sum_in_all n start P h i =
     sum_at n start (transposed P) (λ k l. times_in-transposed k P ∙ letters_in_all k P ∙ add_up-none (λ r. times_in k (row P r)) 0 (length P) (λ r m. h r k l)) i
     ∙ ap (λ x. get_or start i 0 + x) (times_in-transposed (suc i) P ∙ letters_in_all (suc i) P)
 
-drop_none : (cs : List (List ℕ)) → drop 0 cs ≡ cs
+pub drop_none : (cs : List (List ℕ)) → drop 0 cs ≡ cs
 drop_none [] = refl
 drop_none (c ∷ cs) = refl
 

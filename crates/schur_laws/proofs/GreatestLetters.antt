@@ -10,20 +10,15 @@ use Rattle.sym_model.specs.Partition.{after}
 use Rattle.sym_model.specs.Bases.{down_from}
 use Rattle.sym_model.specs.Schur.{words, row_rises}
 use Rattle.sym_model.proofs.Sums.{total_ext, total_among, total_append, total_none, total_map, total_each, total_exchange, Among_from_each, Among_from_map}
-use Rattle.sym_model.proofs.AfterLists.{after_among}
+use Rattle.sym_model.proofs.AfterLists.{after_among, after-last}
 use Rattle.tableau_laws.specs.Grid.{may_precede}
 use lib.IntN.{+ℤ_idl, +ℤ_idr}
+use Rattle.monomial_laws.proofs.Arrangements.{down_from-below}
 
 -- ---- numbers from 0 to d
 
-pub down_from-tells : (d i : ℕ) → Among i (down_from d) → i ≤ d
-down_from-tells zero i (inl e) = omega arith
-down_from-tells zero i (inr m) = absurd m
-down_from-tells (suc d) i (inl e) = omega arith
-down_from-tells (suc d) i (inr m) = let h = down_from-tells d i m in omega arith
-
 pub total_down_from-ext : (f g : ℕ → ℤ) (d : ℕ) → ((i : ℕ) → i ≤ d → f i ≡ g i) → total f (down_from d) ≡ total g (down_from d)
-total_down_from-ext f g d h = total_among f g (down_from d) (λ i m. h i (down_from-tells d i m))
+total_down_from-ext f g d h = total_among f g (down_from d) (λ i m. h i (down_from-below d i m))
 
 -- terms that vanish past e
 pub total_down_from-cut : (f : ℕ → ℤ) (e m : ℕ) → ((i : ℕ) → e < i → i ≤ m + e → f i ≡ pos 0) → total f (down_from (m + e)) ≡ total f (down_from e)
@@ -38,16 +33,10 @@ total_down_from-cut f e (suc m) h =
 total_down_from-first : (f : ℕ → ℤ) (d : ℕ) → ((i : ℕ) → i < d → f i ≡ pos 0) → total f (down_from d) ≡ f d
 total_down_from-first f zero h = +ℤ_idr (f 0)
 total_down_from-first f (suc d) h =
-    ap (λ z. f (suc d) +ℤ z) (total_none f (down_from d) (λ i m. let l = down_from-tells d i m in h i (omega arith)))
+    ap (λ z. f (suc d) +ℤ z) (total_none f (down_from d) (λ i m. let l = down_from-below d i m in h i (omega arith)))
     ∙ +ℤ_idr (f (suc d))
 
 -- ---- letters
-
--- the last of the letters
-after-last : (a n : ℕ) → after a (suc n) ≡ after a n ++ ((a + suc n) ∷ [])
-after-last a zero = refl
-after-last a (suc n) =
-    ap (λ l. (a + 1) ∷ l) (after-last (a + 1) n ∙ ap (λ k. after (a + 1) n ++ (k ∷ [])) (let e : a + 1 + suc n ≡ a + suc (suc n) = omega arith in e))
 
 pub after_zero-last : (n : ℕ) → after 0 (suc n) ≡ after 0 n ++ (suc n ∷ [])
 after_zero-last n = after-last 0 n ∙ ap (λ k. after 0 n ++ (k ∷ [])) (let e : 0 + suc n ≡ suc n = omega arith in e)

@@ -1,5 +1,5 @@
 -- The shapes inside a shape: partitions with zeros at their ends.
-use Rattle.std.proofs.Common.{◌≡◌, ℕ, zero, suc, ◌≤◌, nat_le, ◌==◌, true, List, [], ◌∷◌, map, length, get_or, min, refl, sym, ap, ◌∙◌, subst, inl, inr, arith}
+use Rattle.std.proofs.Common.{◌≡◌, ℕ, zero, suc, ◌≤◌, nat_le, ◌==◌, true, List, [], ◌∷◌, map, length, min, refl, sym, ap, ◌∙◌, subst, inl, inr, arith}
 use Rattle.std.proofs.lemmas.Bool.{and_parts, and_from, le-leb}
 use Rattle.sym_model.specs.Sum.{Among}
 use Rattle.sym_model.specs.Partition.{IsPartition, Falls, columns, in_front, without_last_zeros}
@@ -7,6 +7,7 @@ use Rattle.sym_model.specs.Schur.{contains}
 use Rattle.sym_model.proofs.AfterLists.{after_among}
 use Rattle.sym_model.proofs.SortedParts.{IsPartition-without_last_zeros}
 use Rattle.sym_model.proofs.Sums.{Among_from_each, Among_from_map}
+use Rattle.sym_model.proofs.Parts.{in_front-get_or}
 use Rattle.tableau_laws.proofs.ColumnCounts.{contains_nothing}
 use Rattle.schur_laws.specs.InnerShapes.{up_to, shapes_inside}
 use Rattle.schur_laws.proofs.CutRows.{SameParts}
@@ -42,17 +43,10 @@ inside-tells (a ∷ outer) m inner k =
 
 -- ---- without the zeros
 
-in_front-parts : (b : ℕ) (l : List ℕ) (i : ℕ) → get_or (in_front b l) i 0 ≡ get_or (b ∷ l) i 0
-in_front-parts zero [] zero = refl
-in_front-parts zero [] (suc zero) = refl
-in_front-parts zero [] (suc (suc i)) = refl
-in_front-parts zero (x ∷ l) i = refl
-in_front-parts (suc b) l i = refl
-
 pub same-without_last_zeros : (inner : List ℕ) → SameParts (without_last_zeros inner) inner
 same-without_last_zeros [] i = refl
-same-without_last_zeros (b ∷ inner) zero = in_front-parts b (without_last_zeros inner) zero
-same-without_last_zeros (b ∷ inner) (suc i) = in_front-parts b (without_last_zeros inner) (suc i) ∙ same-without_last_zeros inner i
+same-without_last_zeros (b ∷ inner) zero = in_front-get_or b (without_last_zeros inner) zero
+same-without_last_zeros (b ∷ inner) (suc i) = in_front-get_or b (without_last_zeros inner) (suc i) ∙ same-without_last_zeros inner i
 
 pub contains-without_last_zeros : (outer inner : List ℕ) → contains outer inner ≡ true → contains outer (without_last_zeros inner) ≡ true
 contains-without_last_zeros outer [] h = contains_nothing outer

@@ -15,6 +15,7 @@ use Rattle.sym_model.proofs.Exponents.{tests_agree}
 use Rattle.sym_model.proofs.Polynomials.{at_only, coefficient_pair, pair_zero}
 use Rattle.alternant_laws.proofs.TableauInvolution.{symmetric-skew_schur}
 use Rattle.sym_model.proofs.SortedParts.{IsPartition-none}
+use Rattle.sym_model.proofs.Parts.{length-in_front, size-in_front, part-in_front}
 use Rattle.schur_laws.specs.Kostka.{below, strips_off, kostka}
 use Rattle.schur_laws.proofs.GreatestLetters.{total_down_from-ext, total_down_from-cut}
 use Rattle.schur_laws.proofs.TableauRows.{over_rows, over_rows-ext, over_rows-zeros, pair-schur_rows}
@@ -164,21 +165,6 @@ IsPartition-in_front zero (b ∷ parts) p h = absurd (let q = p.positive.0 in om
 IsPartition-in_front (suc a) [] p h = record { falls = tt; positive = (omega arith, tt) }
 IsPartition-in_front (suc a) (b ∷ parts) p h = record { falls = (h, p.falls); positive = (omega arith, p.positive) }
 
-part-in_front : (a : ℕ) (parts : List ℕ) → part (in_front a parts) 1 ≡ a
-part-in_front zero [] = refl
-part-in_front zero (b ∷ parts) = refl
-part-in_front (suc a) parts = refl
-
-pub rows-in_front : (a : ℕ) (parts : List ℕ) → length (in_front a parts) ≤ suc (length parts)
-rows-in_front zero [] = omega arith
-rows-in_front zero (b ∷ parts) = omega arith
-rows-in_front (suc a) parts = omega arith
-
-pub size-in_front : (a : ℕ) (parts : List ℕ) → size (in_front a parts) ≡ a + size parts
-size-in_front zero [] = refl
-size-in_front zero (b ∷ parts) = refl
-size-in_front (suc a) parts = refl
-
 pub partition_tail : (a : ℕ) (parts : List ℕ) → IsPartition (a ∷ parts) → IsPartition parts × (part parts 1 ≤ a)
 partition_tail a [] p = (IsPartition-none, omega arith)
 partition_tail a (b ∷ parts) p = (record { falls = p.falls.1; positive = p.positive.1 }, p.falls.0)
@@ -196,7 +182,7 @@ strips_off-tell k (a ∷ parts) rest p m =
     subst (λ u. IsLeft k (a ∷ parts) u) (sym r.2)
     (record {
       partition = IsPartition-in_front (a - i.0) r.0 l.partition (let f = l.first in let h = t.1 in omega arith);
-      few = let e = rows-in_front (a - i.0) r.0 in let f = l.few in omega arith;
+      few = let e = length-in_front (a - i.0) r.0 in let f = l.few in omega arith;
       first = let e = part-in_front (a - i.0) r.0 in omega arith;
       size_is = let e = size-in_front (a - i.0) r.0 in let s = l.size_is in let h = t.1 in omega arith;
     })

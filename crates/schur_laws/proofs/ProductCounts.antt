@@ -13,9 +13,10 @@ use Rattle.sym_model.proofs.PolynomialLaws.{times_comm}
 use Rattle.sym_model.proofs.SortedParts.{IsPartition-none}
 use Rattle.tableau_laws.specs.ColumnFold.{over_columns, column_lines, is_sum}
 use Rattle.tableau_laws.proofs.ColumnCounts.{contains_nothing, product_count-columns}
+use Rattle.strip_laws.proofs.Containment.{contains_from_places}
 use Rattle.alternant_laws.proofs.CountedTerms.{product_coefficients}
 use Rattle.schur_laws.proofs.GoodTableaux.{IsTableau}
-use Rattle.schur_laws.proofs.Duality.{contains_from_places, rows_inside, counted, counted_tells, counted_by_columns, duality}
+use Rattle.schur_laws.proofs.Duality.{rows_inside, counted, counted_tells, counted_by_columns, duality}
 
 none_among : (ws : List (List ℕ)) → select (λ (w : List ℕ). false) ws ≡ []
 none_among [] = refl

@@ -5,8 +5,8 @@ use Rattle.std.proofs.lemmas.Int.{ints}
 use Rattle.sym_model.specs.Sum.{total, each, Among}
 use Rattle.sym_model.specs.Partition.{after}
 use Rattle.sym_model.specs.Schur.{words, row_rises}
-use Rattle.sym_model.proofs.AfterLists.{after_among}
-use Rattle.sym_model.proofs.Sums.{total_ext, total_among, total_append, total_zero, total_none, total_map, total_each, total_exchange, Among_from_each, Among_from_map}
+use Rattle.sym_model.proofs.AfterLists.{after_among, after-append}
+use Rattle.sym_model.proofs.Sums.{total_ext, total_among, total_append, total_none, total_map, total_each, total_exchange, Among_from_each, Among_from_map, total_cond, total_cond_list as total_listed}
 use Rattle.schur_laws.specs.InnerShapes.{up_to}
 use lib.IntN.{+ℤ_idl, +ℤ_idr}
 
@@ -25,14 +25,6 @@ abbrev pub raised_by : ℕ → List ℕ → List ℕ
 raised_by n w = map (λ j. n + j) w
 
 -- ---- sums under a test
-
-pub total_listed : {A : Type 0} (t : Bool) (f : A → ℤ) (xs : List A) → total f (cond t xs []) ≡ cond t (total f xs) (pos 0)
-total_listed true f xs = refl
-total_listed false f xs = refl
-
-pub total_tested : {A : Type 0} (t : Bool) (f : A → ℤ) (xs : List A) → total (λ (x : A). cond t (f x) (pos 0)) xs ≡ cond t (total f xs) (pos 0)
-total_tested true f xs = refl
-total_tested false f xs = total_zero xs
 
 pub cond_both : (p q : Bool) (z : ℤ) → cond (p && q) z (pos 0) ≡ cond p (cond q z (pos 0)) (pos 0)
 cond_both true q z = refl
@@ -53,7 +45,7 @@ rising_of_words n x (suc b) f =
     ∙ total_ext (λ y. total (λ w. cond (row_rises (x ∷ w)) (f w) (pos 0)) (map (λ w. y ∷ w) (words n b))) (λ y. cond (nat_le x y) (total (λ w. f (y ∷ w)) (rising_words n y b)) (pos 0))
     (λ y. total_map (λ w. cond (row_rises (x ∷ w)) (f w) (pos 0)) (λ w. y ∷ w) (words n b)
     ∙ total_ext (λ w. cond (nat_le x y && row_rises (y ∷ w)) (f (y ∷ w)) (pos 0)) (λ w. cond (nat_le x y) (cond (row_rises (y ∷ w)) (f (y ∷ w)) (pos 0)) (pos 0)) (λ w. cond_both (nat_le x y) (row_rises (y ∷ w)) (f (y ∷ w))) (words n b)
-    ∙ total_tested (nat_le x y) (λ w. cond (row_rises (y ∷ w)) (f (y ∷ w)) (pos 0)) (words n b)
+    ∙ total_cond (nat_le x y) (λ w. cond (row_rises (y ∷ w)) (f (y ∷ w)) (pos 0)) (words n b)
     ∙ ap (λ z. cond (nat_le x y) z (pos 0)) (rising_of_words n y b (λ w. f (y ∷ w)))) (after 0 n)
     ∙ sym (total_rising n x b f)
 
@@ -93,16 +85,9 @@ after_shift n a (suc k) =
     let e : n + a + 1 ≡ n + (a + 1) = omega arith in
     ap₂ ◌∷◌ e (ap (λ i. after i k) e ∙ after_shift n (a + 1) k)
 
-pub after_append : (a n k : ℕ) → after a (n + k) ≡ after a n ++ after (a + n) k
-after_append a zero k = ap₂ after (let e : a ≡ a + 0 = omega arith in e) (let e : 0 + k ≡ k = omega arith in e)
-after_append a (suc n) k =
-    let e : suc n + k ≡ suc (n + k) = omega arith in
-    let d : a + 1 + n ≡ a + suc n = omega arith in
-    ap (after a) e ∙ ap (λ l. (a + 1) ∷ l) (after_append (a + 1) n k ∙ ap (λ i. after (a + 1) n ++ after i k) d)
-
 total_letters : (n k : ℕ) (g : ℕ → ℤ) → total g (after 0 (n + k)) ≡ total g (after 0 n) +ℤ total (λ j. g (n + j)) (after 0 k)
 total_letters n k g =
-    ap (total g) (after_append 0 n k ∙ ap (λ i. after 0 n ++ after i k) (let e : 0 + n ≡ n + 0 = omega arith in e) ∙ ap (λ l. after 0 n ++ l) (after_shift n 0 k))
+    ap (total g) (after-append 0 n k ∙ ap (λ i. after 0 n ++ after i k) (let e : 0 + n ≡ n + 0 = omega arith in e) ∙ ap (λ l. after 0 n ++ l) (after_shift n 0 k))
     ∙ total_append g (after 0 n) (map (λ j. n + j) (after 0 k)) ∙ ap (λ z. total g (after 0 n) +ℤ z) (total_map g (λ j. n + j) (after 0 k))
 
 raise-le : (n x j : ℕ) → nat_le (n + x) (n + j) ≡ nat_le x j
@@ -158,7 +143,7 @@ total_cut_words n k (suc a) x f h =
         (λ y. total (λ b. cond (nat_le x y) (total (λ w. cut_sum n k f (a - b) (y ∷ w)) (rising_words n y b)) (pos 0)) (up_to a)) (after 0 n)
         (λ y m. let r = after_among 0 n y m in let l = r.1 in
         ap (λ z. cond (nat_le x y) z (pos 0)) (rec y (omega arith))
-        ∙ sym (total_tested (nat_le x y) (λ b. total (λ w. cut_sum n k f (a - b) (y ∷ w)) (rising_words n y b)) (up_to a)))
+        ∙ sym (total_cond (nat_le x y) (λ b. total (λ w. cut_sum n k f (a - b) (y ∷ w)) (rising_words n y b)) (up_to a)))
         ∙ total_exchange (λ y b. cond (nat_le x y) (total (λ w. cut_sum n k f (a - b) (y ∷ w)) (rising_words n y b)) (pos 0)) (after 0 n) (up_to a)
         ∙ total_ext (λ b. total (λ y. cond (nat_le x y) (total (λ w. cut_sum n k f (a - b) (y ∷ w)) (rising_words n y b)) (pos 0)) (after 0 n)) (λ b. total (cut_sum n k f (a - b)) (rising_words n x (suc b)))
         (λ b. sym (total_rising n x b (cut_sum n k f (a - b)))) (up_to a)

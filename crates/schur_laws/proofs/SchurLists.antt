@@ -15,7 +15,7 @@ use Rattle.sym_model.specs.Schur.{schur}
 use Rattle.sym_model.specs.Expansion.{Basis}
 use Rattle.sym_model.specs.Weight.{growth}
 use Rattle.sym_model.specs.WholeTerms.{WholeTerms}
-use Rattle.sym_model.proofs.Sums.{total_none, Among-each, Among-map}
+use Rattle.sym_model.proofs.Sums.{total_none, Among-each, Among-map, total_not_negative}
 use Rattle.sym_model.proofs.Polynomials.{same_in}
 use Rattle.sym_model.proofs.Restrictions.{coefficient_restrict_padded}
 use Rattle.sym_model.proofs.SortedParts.{IsPartition-none, IsPartition-sorted_parts}
@@ -64,11 +64,6 @@ kostka-other_size (a ∷ parts) [] p h = refl
 kostka-other_size parts (k ∷ content) p h =
     total_none (λ rest. kostka rest content) (strips_off k parts)
     (λ rest m. let l = strips_off-tell k parts rest p m in kostka-other_size rest content l.partition (λ e. h (let s = l.size_is in omega arith)))
-
--- sums of numbers that are not negative
-total_not_negative : {A : Type 0} (f : A → ℤ) (xs : List A) → ((x : A) → pos 0 ≤ℤ f x) → pos 0 ≤ℤ total f xs
-total_not_negative f [] h = omega (arith, ints)
-total_not_negative f (x ∷ xs) h = let r = total_not_negative f xs h in let k = h x in omega (arith, ints)
 
 total-at_least : {A : Type 0} (f : A → ℤ) (xs : List A) (x : A) → ((x : A) → pos 0 ≤ℤ f x) → Among x xs → f x ≤ℤ total f xs
 total-at_least f [] x h m = absurd m

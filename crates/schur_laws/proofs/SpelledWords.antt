@@ -4,8 +4,8 @@ use Rattle.std.proofs.lemmas.Bool.Decides.{nat_tests}
 use Rattle.std.proofs.lemmas.Bool.{and_from, le-leb}
 use Rattle.std.proofs.lemmas.List.{get_or_past}
 use Rattle.sym_model.specs.Schur.{times_in}
+use Rattle.sym_model.proofs.Contents.{times_in-append}
 use Rattle.tableau_laws.specs.Grid.{is_chain}
-use Rattle.tableau_laws.proofs.Contents.{times_in-append}
 use Rattle.schur_laws.proofs.RisingRows.{Rises, rises_rest}
 
 -- the letters a, a + 1, .., each as often as the list says

@@ -15,7 +15,8 @@ use Rattle.sym_model.proofs.Sums.{total_ext, total_zero, total_map, total_each, 
 use Rattle.sym_model.proofs.Exponents.{tests_agree}
 use Rattle.sym_model.proofs.SortedParts.{Falls_tail}
 use Rattle.sym_model.proofs.AfterLists.{after_among}
-use Rattle.tableau_laws.proofs.Contents.{map_among, times_in-append}
+use Rattle.sym_model.proofs.Contents.{times_in-append}
+use Rattle.sym_model.proofs.Lists.{map-among}
 use Rattle.alternant_laws.proofs.Exchanges.{length_content}
 use Rattle.schur_laws.proofs.GreatestLetters.{over_rising, rising-ext, rising-greatest, ended, AreLetters, after_zero-last, total_down_from-ext, total_down_from-cut}
 use Rattle.schur_laws.proofs.TableauRows.{over_rows, over_rows-ext, over_rows-no_row_above}
@@ -60,7 +61,7 @@ ended_content n i v h = content-greatest n (ended n i v) ∙ ap₂ (λ (κ : Lis
   where
     others : content n (ended n i v) ≡ content n v
     others =
-        map_among (λ k. times_in k (ended n i v)) (λ k. times_in k v) (after 0 n)
+        map-among (λ k. times_in k (ended n i v)) (λ k. times_in k v) (after 0 n)
         (λ k m. let b = after_among 0 n k m in let l = b.1 in
         times_in-append k v (replicate i (suc n)) ∙ omega (arith, times_in-others k (suc n) i (λ e. absurd (omega arith))))
 

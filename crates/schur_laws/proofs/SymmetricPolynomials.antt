@@ -3,15 +3,16 @@
 --     symmetric-plus, -scale, -negate, -times
 use Rattle.std.proofs.Common.{◌≡◌, ℕ, zero, suc, ◌==◌, Bool, true, false, ◌&&◌, cond, eqb, nat_le, ℤ, pos, neg_ℤ, ◌+ℤ◌, ◌*ℤ◌, List, [], ◌∷◌, ◌++◌, length, replicate, refl, sym, ◌∙◌, ap, ap₂}
 use Rattle.sym_model.specs.Polynomial.{Poly, same, coefficient, In, one, plus, scale, negate, times, join, pair}
-use Rattle.sym_model.specs.Partition.{insert_part, sorted_parts}
+use Rattle.sym_model.specs.Partition.{sorted_parts}
 use Rattle.sym_model.specs.Bases.{monomials, at_most_one}
 use Rattle.sym_model.specs.Symmetric.{Symmetric}
-use Rattle.sym_model.proofs.SortedParts.{insert_part_comm}
 use Rattle.sym_model.proofs.Monomials.{coefficient-monomials}
 use Rattle.sym_model.proofs.Polynomials.{at_only, coefficient_pair, coefficient_plus, coefficient_scale, coefficient_negate, pair_ext, pair_in, pair_times}
+use Rattle.sym_model.proofs.Restrictions.{and_middle}
 use Rattle.alternant_laws.proofs.Exchanges.{exchanged, same_exchanged, exchanged_at, exchanged-join}
 use Rattle.beta_list_laws.proofs.NeighbourExchanges.{size-exchange, length-exchange}
 use Rattle.alternant_laws.proofs.Symmetry.{pair_exchanged}
+use Rattle.alternant_laws.proofs.StraightenedMonomials.{sorted-exchange}
 
 -- no exchange of neighbours changes the test
 abbrev pub SeesNoExchange : (List ℕ → Bool) → Type 0
@@ -27,18 +28,8 @@ symmetric-monomials test n d e left a b right =
 
 -- ---- tests that see no exchange
 
-sorted_parts-exchange : (left : List ℕ) (a b : ℕ) (right : List ℕ) → sorted_parts (left ++ (a ∷ b ∷ right)) ≡ sorted_parts (left ++ (b ∷ a ∷ right))
-sorted_parts-exchange [] a b right = insert_part_comm a b (sorted_parts right)
-sorted_parts-exchange (c ∷ left) a b right = ap (insert_part c) (sorted_parts-exchange left a b right)
-
 pub sorts_to-exchange : (parts : List ℕ) → SeesNoExchange (λ α. same (sorted_parts α) parts)
-sorts_to-exchange parts left a b right = ap (λ (l : List ℕ). same l parts) (sorted_parts-exchange left a b right)
-
-and_middle : (x y z : Bool) → (x && (y && z)) ≡ (y && (x && z))
-and_middle true true z = refl
-and_middle true false z = refl
-and_middle false true z = refl
-and_middle false false z = refl
+sorts_to-exchange parts left a b right = ap (λ (l : List ℕ). same l parts) (sorted-exchange left a b right)
 
 pub at_most_one-exchange : SeesNoExchange at_most_one
 at_most_one-exchange [] a b right = and_middle (nat_le a 1) (nat_le b 1) (at_most_one right)

@@ -6,13 +6,13 @@ use Rattle.std.proofs.lemmas.List.{get_or_past, get_or-drop}
 use Rattle.sym_model.specs.Polynomial.{resize}
 use Rattle.sym_model.specs.Schur.{times_in, letters_of, content}
 use Rattle.sym_model.specs.GoodTableau.{is_falling}
+use Rattle.sym_model.proofs.Exponents.{get_or-join}
+use Rattle.sym_model.proofs.Contents.{times_in-append}
 use Rattle.tableau_laws.specs.PaddedRows.{put_row, transposed, line_of, pattern_of}
 use Rattle.tableau_laws.specs.Grid.{is_chain, pass_by_place, first_line, may_stand_above, is_padded_tableau}
 use Rattle.tableau_laws.specs.ColumnFold.{sum_reached, is_good_by_columns}
-use Rattle.tableau_laws.proofs.Contents.{times_in-append}
 use Rattle.tableau_laws.proofs.PatternFillings.{Fits, AllFit}
 use Rattle.alternant_laws.proofs.Exchanges.{length_content}
-use Rattle.alternant_laws.proofs.OrderSums.{part-join}
 use Rattle.alternant_laws.proofs.StraightShapes.{at_content}
 use Rattle.schur_laws.proofs.RisingRows.{Rises, rises_rest, none_up_to, few_times}
 use Rattle.schur_laws.proofs.Interlacing.{add_up}
@@ -189,7 +189,7 @@ good_back n start (c ∷ cs) h = and_from (is_falling (sum_reached n start (c �
 
 pub sum_at : (n : ℕ) (start : List ℕ) (cs : List (List ℕ)) → ((k : ℕ) → n < k → times_in k (letters_of cs) ≡ 0) → (i : ℕ)
     → get_or (sum_reached n start cs) i 0 ≡ get_or start i 0 + times_in (suc i) (letters_of cs)
-sum_at n start cs h i = part-join start (content n (letters_of cs)) i ∙ ap (λ k. get_or start i 0 + k) (by (cases_lt i n))
+sum_at n start cs h i = get_or-join start (content n (letters_of cs)) i ∙ ap (λ k. get_or start i 0 + k) (by (cases_lt i n))
   where
     by : (i < n) ⊎ (n ≤ i) → get_or (content n (letters_of cs)) i 0 ≡ times_in (suc i) (letters_of cs)
     by (inl l) = at_content n i (letters_of cs) l

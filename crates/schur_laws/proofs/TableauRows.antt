@@ -13,10 +13,12 @@ use Rattle.sym_model.specs.Polynomial.{pair, join}
 use Rattle.sym_model.specs.Schur.{words, row_lengths, fillings_of, row_rises, columns_rise, semistandard, letters_of, content, schur}
 use Rattle.sym_model.proofs.Sums.{total_ext, total_select, total_map, total_each}
 use Rattle.sym_model.proofs.Exponents.{length-join_same}
+use Rattle.sym_model.proofs.Tableaux.{row_lengths-none}
 use Rattle.tableau_laws.specs.Grid.{first_line}
 use Rattle.tableau_laws.proofs.Contents.{content-append}
 use Rattle.tableau_laws.proofs.ColumnSums.{total_under}
 use Rattle.tableau_laws.proofs.FewerLetters.{pair-skew_schur}
+use Rattle.tableau_laws.proofs.PaddedTableaux.{columns_rise-nothing}
 use Rattle.alternant_laws.proofs.Exchanges.{length_content}
 use Rattle.schur_laws.proofs.GreatestLetters.{over_rising, rising-ext, rising-none, AreLetters}
 use lib.IntN.{+ℤ_idr}
@@ -29,12 +31,8 @@ over_rows n upper (a ∷ parts) φ =
 
 -- ---- a pairing is such a sum
 
-columns_rise-none : (upper : List ℕ) → columns_rise upper [] ≡ true
-columns_rise-none [] = refl
-columns_rise-none (a ∷ upper) = refl
-
 semistandard-front : (row : List ℕ) (rows : List (List ℕ)) → semistandard [] (row ∷ rows) ≡ (row_rises row && (columns_rise row (first_line rows) && semistandard [] rows))
-semistandard-front row [] = sym (ap (λ b. row_rises row && (b && true)) (columns_rise-none row) ∙ and-true (row_rises row))
+semistandard-front row [] = sym (ap (λ b. row_rises row && (b && true)) (columns_rise-nothing row) ∙ and-true (row_rises row))
 semistandard-front row (lower ∷ rows) = and_assoc (row_rises row) (columns_rise row lower) (semistandard [] (lower ∷ rows))
 
 -- whether the rows of a tableau may stand below a row
@@ -49,7 +47,7 @@ four_tests false false r z = refl
 
 total_below : (n : ℕ) (upper parts : List ℕ) (φ : List ℕ → ℤ)
     → total (λ (rows : List (List ℕ)). cond (stands_below upper rows) (φ (content n (letters_of rows))) (pos 0)) (fillings_of n parts) ≡ over_rows n upper parts φ
-total_below n upper [] φ = +ℤ_idr (cond (columns_rise upper [] && true) (φ (content n [])) (pos 0)) ∙ ap (λ b. cond (b && true) (φ (content n [])) (pos 0)) (columns_rise-none upper)
+total_below n upper [] φ = +ℤ_idr (cond (columns_rise upper [] && true) (φ (content n [])) (pos 0)) ∙ ap (λ b. cond (b && true) (φ (content n [])) (pos 0)) (columns_rise-nothing upper)
 total_below n upper (a ∷ parts) φ =
     total_each (λ (rows : List (List ℕ)). cond (stands_below upper rows) (φ (content n (letters_of rows))) (pos 0)) (λ (row : List ℕ). map (λ (rest : List (List ℕ)). row ∷ rest) (fillings_of n parts)) (words n a)
     ∙ total_ext
@@ -69,10 +67,6 @@ total_below n upper (a ∷ parts) φ =
     (total_under (columns_rise upper row) (stands_below row) (λ (rest : List (List ℕ)). φ (join (content n row) (content n (letters_of rest)))) (fillings_of n parts)
     ∙ ap (λ z. cond (columns_rise upper row) z (pos 0)) (total_below n row parts (λ γ. φ (join (content n row) γ)))))
     (words n a)
-
-row_lengths-none : (parts : List ℕ) → row_lengths parts [] ≡ parts
-row_lengths-none [] = refl
-row_lengths-none (a ∷ parts) = ap (λ l. a ∷ l) (row_lengths-none parts)
 
 pub pair-schur_rows : (n : ℕ) (parts : List ℕ) (φ : List ℕ → ℤ) → pair (schur parts n) φ ≡ over_rows n [] parts φ
 pair-schur_rows n parts φ =
@@ -96,7 +90,7 @@ over_rows-ext n upper (a ∷ parts) φ ψ h =
 one_empty_row : (n : ℕ) (upper : List ℕ) (φ : List ℕ → ℤ) → over_rows n upper (0 ∷ []) φ ≡ φ (content n [])
 one_empty_row n upper φ =
     rising-none n (λ v. cond (columns_rise upper v) (φ (join (content n v) (content n []))) (pos 0))
-    ∙ ap (λ b. cond b (φ (join (content n []) (content n []))) (pos 0)) (columns_rise-none upper)
+    ∙ ap (λ b. cond b (φ (join (content n []) (content n []))) (pos 0)) (columns_rise-nothing upper)
     ∙ ap φ (sym (content-append n [] []))
 
 in_front_zeros : (n : ℕ) (upper : List ℕ) (a : ℕ) (parts : List ℕ) (φ : List ℕ → ℤ) → over_rows n upper (in_front a parts) φ ≡ over_rows n upper (a ∷ parts) φ

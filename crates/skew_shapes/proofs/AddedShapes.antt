@@ -13,9 +13,10 @@ use Rattle.sym_model.specs.Strip.{IsRimHook, height}
 use Rattle.sym_model.proofs.AfterLists.{after_among, among_after, once_after}
 use Rattle.sym_model.proofs.SortedParts.{IsPartition-without_last_zeros}
 use Rattle.sym_model.proofs.Sums.{Among-each, Among_from_each}
+use Rattle.sym_model.proofs.Parts.{past_end}
 use Rattle.strip_laws.specs.HookRows.{IsHookRows}
 use Rattle.strip_laws.proofs.HookSizes.{hook_size}
-use Rattle.strip_laws.proofs.RimHooks.{hook_from_rows, hook_rows, height_of_rows, past_end}
+use Rattle.strip_laws.proofs.RimHooks.{hook_from_rows, hook_rows, height_of_rows}
 use Rattle.strip_laws.proofs.Strips.{falls_part, falls_far}
 use Rattle.skew_shapes.specs.HookLists.{AreHooksAdded}
 use Rattle.skew_shapes.specs.AddedHooks.{can_add, added_row, with_hook, hooks_ending, hooks_ending_after, BeginsFrom}

@@ -1,16 +1,12 @@
 -- How many cells a skew shape has.
-use Rattle.std.proofs.Common.{◌≡◌, ℕ, zero, suc, ◌+◌, ◌-◌, ◌≤◌, List, [], ◌∷◌, ◌++◌, map, length, take, get_or, ◌∙◌, ap, sym, refl, subst, append_assoc, arith}
+use Rattle.std.proofs.Common.{◌≡◌, ℕ, zero, suc, ◌+◌, ◌-◌, ◌≤◌, List, [], ◌∷◌, ◌++◌, map, length, take, get_or, ◌∙◌, ap, refl, arith}
 use Rattle.std.proofs.lemmas.List.{length-map, length-append, take_all}
 use Rattle.sym_model.specs.Sum.{each}
-use Rattle.sym_model.specs.Partition.{ArePositive, Holds, part, size, after, cells}
-use Rattle.sym_model.proofs.AfterLists.{length_after}
-use Rattle.strip_laws.proofs.Containment.{contains-tells}
-use Rattle.partitions.proofs.Conjugates.{after-more}
+use Rattle.sym_model.specs.Partition.{ArePositive, part, size, after, cells}
+use Rattle.sym_model.proofs.AfterLists.{length_after, after-more}
+use Rattle.sym_model.proofs.Lists.{each-append}
+use Rattle.strip_laws.proofs.Containment.{contains-tells, Holds-get_or}
 use Rattle.skew_shapes.specs.Shapes.{IsSkew}
-
-pub each-append : {A B : Type 0} (f : A → List B) (xs ys : List A) → each f (xs ++ ys) ≡ each f xs ++ each f ys
-each-append f [] ys = refl
-each-append f (x ∷ xs) ys = ap (λ z. f x ++ z) (each-append f xs ys) ∙ sym (append_assoc (f x) (each f xs) (each f ys))
 
 -- the cells of a row
 abbrev pub row_cells : List ℕ → List ℕ → ℕ → List (ℕ × ℕ)
@@ -65,14 +61,9 @@ rows_within outer [] h p = omega arith
 rows_within [] (b ∷ inner) h p = absurd (omega (arith, h 0, p.0))
 rows_within (a ∷ outer) (b ∷ inner) h p = omega (arith, rows_within outer inner (λ i. h (suc i)) p.1)
 
-pub under_places : (outer inner : List ℕ) → Holds outer inner → (i : ℕ) → get_or inner i 0 ≤ get_or outer i 0
-under_places outer inner h i =
-    let e : i + 1 - 1 ≡ i = omega arith in
-    subst (λ k. get_or inner k 0 ≤ get_or outer k 0) e (h (i + 1))
-
 pub length-cells : (outer inner : List ℕ) → IsSkew outer inner → length (cells outer inner) + size inner ≡ size outer
 length-cells outer inner s =
-    let under = under_places outer inner (contains-tells outer inner s.holds) in
+    let under = Holds-get_or outer inner (contains-tells outer inner s.holds) in
     let few = rows_within outer inner under s.inside.partition.positive in
     let whole : take (length outer) outer ≡ outer = take_all (length outer) outer (omega arith) in
     let all : take (length outer) inner ≡ inner = take_all (length outer) inner few in

@@ -8,9 +8,8 @@ use Rattle.sym_model.specs.GoodTableau.{letter_in, column, column_reading}
 use Rattle.sym_model.specs.TableauList.{column_cells, reading_cells, letter_of_cell}
 use Rattle.skew_shapes.specs.Rows.{row_by, rows_by, reaches, cells_right_of, cells_above, number_in, place_of, HoldsLetters, HasPlaces}
 use Rattle.sym_model.proofs.Sums.{Among_from_append, Among_from_map, Among_from_each, Among_from_select}
-use Rattle.sym_model.proofs.AfterLists.{after_among}
-use Rattle.partitions.proofs.Conjugates.{after-more}
-use Rattle.skew_shapes.proofs.CellCounts.{each-append}
+use Rattle.sym_model.proofs.AfterLists.{after_among, after-more}
+use Rattle.sym_model.proofs.Lists.{each-append}
 use Rattle.skew_shapes.proofs.KeptRows.{is_cell-tells, number_in-set, number_in-set_here}
 use Rattle.std.proofs.Math.ListN.{set}
 

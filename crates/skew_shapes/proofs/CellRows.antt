@@ -3,10 +3,11 @@ use Rattle.std.proofs.Common.{◌≡◌, ℕ, zero, suc, ◌+◌, ◌-◌, ◌<�
 use Rattle.std.proofs.Math.ListN.{set}
 use Rattle.std.proofs.lemmas.Bool.{le-leb, lt-ltb, and_from}
 use Rattle.std.proofs.lemmas.List.{length-map}
-use Rattle.sym_model.specs.Partition.{IsCell, part, after, in_front, without_last_zeros}
+use Rattle.sym_model.specs.Partition.{IsCell, part, after, without_last_zeros}
 use Rattle.sym_model.specs.Schur.{row_lengths}
 use Rattle.sym_model.specs.Slide.{lowered_at}
 use Rattle.sym_model.proofs.AfterLists.{length_after}
+use Rattle.sym_model.proofs.Parts.{get_or-without_last_zeros, get_or-lowered, get_or-not_lowered, positive_within}
 use Rattle.skew_shapes.specs.CellFillings.{is_cell, row_of, place_in_row, rows_with_entry}
 use Rattle.skew_shapes.specs.Rows.{row_by, rows_by}
 
@@ -41,11 +42,6 @@ pub take-map_after : {B : Type 0} (f : ℕ → B) (a k m : ℕ) → m ≤ k → 
 take-map_after f a k zero h = refl
 take-map_after f a zero (suc m) h = absurd (omega arith)
 take-map_after f a (suc k) (suc m) h = ap (λ l. f (a + 1) ∷ l) (take-map_after f (a + 1) k m (omega arith))
-
-pub positive_within : (xs : List ℕ) (i : ℕ) → 0 < get_or xs i 0 → i < length xs
-positive_within [] i h = absurd (omega arith)
-positive_within (x ∷ xs) zero h = omega arith
-positive_within (x ∷ xs) (suc i) h = omega (arith, positive_within xs i h)
 
 -- ---- cells
 
@@ -156,39 +152,16 @@ rows_by-set f g outer inner row column a c e o =
 
 -- ---- parts of a partition with one lowered
 
-get-in_front : (a n : ℕ) (l : List ℕ) → get_or (in_front a l) n 0 ≡ get_or (a ∷ l) n 0
-get-in_front zero zero [] = refl
-get-in_front zero (suc n) [] = refl
-get-in_front zero n (b ∷ l) = refl
-get-in_front (suc a) n l = refl
-
-pub get-without_last_zeros : (l : List ℕ) (n : ℕ) → get_or (without_last_zeros l) n 0 ≡ get_or l n 0
-get-without_last_zeros [] n = refl
-get-without_last_zeros (a ∷ l) zero = get-in_front a zero (without_last_zeros l)
-get-without_last_zeros (a ∷ l) (suc n) = get-in_front a (suc n) (without_last_zeros l) ∙ get-without_last_zeros l n
-
-get-lowered_here : (xs : List ℕ) (i : ℕ) → get_or (lowered_at (suc i) xs) i 0 ≡ get_or xs i 0 - 1
-get-lowered_here [] i = omega arith
-get-lowered_here (a ∷ xs) zero = refl
-get-lowered_here (a ∷ xs) (suc i) = get-lowered_here xs i
-
-get-lowered_there : (xs : List ℕ) (i k : ℕ) → (k ≡ i → ⊥) → get_or (lowered_at (suc i) xs) k 0 ≡ get_or xs k 0
-get-lowered_there [] i k h = refl
-get-lowered_there (a ∷ xs) zero zero h = absurd (h refl)
-get-lowered_there (a ∷ xs) zero (suc k) h = refl
-get-lowered_there (a ∷ xs) (suc i) zero h = refl
-get-lowered_there (a ∷ xs) (suc i) (suc k) h = get-lowered_there xs i k (λ e. h (ap suc e))
-
 pub part-lowered_here : (xs : List ℕ) (row : ℕ) → 1 ≤ row → part (without_last_zeros (lowered_at row xs)) row ≡ part xs row - 1
 part-lowered_here xs zero h = absurd (omega arith)
 part-lowered_here xs (suc i) h =
     let e : suc i - 1 ≡ i = omega arith in
-    get-without_last_zeros (lowered_at (suc i) xs) (suc i - 1) ∙ ap (λ n. get_or (lowered_at (suc i) xs) n 0) e
-    ∙ get-lowered_here xs i ∙ ap (λ n. get_or xs n 0 - 1) (sym e)
+    get_or-without_last_zeros (lowered_at (suc i) xs) (suc i - 1) ∙ ap (λ n. get_or (lowered_at (suc i) xs) n 0) e
+    ∙ get_or-lowered xs i ∙ ap (λ n. get_or xs n 0 - 1) (sym e)
 
 pub part-lowered_there :
     (xs : List ℕ) (row k : ℕ) → 1 ≤ row → 1 ≤ k → (k ≡ row → ⊥) → part (without_last_zeros (lowered_at row xs)) k ≡ part xs k
 part-lowered_there xs zero k h l d = absurd (omega arith)
 part-lowered_there xs (suc i) k h l d =
-    get-without_last_zeros (lowered_at (suc i) xs) (k - 1)
-    ∙ get-lowered_there xs i (k - 1) (λ e. d (omega arith))
+    get_or-without_last_zeros (lowered_at (suc i) xs) (k - 1)
+    ∙ get_or-not_lowered xs i (k - 1) (λ e. d (omega arith))

@@ -8,9 +8,10 @@ use Rattle.sym_model.proofs.AfterLists.{length_after}
 use Rattle.partitions.proofs.Parts.{size-take_more}
 use Rattle.partitions.proofs.LoweredParts.{length-lowered, HasCells-lowered}
 use Rattle.strip_laws.proofs.Containment.{contains-tells, contains-from}
-use Rattle.sym_model.specs.Partition.{IsCell, Holds, part, size, after, in_front, without_last_zeros}
+use Rattle.sym_model.specs.Partition.{IsCell, Holds, part, size, after, without_last_zeros}
 use Rattle.sym_model.specs.Slide.{lowered_at, HasInnerCorner}
 use Rattle.sym_model.specs.Tableau.{SkewFilling}
+use Rattle.sym_model.proofs.Parts.{length-without_last_zeros}
 use Rattle.partitions.specs.Limits.{HasCells}
 use Rattle.skew_shapes.specs.Shapes.{IsSkew}
 use Rattle.skew_shapes.specs.CellFillings.{IsFilling, is_cell, row_of, place_in_row, entry_at, with_entry, with_inner_cell, without_outer_cell}
@@ -162,18 +163,9 @@ places-from starts lengths e h = record {
 
 -- ---- the last cell of a row dropped
 
-dropped_rows : (xs : List ℕ) → length (without_last_zeros xs) ≤ length xs
-dropped_rows [] = omega arith
-dropped_rows (a ∷ xs) = omega (arith, dropped_rows xs, front_rows a (without_last_zeros xs))
-  where
-    front_rows : (a : ℕ) (xs : List ℕ) → length (in_front a xs) ≤ suc (length xs)
-    front_rows zero [] = omega arith
-    front_rows zero (b ∷ xs) = omega arith
-    front_rows (suc a) xs = omega arith
-
 pub rows-lowered : (xs : List ℕ) (row : ℕ) → 1 ≤ row → length (without_last_zeros (lowered_at row xs)) ≤ length xs
 rows-lowered xs zero h = absurd (omega arith)
-rows-lowered xs (suc i) h = omega (arith, dropped_rows (lowered_at (suc i) xs), length-lowered xs i)
+rows-lowered xs (suc i) h = omega (arith, length-without_last_zeros (lowered_at (suc i) xs), length-lowered xs i)
 
 pub part-lowered_less : (xs : List ℕ) (row k : ℕ) → 1 ≤ row → 1 ≤ k → part (without_last_zeros (lowered_at row xs)) k ≤ part xs k
 part-lowered_less xs row k h l = elim (cases_eq k row) [

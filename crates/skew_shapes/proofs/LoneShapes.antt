@@ -18,9 +18,9 @@ use Rattle.sym_model.specs.PartitionList.{FallsLexicographically}
 use Rattle.sym_model.specs.PrintedOrder.{falling_lexicographic}
 use Rattle.sym_model.proofs.AfterLists.{length_after, after_among}
 use Rattle.sym_model.proofs.Sums.{Among-each, Among_from_each}
-use Rattle.strip_laws.proofs.RimHooks.{past_end}
-use Rattle.skew_shapes.proofs.CellRows.{map_after-at, get-without_last_zeros}
-use Rattle.skew_shapes.proofs.StripLists.{fall-append, greater_first, part-get}
+use Rattle.sym_model.proofs.Parts.{past_end, get_or-without_last_zeros, part-get_or, get_or-le-size}
+use Rattle.sym_model.proofs.PartitionLists.{FallsLexicographically-append, greater_first}
+use Rattle.skew_shapes.proofs.CellRows.{map_after-at}
 
 -- ---- the shapes at the numbers that pass a test
 
@@ -68,7 +68,7 @@ pub fall_after : (f : ℕ → List (List ℕ)) (a n : ℕ) → ((i : ℕ) → a 
     → FallsLexicographically (each f (after a n))
 fall_after f a zero h c = tt
 fall_after f a (suc n) h c =
-    fall-append (f (a + 1)) (each f (after (a + 1) n)) (h (a + 1) (omega arith) (omega arith))
+    FallsLexicographically-append (f (a + 1)) (each f (after (a + 1) n)) (h (a + 1) (omega arith) (omega arith))
     (fall_after f (a + 1) n (λ i l m. h i (omega arith) (omega arith)) (λ i j x y l m o. c i j x y (omega arith) m (omega arith)))
     (λ x y m o.
     let r = Among_from_each f y (after (a + 1) n) o in
@@ -106,7 +106,7 @@ before_at (suc n) (a ∷ x) (b ∷ y) e h =
     ∙ before_at n x y (λ j l. e (suc j) (omega arith)) h
 
 pub before_by_row : (row : ℕ) (x y : List ℕ) → 1 ≤ row → ((i : ℕ) → 1 ≤ i → i < row → part x i ≡ part y i) → part y row < part x row → falling_lexicographic x y ≡ Less
-before_by_row row x y h e l = before_at (row - 1) x y (λ j m. sym (part-get x j) ∙ e (j + 1) (omega arith) (omega arith) ∙ part-get y j) l
+before_by_row row x y h e l = before_at (row - 1) x y (λ j m. sym (part-get_or x j) ∙ e (j + 1) (omega arith) (omega arith) ∙ part-get_or y j) l
 
 -- ---- rows
 
@@ -117,19 +117,14 @@ same_places (a ∷ x) [] p q e = let h = p.0 in absurd (let z = e 0 in omega ari
 same_places (a ∷ x) (b ∷ y) p q e = ap₂ (λ (c : ℕ) l. c ∷ l) (e 0) (same_places x y p.1 q.1 (λ j. e (suc j)))
 
 pub same_rows : (x y : List ℕ) → ArePositive x → ArePositive y → ((i : ℕ) → 1 ≤ i → part x i ≡ part y i) → x ≡ y
-same_rows x y p q e = same_places x y p q (λ j. sym (part-get x j) ∙ e (j + 1) (omega arith) ∙ part-get y j)
-
-place_within : (parts : List ℕ) (j : ℕ) → get_or parts j 0 ≤ size parts
-place_within [] j = omega arith
-place_within (a ∷ parts) zero = omega arith
-place_within (a ∷ parts) (suc j) = let r = place_within parts j in omega arith
+same_rows x y p q e = same_places x y p q (λ j. sym (part-get_or x j) ∙ e (j + 1) (omega arith) ∙ part-get_or y j)
 
 pub part_within : (parts : List ℕ) (i : ℕ) → part parts i ≤ size parts
-part_within parts i = place_within parts (i - 1)
+part_within parts i = get_or-le-size parts (i - 1)
 
 -- a row of a list of rows that are 0 past the last
 pub rows_at : (f : ℕ → ℕ) (n i : ℕ) → 1 ≤ i → (n < i → f i ≡ 0) → part (without_last_zeros (map f (after 0 n))) i ≡ f i
-rows_at f n i h z = get-without_last_zeros (map f (after 0 n)) (i - 1) ∙ by (cases_lt n i)
+rows_at f n i h z = get_or-without_last_zeros (map f (after 0 n)) (i - 1) ∙ by (cases_lt n i)
   where
     by : (n < i) ⊎ (i ≤ n) → get_or (map f (after 0 n)) (i - 1) 0 ≡ f i
     by (inl l) = past_end (map f (after 0 n)) (i - 1) (let e = length-map (after 0 n) f in let d = length_after 0 n in omega arith) ∙ sym (z l)

@@ -13,11 +13,12 @@ use Rattle.sym_model.specs.Strip.{IsRimHook, height}
 use Rattle.sym_model.proofs.AfterLists.{after_among, among_after, once_after}
 use Rattle.sym_model.proofs.SortedParts.{IsPartition-without_last_zeros}
 use Rattle.sym_model.proofs.Sums.{Among-append_left, Among-append_right, Among_from_append}
+use Rattle.sym_model.proofs.Parts.{past_end}
+use Rattle.sym_model.proofs.PartitionLists.{FallsLexicographically-append}
 use Rattle.strip_laws.specs.HookRows.{IsHookRows}
 use Rattle.strip_laws.proofs.HookSizes.{hook_size}
-use Rattle.strip_laws.proofs.RimHooks.{hook_from_rows, hook_rows, height_of_rows, past_end}
+use Rattle.strip_laws.proofs.RimHooks.{hook_from_rows, hook_rows, height_of_rows}
 use Rattle.strip_laws.proofs.Strips.{falls_part, falls_far}
-use Rattle.skew_shapes.proofs.StripLists.{fall-append}
 use Rattle.skew_shapes.specs.HookLists.{AreHooksRemoved}
 use Rattle.skew_shapes.specs.RemovedHooks.{can_remove, left_row, without_hook, hooks_beginning, hooks_beginning_within, EndsUpTo}
 use Rattle.skew_shapes.proofs.LoneShapes.{none_fits, one_fits, among_fitting, from_fitting, fall_fitting, before_by_row, same_rows, rows_at, rows_fall}
@@ -328,7 +329,7 @@ beginning_fall k outer first f h =
 removed_fall : (k : ℕ) (outer : List ℕ) (n : ℕ) → Falls outer → FallsLexicographically (hooks_beginning_within k outer n)
 removed_fall k outer zero f = tt
 removed_fall k outer (suc n) f =
-    fall-append (hooks_beginning k outer (suc n)) (hooks_beginning_within k outer n) (beginning_fall k outer (suc n) f (omega arith)) (removed_fall k outer n f)
+    FallsLexicographically-append (hooks_beginning k outer (suc n)) (hooks_beginning_within k outer n) (beginning_fall k outer (suc n) f (omega arith)) (removed_fall k outer n f)
     (λ x y m o.
     let u = from_within k outer n y o in
     let r = listed_row k outer (suc n) x (omega arith) m in

@@ -9,10 +9,11 @@ use Rattle.sym_model.specs.Sum.{each, Among}
 use Rattle.sym_model.specs.Partition.{IsPartition, Falls, ArePositive, part, size, rows}
 use Rattle.sym_model.specs.PartitionList.{FallsLexicographically}
 use Rattle.sym_model.proofs.Sums.{Among-map, Among_from_map, Among-each, Among_from_each}
+use Rattle.sym_model.proofs.Parts.{part-get_or, Falls-front, size-ones}
 use Rattle.strip_laws.proofs.Strips.{vertical_from_rows, vertical_rows}
 use Rattle.partitions.specs.Limits.{IsWithinLimits}
 use Rattle.skew_shapes.specs.HorizontalStrips.{counting_down}
-use Rattle.skew_shapes.proofs.StripLists.{down-tells, among-down, fall-each, part-get}
+use Rattle.skew_shapes.proofs.StripLists.{down-tells, among-down, fall-each}
 use Rattle.skew_shapes.specs.VerticalStrips.{vertical_on, AreVerticalStrips}
 
 -- ---- rows with at most one cell more
@@ -39,10 +40,6 @@ ones_beside : (most left : ℕ) → 1 ≤ most → IsBeside most [] (replicate l
 ones_beside most zero h = tt
 ones_beside most (suc left) h = (refl, h, ones_beside 1 left (omega arith))
 
-size_ones : (left : ℕ) → size (replicate left 1) ≡ left
-size_ones zero = refl
-size_ones (suc left) = let r = size_ones left in omega arith
-
 beside_ones : (most : ℕ) (outer : List ℕ) → IsBeside most [] outer → outer ≡ replicate (size outer) 1
 beside_ones most [] o = refl
 beside_ones most (b ∷ outer) o =
@@ -51,7 +48,7 @@ beside_ones most (b ∷ outer) o =
 
 pub vertical_on-tell : (most left : ℕ) (inner outer : List ℕ) → Falls (most ∷ inner) → 1 ≤ most → ArePositive inner → Among outer (vertical_on most left inner) → IsWidened most left inner outer
 vertical_on-tell most left [] outer f h p (inl e) =
-    let s = size_ones left in
+    let s = size-ones left in
     let l = length-replicate left (let one : ℕ = 1 in one) in
     subst (IsWidened most left []) (sym e) (record { beside = ones_beside most left h; cells = omega arith; few = omega arith })
 vertical_on-tell most left [] outer f h p (inr m) = absurd m
@@ -106,19 +103,15 @@ beside-first most [] (b ∷ outer) o = o.1
 beside-first most (a ∷ inner) [] o = absurd o
 beside-first most (a ∷ inner) (b ∷ outer) o = o.2
 
-falls_with : (b : ℕ) (outer : List ℕ) → get_or outer 0 0 ≤ b → Falls outer → Falls (b ∷ outer)
-falls_with b [] l f = tt
-falls_with b (c ∷ outer) l f = (l, f)
-
 beside-falls : (most : ℕ) (inner outer : List ℕ) → ArePositive inner → IsBeside most inner outer → IsPartition outer
 beside-falls most [] [] p o = record { falls = tt; positive = tt }
 beside-falls most [] (b ∷ outer) p o =
     let r = beside-falls b [] outer tt o.2 in
-    record { falls = falls_with b outer (beside-first b [] outer o.2) r.falls; positive = (let q = o.0 in omega arith, r.positive) }
+    record { falls = Falls-front b outer (beside-first b [] outer o.2) r.falls; positive = (let q = o.0 in omega arith, r.positive) }
 beside-falls most (a ∷ inner) [] p o = absurd o
 beside-falls most (a ∷ inner) (b ∷ outer) p o =
     let r = beside-falls b inner outer p.1 o.3 in
-    record { falls = falls_with b outer (beside-first b inner outer o.3) r.falls; positive = (let x = p.0 in let y = o.0 in omega arith, r.positive) }
+    record { falls = Falls-front b outer (beside-first b inner outer o.3) r.falls; positive = (let x = p.0 in let y = o.0 in omega arith, r.positive) }
 
 beside-holds : (most : ℕ) (inner outer : List ℕ) → IsBeside most inner outer → (j : ℕ) → get_or inner j 0 ≤ get_or outer j 0
 beside-holds most [] outer o j = omega arith
@@ -165,8 +158,8 @@ vertical_strips inner k p = record {
           vertical_from_rows ν inner (λ i. beside-holds (part inner 1 + 1) inner ν g.beside (i - 1)) (λ i h. beside-within (part inner 1 + 1) inner ν g.beside (i - 1)),
         ),
     λ is.
-        let holds = λ (j : ℕ). (let h = is.2.holds (j + 1) in let a = part-get inner j in let b = part-get ν j in let l : get_or inner j 0 ≤ get_or ν j 0 = omega arith in l) in
-        let within = λ (j : ℕ). (let h = vertical_rows ν inner is.2 (j + 1) (omega arith) in let a = part-get inner j in let b = part-get ν j in let l : get_or ν j 0 ≤ get_or inner j 0 + 1 = omega arith in l) in
+        let holds = λ (j : ℕ). (let h = is.2.holds (j + 1) in let a = part-get_or inner j in let b = part-get_or ν j in let l : get_or inner j 0 ≤ get_or ν j 0 = omega arith in l) in
+        let within = λ (j : ℕ). (let h = vertical_rows ν inner is.2 (j + 1) (omega arith) in let a = part-get_or inner j in let b = part-get_or ν j in let l : get_or ν j 0 ≤ get_or inner j 0 + 1 = omega arith in l) in
         Among-vertical_on (part inner 1 + 1) k inner ν (first_falls inner p)
         (rows-beside (part inner 1 + 1) inner ν is.0.falls is.0.positive p.positive holds within (within 0)) is.1,
   );

@@ -7,8 +7,9 @@ use Rattle.sym_model.specs.Schur.{row_lengths, letters_of, times_in}
 use Rattle.sym_model.specs.GoodTableau.{every}
 use Rattle.sym_model.specs.StandardTableau.{IsStandard}
 use Rattle.sym_model.specs.Tableau.{SkewFilling, IsTableau, shape_of}
+use Rattle.sym_model.proofs.Lists.{each-append}
+use Rattle.sym_model.proofs.Tableaux.{length-row_lengths, row_lengths-none}
 use Rattle.skew_shapes.specs.CellFillings.{IsTableauWithin, row_of}
-use Rattle.skew_shapes.proofs.CellCounts.{each-append}
 
 -- ---- rows one by one
 
@@ -19,10 +20,6 @@ letters-more rows i h =
     let row = get_or rows i [] in
     ap letters_of (take_more rows i [] h) ∙ each-append (λ (r : List ℕ). r) (take i rows) (row ∷ [])
     ∙ ap (λ l. letters_of (take i rows) ++ l) (append-nil row ∙ ap (λ n. slice_index_or rows n []) e)
-
-pub times_in-append : (k : ℕ) (v w : List ℕ) → times_in k (v ++ w) ≡ times_in k v + times_in k w
-times_in-append k [] w = omega arith
-times_in-append k (a ∷ v) w = omega (arith, times_in-append k v w)
 
 pub length-letters-take : (rows : List (List ℕ)) (i : ℕ) → length (letters_of (take i rows)) ≤ length (letters_of rows)
 length-letters-take [] zero = omega arith
@@ -40,19 +37,10 @@ length-letters : (rows : List (List ℕ)) → length (letters_of rows) ≡ size 
 length-letters [] = refl
 length-letters (row ∷ rows) = length-append row (letters_of rows) ∙ ap (λ n. length row + n) (length-letters rows)
 
-length-row_lengths : (outer inner : List ℕ) → length (row_lengths outer inner) ≡ length outer
-length-row_lengths [] inner = refl
-length-row_lengths (a ∷ outer) [] = ap suc (length-row_lengths outer [])
-length-row_lengths (a ∷ outer) (b ∷ inner) = ap suc (length-row_lengths outer inner)
-
 size-row_lengths : (outer inner : List ℕ) → size (row_lengths outer inner) ≤ size outer
 size-row_lengths [] inner = omega arith
 size-row_lengths (a ∷ outer) [] = omega (arith, size-row_lengths outer [])
 size-row_lengths (a ∷ outer) (b ∷ inner) = omega (arith, size-row_lengths outer inner)
-
-straight_lengths : (outer : List ℕ) → row_lengths outer [] ≡ outer
-straight_lengths [] = refl
-straight_lengths (a ∷ outer) = ap (λ l. a ∷ l) (straight_lengths outer)
 
 pub rows-tableau : (t : SkewFilling) → IsTableauWithin t → length t.rows ≡ length t.outer
 rows-tableau t h = sym (length-map t.rows length) ∙ ap length h.tableau.cells ∙ length-row_lengths t.outer t.inner
@@ -63,7 +51,7 @@ few-letters t h =
 
 pub straight-letters : (t : SkewFilling) → IsTableauWithin t → t.inner ≡ [] → length (letters_of t.rows) ≡ size t.outer
 straight-letters t h e =
-    length-letters t.rows ∙ ap size (h.tableau.cells ∙ ap (row_lengths t.outer) e ∙ straight_lengths t.outer)
+    length-letters t.rows ∙ ap size (h.tableau.cells ∙ ap (row_lengths t.outer) e ∙ row_lengths-none t.outer)
 
 -- ---- each number once
 
@@ -85,7 +73,7 @@ once_from w a (suc k) h =
 
 straight : (t : SkewFilling) → IsTableauWithin t → t.inner ≡ [] → IsTableau (shape_of t.rows) [] t.rows
 straight t h e =
-    let shape : t.outer ≡ shape_of t.rows = sym (h.tableau.cells ∙ ap (row_lengths t.outer) e ∙ straight_lengths t.outer) in
+    let shape : t.outer ≡ shape_of t.rows = sym (h.tableau.cells ∙ ap (row_lengths t.outer) e ∙ row_lengths-none t.outer) in
     subst (λ outer. IsTableau outer [] t.rows) shape (subst (λ inner. IsTableau t.outer inner t.rows) e h.tableau)
 
 pub IsStandard-from :

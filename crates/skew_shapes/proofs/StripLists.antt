@@ -2,19 +2,18 @@
 --     strips_on-tell, Among-strips_on    they are those with rows between the old ones
 --     strips_on-fall                     they stand in falling lexicographic order
 --     horizontal_strips                  they are the horizontal strips
-use Rattle.std.proofs.Common.{◌≡◌, ℕ, zero, suc, ◌+◌, ◌-◌, ◌<◌, ◌≤◌, ◌==◌, min, max, Bool, true, false, cond, List, [], ◌∷◌, ◌++◌, map, length, get_or, take, drop, take_all, refl, sym, ap, ap₂, ◌∙◌, subst, inl, inr, ⊎_elim, arith, append_assoc, eqb-true, add-one}
+use Rattle.std.proofs.Common.{◌≡◌, ℕ, zero, suc, ◌+◌, ◌-◌, ◌<◌, ◌≤◌, ◌==◌, min, max, Bool, true, false, cond, List, [], ◌∷◌, ◌++◌, map, length, get_or, drop, refl, sym, ap, ap₂, ◌∙◌, subst, inl, inr, arith, append_assoc, eqb-true, add-one}
 use Rattle.std.specs.Prelude.{Option, Some, None, IsSome, slice_get}
 use Rattle.std.specs.Option.{option_to_list}
 use Rattle.std.proofs.lemmas.Bool.{cases_eq}
-use Rattle.std.proofs.lemmas.Cmp.{nat_cmp_total, tied_itself}
-use Rattle.std.specs.Cmp.{nat_cmp_is}
-use Rattle.std.specs.Ordering.{ordering_then}
 use Rattle.std.specs.declared.cmp.Ordering.TheVariants.{Less}
 use Rattle.sym_model.specs.Sum.{each, Among}
 use Rattle.sym_model.specs.Partition.{IsPartition, Falls, ArePositive, part, size, rows}
 use Rattle.sym_model.specs.PartitionList.{FallsLexicographically}
 use Rattle.sym_model.specs.PrintedOrder.{falling_lexicographic}
-use Rattle.sym_model.proofs.Sums.{Among-map, Among_from_map, Among-each, Among_from_each, Among_from_append}
+use Rattle.sym_model.proofs.Sums.{Among-map, Among_from_map, Among-each, Among_from_each}
+use Rattle.sym_model.proofs.Parts.{part-get_or}
+use Rattle.sym_model.proofs.PartitionLists.{FallsLexicographically-append, FallsLexicographically-map, greater_first}
 use Rattle.strip_laws.proofs.Strips.{horizontal_from_rows, horizontal_rows}
 use Rattle.partitions.specs.Limits.{IsWithinLimits}
 use Rattle.skew_shapes.specs.HorizontalStrips.{counting_down, strips_on, last_of, AreHorizontalStrips}
@@ -123,33 +122,12 @@ Among-strips_on most left (a ∷ inner) (b ∷ outer) f o s =
 
 -- ---- the order
 
-pub fall-append : (xs ys : List (List ℕ)) → FallsLexicographically xs → FallsLexicographically ys
-    → ((x y : List ℕ) → Among x xs → Among y ys → falling_lexicographic x y ≡ Less) → FallsLexicographically (xs ++ ys)
-fall-append [] ys f g c = g
-fall-append (x ∷ xs) ys f g c = (
-  λ y m. ⊎_elim (λ n. f.0 y n) (λ n. c x y (inl refl) n) (Among_from_append y xs ys m),
-  fall-append xs ys f.1 g (λ a b m n. c a b (inr m) n),
-)
-
-pub fall-map : (a : ℕ) (xs : List (List ℕ)) → FallsLexicographically xs → FallsLexicographically (map (λ x. a ∷ x) xs)
-fall-map a [] f = tt
-fall-map a (x ∷ xs) f = (
-  λ y m.
-      let found = Among_from_map (λ z. a ∷ z) y xs m in
-      subst (λ z. falling_lexicographic (a ∷ x) z ≡ Less) (sym found.2)
-      (ap (λ o. ordering_then o (falling_lexicographic x found.0)) (tied_itself nat_cmp_total a) ∙ f.0 found.0 found.1),
-  fall-map a xs f.1,
-)
-
-pub greater_first : (a b : ℕ) (x y : List ℕ) → b < a → falling_lexicographic (a ∷ x) (b ∷ y) ≡ Less
-greater_first a b x y h = ap (λ o. ordering_then o (falling_lexicographic x y)) (sym (nat_cmp_is b a Less h))
-
 pub fall-each : (rest : ℕ → List (List ℕ)) (high n : ℕ) → n ≤ high + 1 → ((a : ℕ) → Among a (counting_down high n) → FallsLexicographically (rest a))
     → FallsLexicographically (each (λ a. map (λ x. a ∷ x) (rest a)) (counting_down high n))
 fall-each rest high zero h f = tt
 fall-each rest high (suc n) h f =
-    fall-append (map (λ x. high ∷ x) (rest high)) (each (λ a. map (λ x. a ∷ x) (rest a)) (counting_down (high - 1) n))
-    (fall-map high (rest high) (f high (inl refl)))
+    FallsLexicographically-append (map (λ x. high ∷ x) (rest high)) (each (λ a. map (λ x. a ∷ x) (rest a)) (counting_down (high - 1) n))
+    (FallsLexicographically-map high (rest high) (f high (inl refl)))
     (fall-each rest (high - 1) n (omega arith) (λ a m. f a (inr m)))
     (λ x y m p.
     let left = Among_from_map (λ z. high ∷ z) x (rest high) m in
@@ -216,9 +194,6 @@ rows-over most (a ∷ inner) [] p holds below q l = absurd (let x = holds 0 in l
 rows-over most (a ∷ inner) (b ∷ outer) p holds below q l =
     (holds 0, l, rows-over a inner outer p.1 (λ j. holds (suc j)) (λ j. below (suc j)) q.1 (below 0))
 
-pub part-get : (parts : List ℕ) (j : ℕ) → part parts (j + 1) ≡ get_or parts j 0
-part-get parts j = ap (λ n. get_or parts n 0) (let e : j + 1 - 1 ≡ j = omega arith in e)
-
 pub sizes_within : (x y : List ℕ) → ((j : ℕ) → get_or x j 0 ≤ get_or y j 0) → size x ≤ size y
 sizes_within [] y h = omega arith
 sizes_within (a ∷ x) [] h = let p = h 0 in let r = sizes_within x [] (λ j. h (suc j)) in omega arith
@@ -243,12 +218,12 @@ horizontal_strips inner k p = record {
           is,
           g.cells,
           horizontal_from_rows ν inner is.falls (λ i. over-holds (part inner 1 + k) inner ν g.over (i - 1))
-              (λ i h. let e = part-get ν i in let b = over-below (part inner 1 + k) inner ν g.over (i - 1) in let s : suc (i - 1) ≡ i = omega arith in
+              (λ i h. let e = part-get_or ν i in let b = over-below (part inner 1 + k) inner ν g.over (i - 1) in let s : suc (i - 1) ≡ i = omega arith in
               let f = ap (λ n. get_or ν n 0) s in omega arith),
         ),
     λ is.
-        let holds = λ (j : ℕ). (let h = is.2.holds (j + 1) in let a = part-get inner j in let b = part-get ν j in let l : get_or inner j 0 ≤ get_or ν j 0 = omega arith in l) in
-        let below = λ (j : ℕ). (let h = horizontal_rows ν inner is.0.falls p.falls is.2 (j + 1) (omega arith) in let a = part-get inner j in let b = part-get ν (j + 1) in
+        let holds = λ (j : ℕ). (let h = is.2.holds (j + 1) in let a = part-get_or inner j in let b = part-get_or ν j in let l : get_or inner j 0 ≤ get_or ν j 0 = omega arith in l) in
+        let below = λ (j : ℕ). (let h = horizontal_rows ν inner is.0.falls p.falls is.2 (j + 1) (omega arith) in let a = part-get_or inner j in let b = part-get_or ν (j + 1) in
         let e : j + 1 ≡ suc j = omega arith in let f = ap (λ n. get_or ν n 0) e in let l : get_or ν (suc j) 0 ≤ get_or inner j 0 = omega arith in l) in
         Among-strips_on (part inner 1 + k) k inner ν (most_falls inner k p)
         (rows-over (part inner 1 + k) inner ν is.0.positive holds below p.positive (first_within inner ν k holds is.1)) is.1,
@@ -272,11 +247,6 @@ prefix_longer rows row (x ∷ xs) = ap₂ ◌∷◌ (append_assoc rows (row ∷ 
 pub append_none : (xs : List (List ℕ)) → xs ++ [] ≡ xs
 append_none [] = refl
 append_none (x ∷ xs) = ap (λ l. x ∷ l) (append_none xs)
-
--- the first part, and those behind it as a slice holds them
-pub split_rows : (parts : List ℕ) → 1 ≤ length parts → get_or parts 0 0 ∷ take (length parts - 1) (drop 1 parts) ≡ parts
-split_rows [] h = absurd (omega arith)
-split_rows (k ∷ parts) h = ap (λ r. k ∷ r) (take_all (length (k ∷ parts) - 1) parts (omega arith))
 
 -- the shapes with one of the first rows so far
 abbrev pub grown : ℕ → ℕ → List ℕ → ℕ → List (List ℕ)

@@ -1,6 +1,6 @@
 -- Lists to which products are added one after another (specs/Products).
-use Rattle.std.proofs.Common.{◌≡◌, ◌⊎◌, ℕ, zero, suc, ◌+◌, ◌*◌, ◌/◌, ◌^◌, ◌<◌, ◌≤◌, Bool, true, false, cond, List, [], sym, ◌∙◌, ap, ap₂, subst, refl, inl, inr, arith, ℤ, pos, negsuc, ◌+ℤ◌, ◌*ℤ◌, unsigned_abs}
-use Rattle.std.specs.Prelude.{nat_eq, Option, Some, None, IsSome, IfSome, nat_abs}
+use Rattle.std.proofs.Common.{◌≡◌, ◌⊎◌, ℕ, zero, suc, ◌+◌, ◌*◌, ◌/◌, ◌^◌, ◌<◌, ◌≤◌, Bool, true, false, cond, List, [], sym, ◌∙◌, ap, ap₂, subst, refl, inl, inr, arith, ℤ, pos, ◌+ℤ◌, ◌*ℤ◌, unsigned_abs}
+use Rattle.std.specs.Prelude.{nat_eq, Option, Some, None, IsSome, IfSome}
 use Rattle.std.specs.Int.{◌∣◌}
 use Rattle.std.specs.Cmp.Lexicographic.{pointwise, nat_list_eq_equiv}
 use Rattle.std.proofs.lemmas.Int.{ints, unsigned_abs-mul}
@@ -26,6 +26,7 @@ use Rattle.sparse_polys.proofs.Tables.{lowest-coefficient}
 use Rattle.sym_model.proofs.Exponents.{same_from, same_apart}
 use Rattle.sym_model.proofs.Ring.{ring, product_assoc}
 use Rattle.sparse_polys.specs.MonomialProducts.{coefficient_at, AreDenominators, AreCleared, Adds, Overflows}
+use Rattle.sparse_polys.proofs.Coefficients.{nat_abs-is}
 use native.Mathlib.Nat.{mul-le-mul_left, mul-pos, dvd-mul_left}
 use lib.IntN.{+ℤ_idr, *ℤ-zero, zero-*ℤ}
 
@@ -101,7 +102,7 @@ refused-second value x y p w d e n lx ly f g answers h small =
 pub lowest_at : (terms : Terms (List ℕ)) → IsCombination (pointwise nat_eq) is_label terms → (ν : List ℕ) → InLowestTerms (coefficient_at terms ν)
 lowest_at terms is ν = lowest-coefficient nat_list_eq_equiv same_partition is_label (λ (r : Fraction). r) terms is.proper ν
 
-at_same : (label : List ℕ) → pointwise nat_eq label label ≡ true
+pub at_same : (label : List ℕ) → pointwise nat_eq label label ≡ true
 at_same label = (bytes_eq-Decides label label).1 refl
 
 more_at : (old new : Terms (List ℕ)) (label : List ℕ) (c : Fraction) → HasMoreAt (pointwise nat_eq) old label c new
@@ -235,7 +236,7 @@ Overflows-many q A old f some r bound b =
     let l = r.2 in
     (r.0, r.1, omega arith)
 
-distribute : (x y z : ℤ) → z *ℤ x +ℤ z *ℤ y ≡ z *ℤ (x +ℤ y)
+pub distribute : (x y z : ℤ) → z *ℤ x +ℤ z *ℤ y ≡ z *ℤ (x +ℤ y)
 distribute x y z = simp ring (omega (arith, ints))
 
 pub distribute_counts : (z : ℤ) (a b c : ℕ) → c ≡ a + b → z *ℤ pos a +ℤ z *ℤ pos b ≡ z *ℤ pos c
@@ -255,15 +256,8 @@ product-within d e n a b =
     ∙ ap (λ m. m * n) (unsigned_abs-mul (scaled d a) (scaled e b) ∙ ap₂ ◌*◌ (unsigned_abs-scaled d a) (unsigned_abs-scaled e b)) in
     omega arith
 
-pub many-within : (A x y z : ℕ) → x + y ≤ z → A * x + A * y ≤ A * z
-many-within A x y z h = let m = mul-le-mul_left A h in omega arith
-
 pub Adds-same : (q : ℕ) (first second : Terms (List ℕ)) (φ χ : List ℕ → ℤ) → ((ν : List ℕ) → IsPartition ν → φ ν ≡ χ ν) → Adds q first φ second → Adds q first χ second
 Adds-same q first second φ χ e a = record { cleared = a.cleared; sums = λ ν p. a.sums ν p ∙ ap (λ x. scaled q (coefficient_at first ν) +ℤ x) (e ν p) }
-
-pub nat_abs-is : (z : ℤ) → nat_abs z ≡ unsigned_abs z
-nat_abs-is (pos n) = refl
-nat_abs-is (negsuc n) = refl
 
 -- a term is not 0
 pub magnitude-positive : (q : ℕ) (terms : Terms (List ℕ)) (t : List ℕ × Fraction) → IsCombination (pointwise nat_eq) is_label terms → Among t terms

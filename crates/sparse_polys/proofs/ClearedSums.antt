@@ -2,7 +2,7 @@
 --     Adds-term       a term that is added
 --     refused-term    where it is refused, the absolute values are large
 --     Adds-then       one addition after another
-use Rattle.std.proofs.Common.{◌≡◌, ◌⊎◌, ℕ, ◌+◌, ◌*◌, ◌/◌, ◌^◌, ◌<◌, ◌≤◌, Bool, true, false, cond, List, [], ◌∷◌, refl, sym, ap, ap₂, ◌∙◌, subst, inl, inr, arith, ℤ, pos, negsuc, ◌+ℤ◌, ◌*ℤ◌, unsigned_abs}
+use Rattle.std.proofs.Common.{◌≡◌, ◌⊎◌, ℕ, ◌+◌, ◌*◌, ◌/◌, ◌^◌, ◌<◌, ◌≤◌, Bool, true, false, cond, List, [], ◌∷◌, refl, sym, ap, ap₂, ◌∙◌, subst, inl, inr, arith, ℤ, pos, ◌+ℤ◌, ◌*ℤ◌, unsigned_abs}
 use Rattle.std.specs.Prelude.{nat_eq, nat_abs, Option, Some, None, IsSome, Result, Ok, Err, OnOk}
 use Rattle.std.specs.Int.{◌∣◌}
 use Rattle.std.specs.Map.{lookup}
@@ -16,7 +16,7 @@ use Rattle.sym_model.specs.Expansion.{Fraction, Terms}
 use Rattle.sym_model.specs.LabelLimits.{is_monomial_label}
 use Rattle.sym_model.specs.ListWeight.{absolute_sum}
 use Rattle.sym_model.proofs.Ring.{distributes_right}
-use Rattle.coeff_rings.specs.Fractions.{whole, scaled, InLowestTerms, fraction_sum, fraction_product}
+use Rattle.coeff_rings.specs.Fractions.{scaled, InLowestTerms, fraction_sum, fraction_product}
 use Rattle.coeff_rings.specs.Room.{magnitude, HasRoomForSum}
 use Rattle.coeff_rings.specs.Answers.{AnswersSum}
 use Rattle.coeff_rings.specs.Proved.Cleared.{unsigned_abs-scaled, sum-cleared, product-cleared}
@@ -26,6 +26,8 @@ use Rattle.sparse_polys.specs.Refusal.{IsRefused}
 use Rattle.sparse_polys.proofs.Tables.{lowest-coefficient}
 use Rattle.sparse_polys.proofs.Totals.{total-more}
 use Rattle.sparse_polys.specs.Products.{coefficient_at, cleared_sum, AreCleared, AreDenominators, Adds}
+use Rattle.sparse_polys.proofs.Accumulating.{triangle, scaled-nothing}
+use Rattle.sparse_polys.proofs.Coefficients.{nat_abs-is}
 use native.Mathlib.Nat.{mul-pos, dvd-mul_left}
 use lib.IntN.{+ℤ_idr, zero-*ℤ}
 
@@ -35,19 +37,12 @@ IsTable terms = IsCombination (pointwise nat_eq) is_monomial_label terms
 pub lowest_at : (terms : Terms (List ℕ)) → IsTable terms → (e : List ℕ) → InLowestTerms (coefficient_at terms e)
 lowest_at terms is e = lowest-coefficient nat_list_eq_equiv same_partition is_monomial_label (λ (r : Fraction). r) terms is.proper e
 
-pub scaled-nothing : (q : ℕ) → scaled q (whole (pos 0)) ≡ pos 0
-scaled-nothing q = zero-*ℤ (pos (q / 1))
-
 -- ---- absolute values
-
-pub nat_abs-is : (z : ℤ) → nat_abs z ≡ unsigned_abs z
-nat_abs-is (pos n) = refl
-nat_abs-is (negsuc n) = refl
 
 pub size-here : (q : ℕ) (c : Fraction) → nat_abs c.0 * (q / c.1) ≡ magnitude q c
 size-here q c = ap (λ n. n * (q / c.1)) (nat_abs-is c.0)
 
-total_absolute : (q : ℕ) (terms : Terms (List ℕ)) → total (λ (t : List ℕ × Fraction). pos (magnitude q t.1)) terms ≡ pos (absolute_sum q terms)
+pub total_absolute : (q : ℕ) (terms : Terms (List ℕ)) → total (λ (t : List ℕ × Fraction). pos (magnitude q t.1)) terms ≡ pos (absolute_sum q terms)
 total_absolute q [] = refl
 total_absolute q (t ∷ terms) = ap₂ (λ (m : ℕ) (z : ℤ). pos m +ℤ z) (sym (size-here q t.1)) (total_absolute q terms)
 
@@ -60,9 +55,6 @@ found_within q (t ∷ terms) e = by (pointwise nat_eq e t.0) (found_within q ter
         → magnitude q (unwrap_or (cond b (Some t.1) (lookup (pointwise nat_eq e) terms)) (pos 0, 1)) ≤ absolute_sum q (t ∷ terms)
     by true rest = let s = size-here q t.1 in omega arith
     by false rest = omega arith
-
-triangle : (x y : ℤ) → unsigned_abs (x +ℤ y) ≤ unsigned_abs x + unsigned_abs y
-triangle x y = omega (arith, ints)
 
 -- ---- one term more
 

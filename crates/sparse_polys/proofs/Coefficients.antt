@@ -1,6 +1,6 @@
 -- Coefficients in lowest terms, and the coefficient of a label in a list of pairs.
 use Rattle.std.proofs.Common.{◌≡◌, ◌≢◌, ℕ, zero, suc, ◌<◌, ◌*◌, Bool, true, false, cond, List, [], ◌∷◌, ℤ, pos, negsuc, ◌*ℤ◌, nat_abs, unsigned_abs, neg_ℤ, refl, sym, ap, ◌∙◌, subst, zero-mul, arith}
-use Rattle.std.specs.Prelude.{Option, Some, None}
+use Rattle.std.specs.Prelude.{Option, Some, None, Err, IfOk, Ok, Result}
 use Rattle.std.specs.Option.{option_map, unwrap_or}
 use Rattle.std.specs.Map.{lookup, keys_of}
 use Rattle.std.specs.Int.{IsGcd}
@@ -9,12 +9,13 @@ use Rattle.coeff_rings.specs.Fractions.{whole, InLowestTerms, fraction_product}
 use Rattle.coeff_rings.specs.Proved.Fractions.{Stands-same, Stands-itself, Stands-whole, Stands-product}
 use Rattle.coeff_rings.specs.Proved.FractionLaws.{num-zero}
 use Rattle.sym_model.specs.Canonical.{is_reduced}
+use Rattle.sym_model.specs.WholeTerms.{WholeTerms, numerators}
 use Rattle.sym_model.proofs.Orders.{is_reduced-from, is_reduced-tells}
 use Rattle.sparse_polys.specs.Combination.{terms_of, coefficient}
 
 -- ---- lowest terms
 
-nat_abs-is : (z : ℤ) → nat_abs z ≡ unsigned_abs z
+pub nat_abs-is : (z : ℤ) → nat_abs z ≡ unsigned_abs z
 nat_abs-is (pos n) = refl
 nat_abs-is (negsuc n) = refl
 
@@ -86,3 +87,11 @@ coefficient-terms_of {R = R} eq value es label = ap (λ (o : Option Fraction). u
     by : (o : Option R) → unwrap_or (option_map value o) (pos 0, 1) ≡ value_at value o
     by None = refl
     by (Some c) = refl
+
+pub numerators-terms : (xs : WholeTerms) → numerators (terms_of whole xs) ≡ xs
+numerators-terms [] = refl
+numerators-terms (x ∷ xs) = ap (λ l. x ∷ l) (numerators-terms xs)
+
+pub if_answered : {T E : Type 0} {P Q : T → Type 0} (r : Result T E) → IfOk r P → ((x : T) → P x → Q x) → IfOk r Q
+if_answered (Ok x) h f = f x h
+if_answered (Err e) h f = tt

@@ -103,7 +103,7 @@ once_labels (t ∷ terms) is =
 reduced_at : (terms : Terms (List ℕ)) → IsTable terms → (t : List ℕ × Fraction) → Among t terms → (0 < t.1.1) × (0 < nat_abs t.1.0)
 reduced_at terms is t m = let r = is_reduced-tells t.1 (and_parts _ _ (each_term-among _ terms is.proper t m)).0 in (r.denominator, r.nonzero)
 
-denominators-positive : (terms : Terms (List ℕ)) → ((t : List ℕ × Fraction) → Among t terms → 0 < t.1.1) → 0 < denominators terms
+pub denominators-positive : (terms : Terms (List ℕ)) → ((t : List ℕ × Fraction) → Among t terms → 0 < t.1.1) → 0 < denominators terms
 denominators-positive [] h = omega arith
 denominators-positive (t ∷ terms) h = mul-pos (h t (inl refl)) (denominators-positive terms (λ u m. h u (inr m)))
 
@@ -196,11 +196,11 @@ divides_terms q product ip h t m =
 
 -- ---- least common denominators
 
-least-positive : (terms : Terms (List ℕ)) → ((t : List ℕ × Fraction) → Among t terms → 0 < t.1.1) → 0 < common_denominator terms
+pub least-positive : (terms : Terms (List ℕ)) → ((t : List ℕ × Fraction) → Among t terms → 0 < t.1.1) → 0 < common_denominator terms
 least-positive [] h = omega arith
 least-positive (t ∷ terms) h = lcm-positive t.1.1 (common_denominator terms) (h t (inl refl)) (least-positive terms (λ u m. h u (inr m)))
 
-least-multiple : (terms : Terms (List ℕ)) → ((t : List ℕ × Fraction) → Among t terms → 0 < t.1.1) → (t : List ℕ × Fraction) → Among t terms → t.1.1 ∣ common_denominator terms
+pub least-multiple : (terms : Terms (List ℕ)) → ((t : List ℕ × Fraction) → Among t terms → 0 < t.1.1) → (t : List ℕ × Fraction) → Among t terms → t.1.1 ∣ common_denominator terms
 least-multiple [] h t m = absurd m
 least-multiple (u ∷ terms) h t (inl e) =
     let l = lcm u.1.1 (common_denominator terms) in

@@ -1,16 +1,10 @@
 -- The exponents of a product of monomials.
-use Rattle.std.proofs.Common.{◌≡◌, ℕ, zero, suc, ◌+◌, ◌<◌, ◌≤◌, max, List, [], ◌∷◌, ◌++◌, length, get_or, take, refl, sym, ap, ◌∙◌, arith, add-zero}
+use Rattle.std.proofs.Common.{◌≡◌, ℕ, zero, suc, ◌+◌, ◌<◌, ◌≤◌, max, List, [], ◌∷◌, ◌++◌, length, get_or, take, ap, ◌∙◌, arith}
 use Rattle.std.proofs.lemmas.List.{take_more}
 use Rattle.sym_model.specs.Polynomial.{join}
 use Rattle.sym_model.specs.Partition.{size}
-use Rattle.sym_model.proofs.Exponents.{size-join, length-join}
+use Rattle.sym_model.proofs.Exponents.{size-join, length-join, get_or-join}
 use Rattle.sparse_polys.specs.Limits.{HasDegree, IsWithinLimits}
-
-get_or-join : (a b : List ℕ) (i : ℕ) → get_or (join a b) i 0 ≡ get_or a i 0 + get_or b i 0
-get_or-join [] b i = omega arith
-get_or-join (x ∷ a) [] i = sym (add-zero (get_or (x ∷ a) i 0))
-get_or-join (x ∷ a) (y ∷ b) zero = refl
-get_or-join (x ∷ a) (y ∷ b) (suc i) = get_or-join a b i
 
 -- one place more of the sums
 pub take-join : (a b : List ℕ) (i : ℕ) → i < max (length a) (length b) → take (i + 1) (join a b) ≡ take i (join a b) ++ (get_or a i 0 + get_or b i 0) ∷ []

@@ -4,7 +4,6 @@ use Rattle.std.proofs.lemmas.Int.{ints}
 use Rattle.sym_model.specs.Sum.{Among}
 use Rattle.sym_model.specs.Expansion.{Fraction, Terms}
 use Rattle.sym_model.specs.ListWeight.{absolute_sum}
-use Rattle.sym_model.proofs.Ring.{ring, product_assoc}
 use Rattle.coeff_rings.specs.Fractions.{scaled}
 use Rattle.coeff_rings.specs.Room.{magnitude}
 use Rattle.sparse_polys.specs.Combination.{terms_of}
@@ -38,12 +37,6 @@ so_far_next done rest left begun next x pushed steps so_far =
     ap (λ es. es ++ rest) (sym pushed) ∙ append_assoc done (x ∷ []) rest ∙ ap (λ es. done ++ es) (sym steps) ∙ so_far
 
 -- ---- sums and sizes with a factor
-
-distribute : (x y z : ℤ) → z *ℤ x +ℤ z *ℤ y ≡ z *ℤ (x +ℤ y)
-distribute x y z = simp ring (omega (arith, ints))
-
-pub product_sums : (z x w n y : ℤ) → y ≡ x +ℤ w *ℤ n → z *ℤ x +ℤ z *ℤ w *ℤ n ≡ z *ℤ y
-product_sums z x w n y e = ap (λ k. z *ℤ x +ℤ k) (product_assoc z w n) ∙ distribute x (w *ℤ n) z ∙ ap (λ k. z *ℤ k) (sym e)
 
 pub product_sizes : (A done here rest all : ℕ) → all ≡ done + here + rest → A * done + A * here ≤ A * all
 product_sizes A done here rest all e =

@@ -13,14 +13,12 @@ use Rattle.std.proofs.lemmas.Bool.{and_parts, cases_lt}
 use Rattle.std.proofs.lemmas.Map.{lookup-none}
 use Rattle.std.proofs.lemmas.Map.Keys.{IsDistinct-tail}
 use Rattle.std.proofs.lemmas.Map.Entries.{none_past_head}
-use Rattle.std.proofs.lemmas.Nat.Gcd.{dvd_trans}
 use Rattle.std.proofs.lemmas.Slice.Eq.{bytes_eq-Decides}
 use Rattle.std.proofs.Math.Nat.{div-mul_cancel}
 use Rattle.sym_model.specs.Sum.{Among}
 use Rattle.sym_model.specs.Polynomial.{Poly, join, pair, times, scale, resize, fits_in}
 use Rattle.sym_model.specs.DividedDifference.{x_to, x_to_in, variable_in}
 use Rattle.sym_model.specs.Expansion.{Fraction, Terms, Represents, denominators, cleared}
-use Rattle.sym_model.specs.Expression.{lcm}
 use Rattle.sym_model.specs.ListWeight.{common_denominator, absolute_sum, list_weight}
 use Rattle.sym_model.proofs.CanonicalLists.{each_term-among}
 use Rattle.sym_model.proofs.Exponents.{join_comm, resize-join, fits_in-join}
@@ -28,13 +26,14 @@ use Rattle.sym_model.proofs.Orders.{is_reduced-tells}
 use Rattle.sym_model.proofs.Polynomials.{pair_plus, pair_scale, pair_times, pair_restrict, same_from_pair}
 use Rattle.sym_model.proofs.Ring.{one-product, product_assoc}
 use Rattle.sym_model.proofs.Sums.{total_ext, total_among, total_scale, total_zero}
-use Rattle.monomial_laws.proofs.WeightBounds.{lcm-left, lcm-right, lcm-positive}
 use Rattle.coeff_rings.specs.Fractions.{scaled}
 use Rattle.sparse_polys.specs.Products.{value_in, coefficient_at, cleared_sum, AreCleared, IsCommonDenominator}
 use Rattle.sparse_polys.specs.Raised.{raised}
 use Rattle.sparse_polys.proofs.ClearedSums.{IsTable}
-use native.Mathlib.Nat.{mul-pos, mul-le-mul_left, dvd-mul_left, dvd-mul_right}
+use Rattle.sparse_polys.proofs.Expansions.{denominators-positive, least-positive, least-multiple}
+use native.Mathlib.Nat.{mul-pos, mul-le-mul_left}
 use lib.IntN.{+ℤ_idr, *ℤ-zero, *ℤ_comm}
+use Rattle.monomial_laws.proofs.DividedTerms.{divides-denominators}
 
 -- the value of a test function at a monomial in n variables; 0 where a later variable is in it
 abbrev pub shown : ℕ → (List ℕ → ℤ) → List ℕ → ℤ
@@ -69,36 +68,13 @@ found_at terms is t m = ap (λ (o : Option Fraction). unwrap_or o (pos 0, 1)) (b
 positive_at : (terms : Terms (List ℕ)) → IsTable terms → (t : List ℕ × Fraction) → Among t terms → 0 < t.1.1
 positive_at terms is t m = (is_reduced-tells t.1 (and_parts _ _ (each_term-among _ terms is.proper t m)).0).denominator
 
-denominators-positive : (terms : Terms (List ℕ)) → ((t : List ℕ × Fraction) → Among t terms → 0 < t.1.1) → 0 < denominators terms
-denominators-positive [] h = omega arith
-denominators-positive (t ∷ terms) h = mul-pos (h t (inl refl)) (denominators-positive terms (λ u m. h u (inr m)))
-
-denominators-multiple : (terms : Terms (List ℕ)) (t : List ℕ × Fraction) → Among t terms → t.1.1 ∣ denominators terms
-denominators-multiple [] t m = absurd m
-denominators-multiple (u ∷ terms) t (inl e) = subst (λ (v : List ℕ × Fraction). v.1.1 ∣ u.1.1 * denominators terms) (sym e) (dvd-mul_right u.1.1 (denominators terms))
-denominators-multiple (u ∷ terms) t (inr m) = dvd_trans t.1.1 (denominators-multiple terms t m) (dvd-mul_left (denominators terms) u.1.1)
-
 pub common-denominators : (terms : Terms (List ℕ)) → IsTable terms → IsCommonDenominator (denominators terms) terms
 common-denominators terms is = record {
   positive = denominators-positive terms (positive_at terms is);
-  multiple = denominators-multiple terms;
+  multiple = divides-denominators terms;
 }
 
 -- ---- least common denominators
-
-least-positive : (terms : Terms (List ℕ)) → ((t : List ℕ × Fraction) → Among t terms → 0 < t.1.1) → 0 < common_denominator terms
-least-positive [] h = omega arith
-least-positive (t ∷ terms) h = lcm-positive t.1.1 (common_denominator terms) (h t (inl refl)) (least-positive terms (λ u m. h u (inr m)))
-
-least-multiple : (terms : Terms (List ℕ)) → ((t : List ℕ × Fraction) → Among t terms → 0 < t.1.1) → (t : List ℕ × Fraction) → Among t terms → t.1.1 ∣ common_denominator terms
-least-multiple [] h t m = absurd m
-least-multiple (u ∷ terms) h t (inl e) =
-    let l = lcm u.1.1 (common_denominator terms) in
-    subst (λ (v : List ℕ × Fraction). v.1.1 ∣ l) (sym e) (subst (λ n. u.1.1 ∣ n) (lcm-left u.1.1 (common_denominator terms) (h u (inl refl))) (dvd-mul_left u.1.1 (l / u.1.1)))
-least-multiple (u ∷ terms) h t (inr m) =
-    let l = lcm u.1.1 (common_denominator terms) in
-    dvd_trans t.1.1 (least-multiple terms (λ v n. h v (inr n)) t m)
-    (subst (λ n. common_denominator terms ∣ n) (lcm-right u.1.1 (common_denominator terms)) (dvd-mul_left (common_denominator terms) (l / common_denominator terms)))
 
 pub least-denominators : (terms : Terms (List ℕ)) → IsTable terms → IsCommonDenominator (common_denominator terms) terms
 least-denominators terms is = record {
@@ -149,7 +125,7 @@ exchanged x d a q b e = swap (pos d) x (pos a) ∙ ap (λ n. x *ℤ pos n) e ∙
     swap : (y x z : ℤ) → y *ℤ (x *ℤ z) ≡ x *ℤ (y *ℤ z)
     swap y x z = sym (product_assoc y x z) ∙ ap (λ w. w *ℤ z) (*ℤ_comm y x) ∙ product_assoc x y z
 
-two_denominators : (d q : ℕ) (ψ : List ℕ → ℤ) (terms : Terms (List ℕ)) → ((t : List ℕ × Fraction) → Among t terms → t.1.1 ∣ d) → ((t : List ℕ × Fraction) → Among t terms → t.1.1 ∣ q)
+pub two_denominators : (d q : ℕ) (ψ : List ℕ → ℤ) (terms : Terms (List ℕ)) → ((t : List ℕ × Fraction) → Among t terms → t.1.1 ∣ d) → ((t : List ℕ × Fraction) → Among t terms → t.1.1 ∣ q)
     → pos d *ℤ cleared_sum q ψ terms ≡ pos q *ℤ cleared_sum d ψ terms
 two_denominators d q ψ terms h k =
     sym (total_scale (pos d) (λ (t : List ℕ × Fraction). scaled q t.1 *ℤ ψ t.0) terms)

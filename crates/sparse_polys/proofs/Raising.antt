@@ -8,6 +8,7 @@ use Rattle.std.proofs.lemmas.List.{length-replicate, take-append-le}
 use Rattle.sym_model.specs.Polynomial.{join}
 use Rattle.sym_model.specs.Partition.{size, in_front, without_last_zeros}
 use Rattle.sym_model.proofs.Exponents.{join-nil, join_zeros, length-join, size-join}
+use Rattle.sym_model.proofs.Parts.{in_front-more}
 use Rattle.sparse_polys.specs.Limits.{HasDegree}
 use Rattle.sparse_polys.specs.Raised.{raised}
 use Rattle.sparse_polys.proofs.ExponentOrder.{front_tail}
@@ -50,16 +51,12 @@ set-raised k at old x e p h =
     padded (inl z) = ap (λ j. join (old ++ zeros j) (unit at)) z ∙ ap (λ y. join y (unit at)) (append-nil old)
     padded (inr l) = join-padded k at old (subst (λ y. length y ≤ at + 1) e l)
 
-in_front-some : (a b : ℕ) (x : List ℕ) → in_front a (b ∷ x) ≡ a ∷ b ∷ x
-in_front-some zero b x = refl
-in_front-some (suc a) b x = refl
-
 -- a list that is not empty
 abbrev IsSome : List ℕ → Type 0
 IsSome x = (b : ℕ) × (y : List ℕ) × (x ≡ b ∷ y)
 
 in_front-is : (a : ℕ) (x : List ℕ) → IsSome x → in_front a x ≡ a ∷ x
-in_front-is a x s = ap (in_front a) s.2 ∙ in_front-some a s.0 s.1 ∙ ap (λ z. a ∷ z) (sym s.2)
+in_front-is a x s = ap (in_front a) s.2 ∙ in_front-more a s.0 s.1 ∙ ap (λ z. a ∷ z) (sym s.2)
 
 some-unit : (k : ℕ) → IsSome (unit k)
 some-unit zero = (1, [], refl)
@@ -104,11 +101,6 @@ HasDegree-raised r e d h a b c = record {
   };
   degree_is = let s = size-raised r e in let g = h.degree_is in omega arith;
 }
-
-pub entry-small : (e : List ℕ) (at : ℕ) → get_or e at 0 ≤ size e
-entry-small [] at = omega arith
-entry-small (a ∷ e) zero = omega arith
-entry-small (a ∷ e) (suc at) = let h = entry-small e at in omega arith
 
 pub size-padded : (e : List ℕ) (k : ℕ) → size (e ++ zeros k) ≡ size e
 size-padded [] zero = refl

@@ -19,7 +19,8 @@ use Rattle.sparse_polys.specs.declared.search.Counted.{Counted}
 use Rattle.sparse_polys.specs.Search.{count_at}
 use Rattle.sparse_polys.specs.MonomialProducts.{count_of, row, absolute_row, rows, absolute_rows, greatest_size}
 use Rattle.sparse_polys.proofs.SearchWays.{count_at-append}
-use Rattle.sparse_polys.proofs.Accumulating.{triangle, nat_abs-is}
+use Rattle.sparse_polys.proofs.Accumulating.{triangle}
+use Rattle.sparse_polys.proofs.Coefficients.{nat_abs-is}
 use native.Mathlib.Nat.{mul-le-mul_left}
 
 -- ---- counts

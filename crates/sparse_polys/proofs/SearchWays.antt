@@ -3,6 +3,7 @@ use Rattle.std.proofs.Common.{◌≡◌, ◌⊎◌, ℕ, zero, suc, ◌+◌, ◌
 use Rattle.std.proofs.lemmas.Bool.{eq-eqb, ne_eqb, le-leb, lt-leb, leb-true, cases_lt, cases_eq, and_parts, ltb-true, lt-ltb, and_from}
 use Rattle.sym_model.specs.Polynomial.{same}
 use Rattle.sym_model.specs.Partition.{IsPartition, Falls, ArePositive, size}
+use Rattle.sym_model.proofs.PartitionLists.{no_part}
 use Rattle.monomial_laws.specs.MonomialProduct.{arrangements, AreBelow}
 use Rattle.sparse_polys.specs.declared.states.State.{State}
 use Rattle.sparse_polys.specs.declared.search.Counted.{Counted}
@@ -27,13 +28,9 @@ ways-sizes left (s ∷ states) rest h n =
     let r = ways-sizes left states rest (states_rest left s states h) n in
     omega (arith, ap (λ k. s.count * k) a)
 
-no_parts : (l : List ℕ) → ArePositive l → size l ≡ 0 → l ≡ []
-no_parts [] p e = refl
-no_parts (a ∷ l) p e = absurd (omega (arith, p.0))
-
 arrangements-end : (l r : List ℕ) → IsRest 0 l r → arrangements l r [] ≡ 1
 arrangements-end l r s =
-    ap₂ (λ (x y : List ℕ). arrangements x y []) (no_parts l s.first.positive (omega (arith, s.sizes))) (no_parts r s.second.positive (omega (arith, s.sizes)))
+    ap₂ (λ (x y : List ℕ). arrangements x y []) (no_part l s.first.positive (omega (arith, s.sizes))) (no_part r s.second.positive (omega (arith, s.sizes)))
 
 -- one state more in the sum of those that end
 pub end_next : (total : ℕ) (xs : List State) (i : ℕ) (s : State) (goal : ℕ) → AreStates 0 xs → i < length xs → s ≡ get_or xs i s
@@ -64,7 +61,7 @@ after_prefix-append (a ∷ prefix) x (b ∷ ν) = by (eqb a b) (after_prefix-app
     by true e = e
     by false e = refl
 
-AreBelow-weaker : (k m : ℕ) (ν : List ℕ) → k ≤ m → AreBelow k ν → AreBelow m ν
+pub AreBelow-weaker : (k m : ℕ) (ν : List ℕ) → k ≤ m → AreBelow k ν → AreBelow m ν
 AreBelow-weaker k m [] h b = tt
 AreBelow-weaker k m (x ∷ ν) h b = (omega (arith, b.0), AreBelow-weaker k m ν h b.1)
 

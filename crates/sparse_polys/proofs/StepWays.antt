@@ -1,5 +1,5 @@
 -- What is left when one part of the partition is taken from both labels (specs/Ways).
-use Rattle.std.proofs.Common.{◌≡◌, ◌⊎◌, ℕ, zero, suc, ◌+◌, ◌-◌, ◌*◌, ◌<◌, ◌≤◌, Bool, true, false, ◌&&◌, ◌||◌, cond, eqb, leb, List, [], ◌∷◌, length, get_or, drop, drop-cons, add-one, not, sym, ◌∙◌, ap, ap₂, subst, refl, inl, inr, arith, ℤ, pos, ◌+ℤ◌}
+use Rattle.std.proofs.Common.{◌≡◌, ◌⊎◌, ℕ, zero, suc, ◌+◌, ◌-◌, ◌*◌, ◌<◌, ◌≤◌, Bool, true, false, ◌&&◌, ◌||◌, cond, eqb, leb, List, [], ◌∷◌, length, get_or, drop, not, sym, ◌∙◌, ap, ap₂, subst, refl, inl, inr, arith, ℤ, pos, ◌+ℤ◌}
 use Rattle.std.proofs.lemmas.Int.{ints}
 use Rattle.std.proofs.lemmas.Bool.{eq-eqb, le-leb, cases_lt, both_ways, and_parts, leb-true, or_right}
 use Rattle.sym_model.specs.Sum.{total}
@@ -8,11 +8,13 @@ use Rattle.sym_model.specs.Bases.{has}
 use Rattle.sym_model.specs.RaisedPart.{without_one, distinct}
 use Rattle.monomial_laws.specs.MonomialProduct.{arrangements, AreBelow}
 use Rattle.sparse_polys.specs.Ways.{capped, taken, is_choice_at, IsRest, HasPartAbove}
+use Rattle.sparse_polys.proofs.SearchWays.{AreBelow-weaker}
 use Rattle.sym_model.proofs.SortedParts.{IsPartition-without_one, size-without_one, without_one-zero, has_past, has-zero}
+use Rattle.sym_model.proofs.Lists.{drop-next}
 use Rattle.monomial_laws.proofs.Arrangements.{arrangements-cons, arrangements-lacking, arrangements-comm}
 
 -- what is left of a partition when a part, or nothing, is taken out
-size-taken : (a : ℕ) (l : List ℕ) → IsPartition l → has a (0 ∷ l) ≡ true → a + size (without_one a l) ≡ size l
+pub size-taken : (a : ℕ) (l : List ℕ) → IsPartition l → has a (0 ∷ l) ≡ true → a + size (without_one a l) ≡ size l
 size-taken zero l p h = omega (arith, ap size (without_one-zero l p.positive))
 size-taken (suc a) l p h = size-without_one (suc a) l (sym (has_past (suc a) 0 l (λ e. omega arith)) ∙ h)
 
@@ -23,16 +25,12 @@ IsRest-taken a b left l r s h k = record {
   sizes = omega (arith, s.sizes, size-taken a l s.first h, size-taken b r s.second k);
 }
 
-AreBelow-more : (k m : ℕ) (ν : List ℕ) → k ≤ m → AreBelow k ν → AreBelow m ν
-AreBelow-more k m [] h b = tt
-AreBelow-more k m (x ∷ ν) h b = (omega (arith, b.0), AreBelow-more k m ν h b.1)
-
 -- with a part left that no part to come reaches there is no way
 pub taken-above_left : (a b left : ℕ) (l r ν : List ℕ) → IsRest left l r → AreBelow (a + b + 1) ν → HasPartAbove (a + b) (without_one a l) → taken l r a b ν ≡ 0
 taken-above_left a b left l r ν s below (k, m, h) = by (has b (0 ∷ r))
   where
     by : (t : Bool) → cond t (arrangements (without_one a l) (without_one b r) ν) 0 ≡ 0
-    by true = arrangements-lacking k ν (without_one a l) (without_one b r) (IsPartition-without_one a l s.first) (IsPartition-without_one b r s.second) m (AreBelow-more (a + b + 1) k ν (omega arith) below)
+    by true = arrangements-lacking k ν (without_one a l) (without_one b r) (IsPartition-without_one a l s.first) (IsPartition-without_one b r s.second) m (AreBelow-weaker (a + b + 1) k ν (omega arith) below)
     by false = refl
 
 pub taken-above_right : (a b left : ℕ) (l r ν : List ℕ) → IsRest left l r → AreBelow (a + b + 1) ν → HasPartAbove (a + b) (without_one b r) → taken l r a b ν ≡ 0
@@ -41,11 +39,8 @@ taken-above_right a b left l r ν s below (k, m, h) = by (has b (0 ∷ r))
     by : (t : Bool) → cond t (arrangements (without_one a l) (without_one b r) ν) 0 ≡ 0
     by true =
         arrangements-comm (without_one a l) (without_one b r) ν
-        ∙ arrangements-lacking k ν (without_one b r) (without_one a l) (IsPartition-without_one b r s.second) (IsPartition-without_one a l s.first) m (AreBelow-more (a + b + 1) k ν (omega arith) below)
+        ∙ arrangements-lacking k ν (without_one b r) (without_one a l) (IsPartition-without_one b r s.second) (IsPartition-without_one a l s.first) m (AreBelow-weaker (a + b + 1) k ν (omega arith) below)
     by false = refl
-
-drop_here : (xs : List ℕ) (i : ℕ) → i < length xs → drop i xs ≡ get_or xs i 0 ∷ drop (i + 1) xs
-drop_here xs i h = drop-cons xs i 0 h ∙ ap (λ j. get_or xs i 0 ∷ drop j xs) (sym (add-one i))
 
 -- ---- the sum over the parts of the left label
 
@@ -113,7 +108,7 @@ pub taken_over-choice : (x : ℕ) (l r ν parts : List ℕ) (i : ℕ) → i < le
 taken_over-choice x l r ν parts i h e =
     let a = get_or parts i 0 in
     let p = and_parts (leb a x) (not (has a (drop (i + 1) parts))) e in
-    ap (λ ps. taken_over x l r ν (distinct ps)) (drop_here parts i h)
+    ap (λ ps. taken_over x l r ν (distinct ps)) (drop-next parts i h)
     ∙ ap (λ b. taken_over x l r ν (cond b (distinct (drop (i + 1) parts)) (a ∷ distinct (drop (i + 1) parts)))) (not_true (has a (drop (i + 1) parts)) p.1)
     ∙ ap (λ b. cond b (taken l r a (x - a) ν) 0 + taken_over x l r ν (distinct (drop (i + 1) parts))) p.0
   where
@@ -125,7 +120,7 @@ pub taken_over-passed : (x : ℕ) (l r ν parts : List ℕ) (i : ℕ) → i < le
     → taken_over x l r ν (distinct (drop i parts)) ≡ taken_over x l r ν (distinct (drop (i + 1) parts))
 taken_over-passed x l r ν parts i h e =
     let a = get_or parts i 0 in
-    ap (λ ps. taken_over x l r ν (distinct ps)) (drop_here parts i h) ∙ by (leb a x) refl (has a (drop (i + 1) parts)) e
+    ap (λ ps. taken_over x l r ν (distinct ps)) (drop-next parts i h) ∙ by (leb a x) refl (has a (drop (i + 1) parts)) e
   where
     by : (s : Bool) → leb (get_or parts i 0) x ≡ s → (t : Bool) → (s && not t) ≡ false
         → taken_over x l r ν (cond t (distinct (drop (i + 1) parts)) (get_or parts i 0 ∷ distinct (drop (i + 1) parts))) ≡ taken_over x l r ν (distinct (drop (i + 1) parts))

@@ -1,12 +1,14 @@
 -- Strips, rim hooks and removals of shapes that are written out, for worked examples.
-use Rattle.std.proofs.Common.{◌≡◌, ℕ, zero, suc, ◌+◌, ◌-◌, ◌<◌, ◌≤◌, ◌⊎◌, inl, inr, List, [], ◌∷◌, length, sym, ◌∙◌, subst, refl, arith}
+use Rattle.std.proofs.Common.{◌≡◌, ℕ, zero, suc, ◌+◌, ◌-◌, ◌<◌, ◌≤◌, ◌⊎◌, inl, inr, List, [], ◌∷◌, length, sym, ◌∙◌, subst, arith}
 use Rattle.std.proofs.lemmas.Bool.{cases_eq, cases_lt}
 use Rattle.sym_model.specs.Partition.{Falls, ArePositive, size, part, Holds, IsCell}
 use Rattle.sym_model.specs.Strip.{IsHorizontalStrip, IsVerticalStrip, IsRimHook}
 use Rattle.strip_laws.specs.HookRows.{IsHookRows}
 use Rattle.sym_model.specs.RimHookReduction.{IsRemoval, HasNoRemoval}
+use Rattle.sym_model.proofs.Parts.{past_end}
+use Rattle.sym_model.proofs.PartitionLists.{no_part}
 use Rattle.strip_laws.proofs.Strips.{horizontal_from_rows, vertical_from_rows}
-use Rattle.strip_laws.proofs.RimHooks.{hook_from_rows, past_end, crosses}
+use Rattle.strip_laws.proofs.RimHooks.{hook_from_rows, crosses}
 
 -- past its last row a shape has no part
 part_past : (parts : List ℕ) (i : ℕ) → length parts < i → part parts i ≡ 0
@@ -83,7 +85,7 @@ hook_closed outer inner first last h = hook_from_rows outer inner first last h.f
 pub removal_closed : (n : ℕ) (shape left : List ℕ) (first last : ℕ) → AreHookRows shape left first last → Falls left → ArePositive left → size shape ≡ size left + n → IsRemoval n shape left
 removal_closed n shape left first last h f p e = record { partition = record { falls = f; positive = p }; hook = hook_closed shape left first last h; cells = e }
 
-cell : (outer inner : List ℕ) (row column : ℕ) → 1 ≤ row → part inner row < column → column ≤ part outer row → IsCell outer inner row column
+pub cell : (outer inner : List ℕ) (row column : ℕ) → 1 ≤ row → part inner row < column → column ≤ part outer row → IsCell outer inner row column
 cell outer inner row column a b c = record { row_counts = a; outside = b; within = c }
 
 -- a shape with a 2 by 2 square in its corner is no rim hook
@@ -95,15 +97,11 @@ no_hook shape a b h =
     (cell shape [] 2 1 (omega arith) (omega arith) (omega arith))
     (cell shape [] 2 2 (omega arith) (omega arith) b)
 
-size_none : (parts : List ℕ) → ArePositive parts → size parts ≡ 0 → parts ≡ []
-size_none [] p e = refl
-size_none (a ∷ parts) p e = let h : 0 < a = p.0 in absurd (omega arith)
-
 -- so no rim hook of as many cells as the shape has can be removed from it
 pub no_removal_of_all : (n : ℕ) (shape : List ℕ) → size shape ≡ n → 2 ≤ part shape 1 → 2 ≤ part shape 2 → HasNoRemoval n shape
 no_removal_of_all n shape e a b left r =
     let c = r.cells in
-    let d = size_none left r.partition.positive (omega arith) in
+    let d = no_part left r.partition.positive (omega arith) in
     no_hook shape a b (subst (IsRimHook shape) d r.hook)
 
 pub no_removal_from_less : (n : ℕ) (shape : List ℕ) → size shape < n → HasNoRemoval n shape

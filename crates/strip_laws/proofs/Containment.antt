@@ -1,7 +1,7 @@
 -- Containment of shapes by parts, by cells and as a test.
 --     contains-tells, contains-from      the test and the parts
 --     cells-from, cells-tell             the parts and the cells
-use Rattle.std.proofs.Common.{◌≡◌, ℕ, zero, suc, ◌+◌, ◌-◌, ◌≤◌, true, List, [], ◌∷◌, get_or, leb, eqb, subst, refl, inl, inr, arith}
+use Rattle.std.proofs.Common.{◌≡◌, ℕ, zero, suc, ◌+◌, ◌-◌, ◌≤◌, true, List, [], ◌∷◌, get_or, leb, eqb, subst, refl, inl, inr, arith, ◌&&◌, ap, ◌∙◌}
 use Rattle.std.proofs.lemmas.Bool.{cases_lt, eq-eqb, eqb-true, leb-true, le-leb, and_parts, and_from}
 use Rattle.sym_model.specs.Partition.{part, Holds, IsCell}
 use Rattle.sym_model.specs.Schur.{contains}
@@ -57,3 +57,17 @@ cells-tell outer inner h = from
     from : Holds outer inner
     from zero = counted 1 (omega arith)
     from (suc i) = counted (suc i) (omega arith)
+
+pub Holds-get_or : (outer inner : List ℕ) → Holds outer inner → (i : ℕ) → get_or inner i 0 ≤ get_or outer i 0
+Holds-get_or outer inner h i =
+    let e : i + 1 - 1 ≡ i = omega arith in
+    subst (λ k. get_or inner k 0 ≤ get_or outer k 0) e (h (i + 1))
+
+pub contains_from_places : (outer inner : List ℕ) → ((j : ℕ) → get_or inner j 0 ≤ get_or outer j 0) → contains outer inner ≡ true
+contains_from_places [] [] h = refl
+contains_from_places (a ∷ outer) [] h = refl
+contains_from_places [] (b ∷ inner) h =
+    let z : b ≡ 0 = (let y = h 0 in omega (arith, y)) in
+    ap (λ x. x && contains [] inner) (eq-eqb b 0 z) ∙ contains_from_places [] inner (λ j. let y = h (suc j) in y)
+contains_from_places (a ∷ outer) (b ∷ inner) h =
+    ap (λ x. x && contains outer inner) (le-leb b a (h 0)) ∙ contains_from_places outer inner (λ j. h (suc j))

@@ -2,13 +2,14 @@
 --     hook_from_rows      rows that are chained make a rim hook
 --     hook_rows           each rim hook has such rows
 --     height_of_rows      its height is the number of these rows
-use Rattle.std.proofs.Common.{◌≡◌, ℕ, zero, suc, ◌+◌, ◌-◌, ◌<◌, ◌≤◌, min, max, ◌⊎◌, List, [], ◌∷◌, ◌++◌, length, get_or, Bool, true, false, nat_lt, sym, subst, refl, inl, inr, arith}
+use Rattle.std.proofs.Common.{◌≡◌, ℕ, zero, suc, ◌+◌, ◌-◌, ◌<◌, ◌≤◌, min, max, ◌⊎◌, List, [], ◌∷◌, ◌++◌, length, Bool, true, false, nat_lt, sym, subst, refl, inl, inr, arith}
 use Rattle.std.proofs.lemmas.Bool.{cases_lt}
 use Rattle.std.proofs.lemmas.Bool.Decides.{nat_tests}
 use Rattle.sym_model.specs.Sum.{select}
 use Rattle.sym_model.specs.Partition.{Falls, part, rows, after, Holds, IsCell}
 use Rattle.strip_laws.specs.HookRows.{IsHookRows}
 use Rattle.sym_model.specs.Strip.{AreNeighbours, ShareEdge, IsPath, IsConnected, HasNoSquare, IsRimHook, height}
+use Rattle.sym_model.proofs.Parts.{past_end}
 use Rattle.strip_laws.proofs.Strips.{falls_part}
 
 -- ---- paths
@@ -213,11 +214,6 @@ last_from outer inner (suc d) i r e h n c =
         → (last : ℕ) × IsLastRow outer inner last
     by (inl m) later = (i, record { counts = omega arith; cells = m; greatest = n })
     by (inr m) later = later m
-
-pub past_end : (parts : List ℕ) (k : ℕ) → length parts ≤ k → get_or parts k 0 ≡ 0
-past_end [] k h = refl
-past_end (a ∷ parts) zero h = absurd (omega arith)
-past_end (a ∷ parts) (suc k) h = past_end parts k (omega arith)
 
 pub hook_rows : (outer inner : List ℕ) → Falls outer → Falls inner → IsRimHook outer inner → (first : ℕ) × (last : ℕ) × IsHookRows outer inner first last
 hook_rows outer inner f g h =

@@ -9,7 +9,7 @@ use Rattle.sym_model.specs.Strip.{IsHorizontalStrip, IsVerticalStrip}
 
 -- ---- rows of falling lists
 
-falls_get : (parts : List ℕ) → Falls parts → (k : ℕ) → get_or parts (suc k) 0 ≤ get_or parts k 0
+pub falls_get : (parts : List ℕ) → Falls parts → (k : ℕ) → get_or parts (suc k) 0 ≤ get_or parts k 0
 falls_get [] f k = omega arith
 falls_get (a ∷ []) f zero = omega arith
 falls_get (a ∷ []) f (suc k) = omega arith

@@ -27,7 +27,7 @@ use Rattle.coeff_rings.specs.Proved.Divisors.{divides_other_factor, coprime_with
 use Rattle.sparse_polys.specs.Combination.{terms_of}
 use Rattle.sparse_polys.specs.Products.{cleared_sum}
 use Rattle.sparse_polys.proofs.ListSteps.{sum_next, absolute_next, rows_sizes}
-use Rattle.sparse_polys.specs.MonomialProducts.{coefficient_at, greatest_size, AreCleared}
+use Rattle.sparse_polys.specs.MonomialProducts.{coefficient_at, AreCleared}
 use Rattle.sparse_polys.proofs.Accumulating.{AreCleared-nothing}
 use Rattle.sparse_polys.proofs.Expansions.{least-denominators}
 use Rattle.strip_rules.specs.Adding.{AddsProduct, Overflows, in_schurs}
@@ -96,13 +96,6 @@ list_large terms is h = by (absolute_sum (common_denominator terms) terms) (comm
         let x = mul-le-mul_left d one in
         let y = mul-le-mul_left (max 1 a) (let o : 1 ≤ d = omega arith in o) in
         elim (cases_lt d (2 ^ 127)) [ inl l ↦ (let g = h l in omega arith) | inr l ↦ omega arith ]
-
--- ---- sizes of labels
-
-pub size_within : (terms : Terms (List ℕ)) (t : List ℕ × Fraction) → Among t terms → size t.0 ≤ greatest_size terms
-size_within [] t m = absurd m
-size_within (u ∷ terms) t (inl e) = let s = ap (λ (v : List ℕ × Fraction). size v.0) e in omega arith
-size_within (u ∷ terms) t (inr m) = let s = size_within terms t m in omega arith
 
 -- ---- least common denominators
 

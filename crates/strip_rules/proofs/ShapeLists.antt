@@ -8,12 +8,12 @@ use Rattle.sym_model.specs.Partition.{IsPartition, ArePositive, Holds, size, row
 use Rattle.sym_model.specs.Strip.{height}
 use Rattle.sym_model.proofs.PartitionLists.{Once-FallsLexicographically}
 use Rattle.strip_laws.proofs.RimHooks.{hook_rows, height_of_rows}
+use Rattle.strip_laws.proofs.Containment.{Holds-get_or}
 use Rattle.partitions.specs.Limits.{IsWithinLimits}
 use Rattle.skew_shapes.specs.HorizontalStrips.{AreHorizontalStrips}
 use Rattle.skew_shapes.specs.VerticalStrips.{AreVerticalStrips}
 use Rattle.skew_shapes.specs.HookLists.{AreHooksAdded}
 use Rattle.product_laws.specs.StripLists.{ListsEach, AddsHorizontalStrip, AddsVerticalStrip, AddsRimHook}
-use Rattle.product_laws.proofs.StripShapes.{holds_get}
 use Rattle.strip_rules.specs.Adding.{AreSmall}
 
 pub horizontal_list : (k : ℕ) (parts : List ℕ) (list : List (List ℕ)) → AreHorizontalStrips parts k list → ListsEach (AddsHorizontalStrip k parts) list
@@ -40,7 +40,7 @@ rows_grow (a ∷ inner) (b ∷ outer) p q h = let r = rows_grow inner outer p.1 
 
 rows_around : (k : ℕ) (inner outer : List ℕ) → IsPartition inner → IsAround k inner outer → rows outer ≤ rows inner + k
 rows_around k inner outer p a =
-    let r = rows_grow inner outer p.positive a.partition.positive (holds_get outer inner a.holds) in
+    let r = rows_grow inner outer p.positive a.partition.positive (Holds-get_or outer inner a.holds) in
     let c = a.cells in
     omega arith
 

@@ -2,7 +2,7 @@
 --     AddsShapes-none     no shape
 --     AddsShapes-next     one shape more
 --     refused_next        where a sum is refused at a new shape, some coefficient and what is added are large
-use Rattle.std.proofs.Common.{◌≡◌, ◌⊎◌, ℕ, ◌+◌, ◌*◌, ◌/◌, ◌^◌, ◌<◌, ◌≤◌, Bool, true, false, cond, List, [], ◌∷◌, ◌++◌, length, append_assoc, refl, sym, ap, ap₂, ◌∙◌, subst, inl, inr, arith, ℤ, pos, ◌+ℤ◌, ◌*ℤ◌, unsigned_abs}
+use Rattle.std.proofs.Common.{◌≡◌, ◌⊎◌, ℕ, ◌+◌, ◌*◌, ◌/◌, ◌^◌, ◌<◌, ◌≤◌, Bool, true, false, cond, List, [], ◌∷◌, ◌++◌, length, append_assoc, refl, sym, ap, ◌∙◌, subst, inl, inr, arith, ℤ, pos, ◌+ℤ◌, ◌*ℤ◌, unsigned_abs}
 use Rattle.std.specs.Prelude.{nat_eq, Option, Some}
 use Rattle.std.specs.Option.{option_to_list}
 use Rattle.std.specs.Int.{◌∣◌}
@@ -27,9 +27,9 @@ use Rattle.sparse_polys.specs.Labels.{same_partition}
 use Rattle.sparse_polys.specs.Refusal.{IsRefused}
 use Rattle.sparse_polys.proofs.Totals.{total-more, carried}
 use Rattle.sparse_polys.specs.Products.{cleared_sum}
-use Rattle.sparse_polys.proofs.ClearedSums.{size-here}
 use Rattle.sparse_polys.specs.MonomialProducts.{coefficient_at, AreCleared}
 use Rattle.sparse_polys.proofs.Accumulating.{lowest_at, triangle, scaled-nothing, Overflows-term}
+use Rattle.sparse_polys.proofs.ClearedSums.{total_absolute}
 use Rattle.strip_rules.specs.Adding.{IsDenominator, AddsShapes, Overflows}
 use Rattle.strip_rules.specs.Room.{AreWithin}
 use lib.IntN.{+ℤ_idr, *ℤ-zero, zero-*ℤ}
@@ -52,10 +52,6 @@ more_there old new k c more ν = by (pointwise nat_eq k ν) refl (more ν)
         → (k ≡ ν) ⊎ (coefficient_at new ν ≡ coefficient_at old ν)
     by true same f = inl (same_partition k ν same)
     by false same f = inr f
-
-total_absolute : (q : ℕ) (terms : Terms (List ℕ)) → total (λ (t : List ℕ × Fraction). pos (magnitude q t.1)) terms ≡ pos (absolute_sum q terms)
-total_absolute q [] = refl
-total_absolute q (t ∷ terms) = ap₂ (λ (m : ℕ) (z : ℤ). pos m +ℤ z) (sym (size-here q t.1)) (total_absolute q terms)
 
 module _ (q : ℕ) (old new : Terms (List ℕ)) (k : List ℕ) (c : Fraction) (is : IsTable old) (also : IsTable new) (low : InLowestTerms c)
     (d : IsDenominator q c) (cleared : AreCleared q old) (more : HasMoreAt (pointwise nat_eq) old k c new) where

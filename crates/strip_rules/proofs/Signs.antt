@@ -3,11 +3,10 @@
 --     signed_odd, signed_even     a number with the sign of a height
 --     negation_large              a negation is refused for its size alone
 --     height_here                 the height that a lister tells
-use Rattle.std.proofs.Common.{◌≡◌, ◌⊎◌, ℕ, zero, suc, ◌-◌, ◌/◌, ◌%◌, ◌^◌, ◌<◌, ◌≤◌, inl, inr, refl, sym, ap, ◌∙◌, subst, arith, ℤ, pos, neg_ℤ, ◌*ℤ◌, unsigned_abs}
+use Rattle.std.proofs.Common.{◌≡◌, ◌⊎◌, ℕ, zero, suc, ◌-◌, ◌/◌, ◌%◌, ◌^◌, ◌<◌, ◌≤◌, inl, inr, refl, sym, ap, ◌∙◌, subst, arith, pos, neg_ℤ, ◌*ℤ◌, unsigned_abs}
 use Rattle.std.specs.Prelude.{◌≢◌, List, Option, Some, None, IfSome}
 use Rattle.std.proofs.Math.Nat.{div-le_of_le-mul}
 use Rattle.std.proofs.lemmas.Bool.{cases_lt}
-use Rattle.std.proofs.lemmas.Int.{ints}
 use Rattle.sym_model.specs.PlaceOrders.{minus_one_to}
 use Rattle.sym_model.specs.Strip.{height}
 use Rattle.sym_model.specs.Expansion.{Fraction}
@@ -18,14 +17,12 @@ use Rattle.coeff_rings.specs.Proved.Divisors.{quotient_positive}
 use Rattle.strip_rules.specs.Adding.{IsDenominator}
 use Rattle.sym_model.proofs.Ring.{product-one, product-negation, negation-product}
 use Rattle.coeff_rings.specs.Fractions.{scaled, fraction_negation}
+use Rattle.coeff_rings.specs.Proved.Fractions.{unsigned_abs-negation}
 use native.Mathlib.Nat.{mul-le-mul_left}
-
-turned_size : (z : ℤ) → unsigned_abs (neg_ℤ z) ≡ unsigned_abs z
-turned_size z = omega (arith, ints)
 
 pub sign_size : (n : ℕ) → unsigned_abs (minus_one_to n) ≡ 1
 sign_size zero = refl
-sign_size (suc n) = turned_size (minus_one_to n) ∙ sign_size n
+sign_size (suc n) = unsigned_abs-negation (minus_one_to n) ∙ sign_size n
 
 pub signed_odd : (q h : ℕ) (c : Fraction) → h % 2 ≡ 1 → scaled q c ≡ scaled q c *ℤ minus_one_to (h - 1)
 signed_odd q h c e = elim (parity_of (h - 1)) [

@@ -15,13 +15,14 @@ use Rattle.sym_model.specs.Strip.{height}
 use Rattle.sym_model.specs.PlaceOrders.{minus_one_to}
 use Rattle.sym_model.specs.Expansion.{Basis, Fraction, Terms, denominators, cleared, value, basis_polynomial, IsExpansionOf}
 use Rattle.sym_model.proofs.Ring.{one-product, product_assoc}
-use Rattle.sym_model.proofs.Sums.{total_ext, total_among, total_scale}
+use Rattle.sym_model.proofs.Sums.{total_ext}
 use Rattle.sym_model.proofs.Polynomials.{pair_ext, pair_plus, pair_scale, pair_each, pair_times, pair_total, pair_factor, pair_determined, same_from_pair}
 use Rattle.coeff_rings.specs.Fractions.{scaled}
 use Rattle.coeff_rings.specs.Room.{magnitude}
 use Rattle.coeff_rings.specs.Proved.Cleared.{unsigned_abs-scaled}
 use Rattle.sparse_polys.specs.Products.{cleared_sum}
 use Rattle.sparse_polys.proofs.Expansions.{common-denominators}
+use Rattle.sparse_polys.proofs.PolynomialValues.{two_denominators}
 use Rattle.product_laws.specs.StripLists.{ListsEach, AddsHorizontalStrip, AddsVerticalStrip, AddsRimHook}
 use Rattle.product_laws.proofs.Pieri.{horizontal, vertical}
 use Rattle.product_laws.proofs.RimHookSums.{rim_hooks}
@@ -117,17 +118,6 @@ exchanged x d q r h k =
 
     by : (a b : ℕ) → a * r ≡ d → b * r ≡ q → d * b ≡ q * a
     by a b e f = ap (λ n. n * b) (sym e) ∙ (let s : (a * r) * b ≡ (b * r) * a = omega arith in s) ∙ ap (λ n. n * a) f
-
-two_denominators : (d q : ℕ) (ψ : List ℕ → ℤ) (terms : Terms (List ℕ)) → ((t : List ℕ × Fraction) → Among t terms → t.1.1 ∣ d) → ((t : List ℕ × Fraction) → Among t terms → t.1.1 ∣ q)
-    → pos d *ℤ cleared_sum q ψ terms ≡ pos q *ℤ cleared_sum d ψ terms
-two_denominators d q ψ terms h k =
-    sym (total_scale (pos d) (λ (t : List ℕ × Fraction). scaled q t.1 *ℤ ψ t.0) terms)
-    ∙ total_among (λ (t : List ℕ × Fraction). pos d *ℤ (scaled q t.1 *ℤ ψ t.0)) (λ (t : List ℕ × Fraction). pos q *ℤ (scaled d t.1 *ℤ ψ t.0)) terms
-    (λ t m.
-    sym (product_assoc (pos d) (scaled q t.1) (ψ t.0))
-    ∙ ap (λ z. z *ℤ ψ t.0) (exchanged t.1.0 d q t.1.1 (h t m) (k t m))
-    ∙ product_assoc (pos q) (scaled d t.1) (ψ t.0))
-    ∙ total_scale (pos q) (λ (t : List ℕ × Fraction). scaled d t.1 *ℤ ψ t.0) terms
 
 pub expansion : (terms : Terms (List ℕ)) (d n : ℕ) (f : Poly) → IsTable terms → ((t : List ℕ × Fraction) → Among t terms → t.1.1 ∣ d)
     → ((φ : List ℕ → ℤ) → in_schurs d n φ terms ≡ pair f φ) → IsExpansionOf Basis.schurs terms n f d

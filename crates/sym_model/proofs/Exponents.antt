@@ -1,5 +1,5 @@
 -- Exponent lists: `same` decides their equality, `join` is their sum, `resize` cuts and pads them.
-use Rattle.std.proofs.Common.{◌≡◌, ℕ, zero, suc, ◌+◌, ◌≤◌, max, ◌⊎◌, Bool, true, false, ◌&&◌, ◌==◌, List, [], ◌∷◌, length, replicate, sym, ◌∙◌, ap, ap₂, subst, refl, inl, inr, arith, eqb-true, eq-eqb, add-zero, add_comm, add_assoc}
+use Rattle.std.proofs.Common.{◌≡◌, ℕ, zero, suc, ◌+◌, ◌≤◌, max, ◌⊎◌, Bool, true, false, ◌&&◌, ◌==◌, List, [], ◌∷◌, length, replicate, sym, ◌∙◌, ap, ap₂, subst, refl, inl, inr, arith, eqb-true, eq-eqb, add-zero, add_comm, add_assoc, get_or}
 use Rattle.std.proofs.lemmas.Bool.{and_parts, and_from, cases_Bool, false_from_ne_true, both_ways}
 use Rattle.std.proofs.Math.Bool.{and-true}
 use Rattle.sym_model.specs.Polynomial.{same, join, resize, all_zero, fits_in}
@@ -123,7 +123,7 @@ zero_sum a b =
     (λ e. let d = eqb-true (a + b) 0 e in and_from (a == 0) (b == 0) (eq-eqb a 0 (omega arith)) (eq-eqb b 0 (omega arith)))
     (λ e. let p = and_parts (a == 0) (b == 0) e in let c = eqb-true a 0 p.0 in let d = eqb-true b 0 p.1 in eq-eqb (a + b) 0 (omega arith))
 
-and_exchange : (p q r s : Bool) → ((p && q) && (r && s)) ≡ ((p && r) && (q && s))
+pub and_exchange : (p q r s : Bool) → ((p && q) && (r && s)) ≡ ((p && r) && (q && s))
 and_exchange true true r s = refl
 and_exchange true false true s = refl
 and_exchange true false false s = refl
@@ -155,3 +155,9 @@ fits_in_length zero [] h = refl
 fits_in_length zero (a ∷ α) h = absurd (omega arith)
 fits_in_length (suc n) [] h = refl
 fits_in_length (suc n) (a ∷ α) h = fits_in_length n α (omega arith)
+
+pub get_or-join : (α β : List ℕ) (k : ℕ) → get_or (join α β) k 0 ≡ get_or α k 0 + get_or β k 0
+get_or-join [] β k = omega arith
+get_or-join (a ∷ α) [] k = omega arith
+get_or-join (a ∷ α) (b ∷ β) zero = refl
+get_or-join (a ∷ α) (b ∷ β) (suc k) = get_or-join α β k

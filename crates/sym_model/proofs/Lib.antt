@@ -16,3 +16,9 @@ pub mod AfterLists
 pub mod OrderLists
 pub mod Signs
 pub mod LabelKeys
+pub mod Parts
+pub mod Numbers
+pub mod Contents
+pub mod Integers
+pub mod Lists
+pub mod Tableaux

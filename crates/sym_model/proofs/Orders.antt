@@ -62,7 +62,7 @@ pub printed_order-total : IsTotalOrder printed_order
 printed_order-total = then_total (on_total size (back_total nat_cmp_total)) falling_lexicographic-total
 
 -- what ties in two orders one after the other ties in both
-then-equal : (o p : Ordering) → ordering_then o p ≡ Equal → (o ≡ Equal) × (p ≡ Equal)
+pub then-equal : (o p : Ordering) → ordering_then o p ≡ Equal → (o ≡ Equal) × (p ≡ Equal)
 then-equal Less p h = cc
 then-equal Equal p h = (refl, h)
 then-equal Greater p h = cc

@@ -11,7 +11,7 @@ use Rattle.sym_model.specs.PrintedOrder.{falling_lexicographic}
 use Rattle.sym_model.specs.PartitionList.{down_to_one, partitions_within, partitions_of, FallsLexicographically}
 use Rattle.sym_model.proofs.Sums.{Among-map, Among_from_map, Among-each, Among_from_each, Among_from_append}
 use Rattle.sym_model.proofs.Orders.{falling_lexicographic-total}
-use Rattle.sym_model.proofs.SortedParts.{rows_within_size}
+use Rattle.sym_model.proofs.SortedParts.{rows_within_size, Falls_tail}
 
 -- ---- the numbers from k down to 1
 
@@ -58,17 +58,13 @@ partitions_within-tells (suc rows) (suc d) most parts m =
     let few : a ≤ suc d = omega (arith, range.1, min-le_right most (suc d)) in
     subst (IsWithin (suc d) most) (sym tail.2) (IsWithin-cons (suc d) most a tail.0 range.0 low few within)
 
-no_part : (parts : List ℕ) → ArePositive parts → size parts ≡ 0 → parts ≡ []
+pub no_part : (parts : List ℕ) → ArePositive parts → size parts ≡ 0 → parts ≡ []
 no_part [] p s = refl
 no_part (a ∷ parts) p s = absurd (omega (arith, p.0))
 
 Falls-first : (a : ℕ) (parts : List ℕ) → Falls (a ∷ parts) → columns parts ≤ a
 Falls-first a [] f = omega arith
 Falls-first a (b ∷ parts) f = f.0
-
-Falls-rest : (a : ℕ) (parts : List ℕ) → Falls (a ∷ parts) → Falls parts
-Falls-rest a [] f = tt
-Falls-rest a (b ∷ parts) f = f.1
 
 pub Among-partitions_within :
     (rows d most : ℕ) (parts : List ℕ) → IsWithin d most parts → length parts ≤ rows
@@ -83,7 +79,7 @@ Among-partitions_within (suc rows) (suc d) most (a ∷ parts) w h =
     let few : a ≤ suc d = omega (arith, w.sum) in
     let here : Among a (down_to_one top) = Among-down_to_one top a w.positive.0 (le-min w.first few) in
     let rest : IsWithin (suc d - a) a parts = record {
-      falls = Falls-rest a parts w.falls;
+      falls = Falls_tail a parts w.falls;
       positive = w.positive.1;
       sum = omega (arith, w.sum);
       first = Falls-first a parts w.falls;
@@ -115,7 +111,7 @@ Among-partitions_of d parts p s =
 
 -- ---- in order
 
-FallsLexicographically-append :
+pub FallsLexicographically-append :
     (xs ys : List (List ℕ)) → FallsLexicographically xs → FallsLexicographically ys
     → ((x y : List ℕ) → Among x xs → Among y ys → falling_lexicographic x y ≡ Less)
     → FallsLexicographically (xs ++ ys)
@@ -128,10 +124,10 @@ FallsLexicographically-append (x ∷ xs) ys f g c = (
 same_first : (a : ℕ) (x y : List ℕ) → falling_lexicographic (a ∷ x) (a ∷ y) ≡ falling_lexicographic x y
 same_first a x y = ap (λ o. ordering_then o (falling_lexicographic x y)) (tied_itself nat_cmp_total a)
 
-greater_first : (a b : ℕ) (x y : List ℕ) → b < a → falling_lexicographic (a ∷ x) (b ∷ y) ≡ Less
+pub greater_first : (a b : ℕ) (x y : List ℕ) → b < a → falling_lexicographic (a ∷ x) (b ∷ y) ≡ Less
 greater_first a b x y h = ap (λ o. ordering_then o (falling_lexicographic x y)) (sym (nat_cmp_is b a Less h))
 
-FallsLexicographically-map :
+pub FallsLexicographically-map :
     (a : ℕ) (xs : List (List ℕ)) → FallsLexicographically xs → FallsLexicographically (map (λ x. a ∷ x) xs)
 FallsLexicographically-map a [] f = tt
 FallsLexicographically-map a (x ∷ xs) f = (

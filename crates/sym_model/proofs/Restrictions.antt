@@ -31,7 +31,7 @@ all_zero-same zero (b ∷ β) l = absurd (omega arith)
 all_zero-same (suc m) [] l = absurd (omega arith)
 all_zero-same (suc m) (b ∷ β) l = ap (λ t. eqb b 0 && t) (all_zero-same m β (omega arith))
 
-and_middle : (x y z : Bool) → (x && (y && z)) ≡ (y && (x && z))
+pub and_middle : (x y z : Bool) → (x && (y && z)) ≡ (y && (x && z))
 and_middle true true z = refl
 and_middle true false z = refl
 and_middle false true z = refl

@@ -4,11 +4,12 @@
 --     total_exchange              two sums in either order
 --     total_within                a list without repeats within another of its length has its sums
 --     total_same_members, total_reindex, total_bijection, total_cancel      what follows from that
-use Rattle.std.proofs.Common.{◌≡◌, suc, ◌≤◌, ◌⊎◌, Bool, true, false, cond, not, List, [], ◌∷◌, ◌++◌, map, length, sym, ◌∙◌, ap, ap₂, subst, refl, inl, inr, arith, ℤ, pos, ◌+ℤ◌, ◌*ℤ◌, neg_ℤ}
+use Rattle.std.proofs.Common.{◌≡◌, suc, ◌≤◌, ◌⊎◌, Bool, true, false, cond, not, List, [], ◌∷◌, ◌++◌, map, length, sym, ◌∙◌, ap, ap₂, subst, refl, inl, inr, arith, ℤ, pos, ◌+ℤ◌, ◌*ℤ◌, neg_ℤ, ◌<◌, get_or, zero, ℕ}
 use Rattle.std.proofs.lemmas.Int.{ints}
 use Rattle.sym_model.specs.Sum.{total, each, select, Among, Once, Within}
 use Rattle.sym_model.proofs.Ring.{distributes_left}
 use Rattle.std.proofs.lemmas.List.{length-map}
+use Rattle.std.specs.Prelude.{◌≤ℤ◌}
 use lib.IntN.{+ℤ_idl, *ℤ-zero}
 
 -- ---- sums
@@ -285,3 +286,32 @@ total_only {A} f a xs o m zero_at =
   where
     others : (x : A) → Among x (without a xs m) → f x ≡ pos 0
     others x n = zero_at x (Among_from_without x a xs m n) (λ e. Once-without a xs m o (subst (λ u. Among u (without a xs m)) e n))
+
+-- a test that does not depend on the summed elements
+pub total_cond : {A : Type 0} (b : Bool) (f : A → ℤ) (xs : List A) → total (λ (x : A). cond b (f x) (pos 0)) xs ≡ cond b (total f xs) (pos 0)
+total_cond true f xs = refl
+total_cond false f xs = total_zero xs
+
+pub Among-get_or : {A : Type 0} (todo : List A) (i : ℕ) (w : A) → i < length todo → w ≡ get_or todo i w → Among w todo
+Among-get_or [] i w h e = absurd (omega arith)
+Among-get_or (x ∷ todo) zero w h e = inl e
+Among-get_or (x ∷ todo) (suc i) w h e = inr (Among-get_or todo i w (omega arith) e)
+
+-- a count as a sum
+pub length-select : {A : Type 0} (test : A → Bool) (xs : List A) → pos (length (select test xs)) ≡ total (λ (x : A). cond (test x) (pos 1) (pos 0)) xs
+length-select test [] = refl
+length-select {A} test (x ∷ xs) = by (test x) (length-select test xs)
+  where
+    by : (b : Bool) → pos (length (select test xs)) ≡ total (λ (y : A). cond (test y) (pos 1) (pos 0)) xs
+        → pos (length (cond b (x ∷ select test xs) (select test xs))) ≡ cond b (pos 1) (pos 0) +ℤ total (λ (y : A). cond (test y) (pos 1) (pos 0)) xs
+    by true e = omega (arith, ints)
+    by false e = omega (arith, ints)
+
+-- sums of numbers that are not negative
+pub total_not_negative : {A : Type 0} (f : A → ℤ) (xs : List A) → ((x : A) → pos 0 ≤ℤ f x) → pos 0 ≤ℤ total f xs
+total_not_negative f [] h = omega (arith, ints)
+total_not_negative f (x ∷ xs) h = let r = total_not_negative f xs h in let k = h x in omega (arith, ints)
+
+pub total_cond_list : {A : Type 0} (b : Bool) (f : A → ℤ) (xs : List A) → total f (cond b xs []) ≡ cond b (total f xs) (pos 0)
+total_cond_list true f xs = refl
+total_cond_list false f xs = refl

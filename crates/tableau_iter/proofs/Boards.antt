@@ -1,13 +1,14 @@
 -- What a board holds, when it is made and after a letter is put on or taken off.
-use Rattle.std.proofs.Common.{◌≡◌, ℕ, suc, ◌+◌, ◌-◌, ◌<◌, ◌≤◌, min, ◌==◌, Bool, true, false, ◌&&◌, cond, List, [], ◌∷◌, ◌++◌, length, take, get_or, ◌∙◌, ap, ap₂, sym, refl, subst, inl, inr, arith}
+use Rattle.std.proofs.Common.{◌≡◌, ℕ, ◌+◌, ◌-◌, ◌<◌, ◌≤◌, min, ◌==◌, Bool, true, false, ◌&&◌, cond, List, [], ◌∷◌, ◌++◌, length, take, get_or, ◌∙◌, ap, ap₂, sym, refl, subst, inl, inr, arith}
 use Rattle.std.proofs.Math.ListN.{set}
 use Rattle.std.proofs.lemmas.Bool.{and_parts, cases_eq, eq-eqb, ne_eqb}
 use Rattle.std.proofs.lemmas.List.{length-set, get_or-set_same, get_or-set_other, length-take, take_more, take_more_set, get_or_default}
 use Rattle.sym_model.specs.Partition.{rows, size}
 use Rattle.sym_model.specs.Polynomial.{join}
-use Rattle.sym_model.specs.Schur.{content, times_in}
+use Rattle.sym_model.specs.Schur.{content}
 use Rattle.sym_model.specs.TableauList.{reading_cells}
-use Rattle.partitions.proofs.BetaSteps.{at-within-size}
+use Rattle.sym_model.proofs.Parts.{get_or-le-size}
+use Rattle.sym_model.proofs.Contents.{times_in-most}
 use Rattle.tableau_iter.specs.declared.rule.Rule.{Rule}
 use Rattle.tableau_iter.specs.Fits.{Neighbours, all_fit, ceiling_at, fits_by, floor_at}
 use Rattle.tableau_iter.specs.Positions.{IsBoard, IsNearIn, IsReady, Position, fits_in, position_of, setting_of}
@@ -108,16 +109,8 @@ sums-take start sums v k a few low high e =
           ]),
     )
 
-times_in-most : (j : ℕ) (v : List ℕ) → times_in j v ≤ length v
-times_in-most j [] = omega arith
-times_in-most j (a ∷ v) = by (a == j) (times_in-most j v)
-  where
-    by : (b : Bool) → times_in j v ≤ length v → cond b 1 0 + times_in j v ≤ suc (length v)
-    by true h = omega arith
-    by false h = omega arith
-
 sum-small : (start v : List ℕ) (k i : ℕ) → rows start ≤ k → i < k → get_or (join start (content k v)) i 0 ≤ size start + length v
-sum-small start v k i few h = omega (arith, sum-at start v k i few h, at-within-size start i, times_in-most (i + 1) v)
+sum-small start v k i few h = omega (arith, sum-at start v k i few h, get_or-le-size start i, times_in-most (i + 1) v)
 
 -- ---- a place of a board
 

@@ -1,5 +1,5 @@
 -- The lists of readings are the words whose letters fit, one after the other.
-use Rattle.std.proofs.Common.{◌≡◌, ℕ, zero, suc, ◌+◌, ◌-◌, ◌<◌, ◌≤◌, min, Bool, true, false, ◌&&◌, ◌==◌, cond, nat_le, nat_lt, List, [], ◌∷◌, ◌++◌, map, length, take, get_or, ◌∙◌, ap, ap₂, sym, refl, arith, append-nil, append_assoc}
+use Rattle.std.proofs.Common.{◌≡◌, ℕ, zero, suc, ◌-◌, ◌<◌, ◌≤◌, min, Bool, true, false, ◌&&◌, ◌==◌, cond, nat_le, nat_lt, List, [], ◌∷◌, ◌++◌, map, length, take, get_or, ◌∙◌, ap, ap₂, sym, refl, arith, append-nil, append_assoc}
 use Rattle.std.proofs.lemmas.Bool.{and_parts, le-leb, leb-true, lt-ltb, ltb-true}
 use Rattle.std.proofs.lemmas.List.{length-take, get_or-take}
 use Rattle.sym_model.specs.Sum.{select, Among}
@@ -9,7 +9,8 @@ use Rattle.sym_model.specs.Schur.{content, contains, tableaux, words}
 use Rattle.sym_model.specs.GoodTableau.{column_reading, every, good_readings, good_tableaux, is_among, is_good}
 use Rattle.sym_model.specs.TableauList.{filling_of, reading_cells, readings_with_content, tableau_readings}
 use Rattle.sym_model.proofs.Exponents.{same_true, tests_agree}
-use Rattle.strip_laws.proofs.Strips.{falls_part}
+use Rattle.sym_model.proofs.Lists.{select-none}
+use Rattle.strip_laws.proofs.Strips.{falls_get}
 use Rattle.skew_shapes.specs.CellFillings.{filled_with, is_tableau}
 use Rattle.skew_shapes.specs.Rows.{cells_right_of}
 use Rattle.tableau_iter.specs.Walks.{completions}
@@ -19,7 +20,7 @@ use Rattle.tableau_iter.specs.declared.rule.Rule.TheVariants.{Free, Falling, Lim
 use Rattle.tableau_iter.proofs.Walking.{select-select}
 use Rattle.tableau_iter.proofs.GoodWords.{AreWithin, good-listed, select-among, tableau-listed, word_tells}
 use Rattle.tableau_iter.proofs.Orders.{length-reading}
-use Rattle.tableau_iter.proofs.Sums.{AreWithinLength, ends-within, falls_at, is_good-ends, select-none}
+use Rattle.tableau_iter.proofs.Sums.{AreWithinLength, ends-within, falls_at, is_good-ends}
 use Rattle.tableau_iter.proofs.Tableaux.{Stands, lines-length, stands-tableau, tableau-stands, within-at}
 use Rattle.tableau_iter.proofs.FrontContents.{falls_at-from, good-allows}
 use Rattle.tableau_iter.proofs.LetterCounts.{content-allows, content-from, size-content}
@@ -137,16 +138,9 @@ fits-tell rule counts start k outer inner lines ranks near w a l e = (
         and_parts (stands_right near (take p w) (get_or w p 0)) (allows rule counts (join start (content k (take p w))) (get_or w p 0))
         (all_fit-at (fits_by rule counts start k near) [] w p e h)
 
-every-within : (test : ℕ → Bool) (ends : List ℕ) (n : ℕ) → AreWithinLength ends n → ((e : ℕ) → e ≤ n → test e ≡ true) → every test ends ≡ true
+pub every-within : (test : ℕ → Bool) (ends : List ℕ) (n : ℕ) → AreWithinLength ends n → ((e : ℕ) → e ≤ n → test e ≡ true) → every test ends ≡ true
 every-within test [] n h t = refl
 every-within test (e ∷ ends) n h t = ap₂ (λ x y. x && y) (t e h.0) (every-within test ends n h.1 t)
-
-start_falls : (start : List ℕ) → Falls start → (i : ℕ) → get_or start (suc i) 0 ≤ get_or start i 0
-start_falls start f i =
-    let low : 1 ≤ i + 1 = omega arith in
-    let here : i + 1 - 1 ≡ i = omega arith in
-    let next : i + 1 + 1 - 1 ≡ suc i = omega arith in
-    omega (arith, falls_part start f (i + 1) low, ap (λ n. get_or start n 0) here, ap (λ n. get_or start n 0) next)
 
 good-fits :
     (counts start : List ℕ) (k : ℕ) (outer inner lines ranks : List ℕ) (near : Neighbours) (w : List ℕ) → Around k outer inner lines ranks near
@@ -167,7 +161,7 @@ good-fits counts start k outer inner lines ranks near w a falls few m =
     ap₂ (λ x y. x && y) told.0
     (sym (is_good-ends k start outer inner w l)
     ∙ every-within (falls_at k start w) (map (λ j. length (cells_right_of outer inner j)) (0 ∷ after 0 (columns outer))) (length w) (ends-within outer inner w l)
-    (λ n h. falls_at-from k start w n few (start_falls start falls) (λ p q. ((within-at k w p word.1 q).1, told.1 p q)) h)))
+    (λ n h. falls_at-from k start w n few (falls_get start falls) (λ p q. ((within-at k w p word.1 q).1, told.1 p q)) h)))
 
 tableau-fits :
     (counts start : List ℕ) (k : ℕ) (outer inner lines ranks : List ℕ) (near : Neighbours) (w : List ℕ) → Around k outer inner lines ranks near

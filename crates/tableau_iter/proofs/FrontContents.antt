@@ -11,8 +11,8 @@ use Rattle.sym_model.specs.Tableau.{are_letters}
 use Rattle.sym_model.specs.TableauList.{column_cells, reading_cells, letter_of_cell, filling_of}
 use Rattle.sym_model.proofs.AfterLists.{after_among, length_after}
 use Rattle.sym_model.proofs.Sums.{Among_from_map, Among_from_select}
+use Rattle.sym_model.proofs.Contents.{times_in-append}
 use Rattle.strip_laws.proofs.Strips.{falls_far}
-use Rattle.tableau_laws.proofs.Contents.{times_in-append}
 use Rattle.skew_shapes.specs.CellFillings.{filled_with, is_tableau}
 use Rattle.skew_shapes.specs.Rows.{reaches, cells_right_of, rows_by}
 use Rattle.skew_shapes.proofs.CellRows.{map_after-at}

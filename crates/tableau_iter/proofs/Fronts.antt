@@ -1,9 +1,9 @@
 -- Steps of a walk over the words of a shape: the letters up to a place stay, and what is behind them changes.
 use Rattle.std.proofs.Common.{◌≡◌, ℕ, suc, ◌+◌, ◌-◌, ◌<◌, ◌≤◌, Bool, true, false, List, [], ◌∷◌, ◌++◌, length, take, drop, get_or, ◌∙◌, ap, ap₂, sym, refl, subst, inl, inr, arith}
-use Rattle.std.proofs.Math.Seq.{drop-cons}
 use Rattle.std.proofs.lemmas.Bool.{cases_lt}
 use Rattle.std.proofs.lemmas.List.{length-drop, length-take, take_more, take-take, take_all, get_or-take}
 use Rattle.std.specs.Bool.{OnTrue, OnFalse}
+use Rattle.sym_model.proofs.Lists.{drop-next}
 use Rattle.tableau_iter.specs.Walks.{completions, continued, later}
 use Rattle.tableau_iter.specs.Fits.{all_fit}
 use Rattle.tableau_iter.specs.Positions.{Position, Setting, fits_in, passes, IsSameUpTo, Begins}
@@ -72,11 +72,6 @@ letter_at word front place a h l e =
     seam [] y = refl
     seam (x ∷ xs) y = seam xs y
 
-tail_at : (word : List ℕ) (place : ℕ) → place < length word → drop place word ≡ get_or word place 0 ∷ drop (place + 1) word
-tail_at word place h =
-    let next : suc place ≡ place + 1 = omega arith in
-    drop-cons word place 0 h ∙ ap (λ n. get_or word place 0 ∷ drop n word) next
-
 -- ---- a letter is tried
 
 -- the letters between two that were tried do not fit
@@ -121,7 +116,7 @@ tried-found old b put new place tried letter list h m l skip s sp e n found is =
     skipped old place tried letter list m l skip is
     ∙ continued-found (passes old) old.setting.letters (length old.word - (place + 1)) front w t (omega arith) rest inner in
     begins-from place old new list front ((t + 1) ∷ w) outer (passes-same place old new sn) (letters-same place old new sn) sn.front
-    (tail_at new.word place within ∙ ap (λ a. a ∷ w) at)
+    (drop-next new.word place within ∙ ap (λ a. a ∷ w) at)
 
 pub tried-none :
     (old b put : Position) (place tried letter : ℕ) (list : List (List ℕ)) → place < length old.word → tried < letter → letter ≤ old.setting.letters
@@ -221,8 +216,8 @@ next-inside old new place h s found =
     ap (λ f. later (passes old) old.setting.letters f v) (sym (longer_front old.word place h))
     ∙ begins-as (place + 1) old new _ (front ++ a ∷ []) w found same (letters-same (place + 1) old new s) new_front refl in
     begins-from place old new _ front (a ∷ w)
-    (ap (later (passes old) old.setting.letters front) (tail_at old.word place h) ∙ later-same (passes old) old.setting.letters front v w a long inner)
-    same (letters-same (place + 1) old new s) less.front (tail_at new.word place within ∙ ap (λ b. b ∷ w) letter)
+    (ap (later (passes old) old.setting.letters front) (drop-next old.word place h) ∙ later-same (passes old) old.setting.letters front v w a long inner)
+    same (letters-same (place + 1) old new s) less.front (drop-next new.word place within ∙ ap (λ b. b ∷ w) letter)
 
 -- where nothing comes next behind the letter at the place
 pub next-outside :
@@ -236,7 +231,7 @@ next-outside old b place h s none =
     let v = drop (place + 1) old.word in
     let less = IsSameUpTo-less place (place + 1) old b (omega arith) s in
     let long : length v ≡ length b.word - (place + 1) = omega (arith, length-drop (place + 1) old.word, s.length) in
-    ap (later (passes old) old.setting.letters front) (tail_at old.word place h)
+    ap (later (passes old) old.setting.letters front) (drop-next old.word place h)
     ∙ later-greater (passes old) old.setting.letters front v a (ap (λ f. later (passes old) old.setting.letters f v) (sym (longer_front old.word place h)) ∙ none)
     ∙ sym (continued-same (passes b) (passes old) b.setting.letters old.setting.letters (length b.word - (place + 1)) (length v) a (take place b.word) front
     (passes-same (place + 1) old b s) (letters-same (place + 1) old b s) (sym long) less.front)

@@ -1,5 +1,5 @@
 -- The words that are the column readings of good tableaux: by a test of the filling of the word.
-use Rattle.std.proofs.Common.{◌≡◌, ◌⊎◌, ℕ, zero, suc, ◌+◌, ◌-◌, ◌<◌, ◌≤◌, Bool, true, false, ◌&&◌, ◌||◌, ◌==◌, cond, nat_le, List, [], ◌∷◌, ◌++◌, map, length, get_or, ◌∙◌, ap, ap₂, sym, refl, subst, inl, inr, arith}
+use Rattle.std.proofs.Common.{◌≡◌, ◌⊎◌, ℕ, zero, suc, ◌+◌, ◌-◌, ◌<◌, ◌≤◌, Bool, true, false, ◌&&◌, ◌==◌, cond, List, [], ◌∷◌, map, length, get_or, ◌∙◌, ap, ap₂, sym, refl, subst, inl, inr, arith}
 use Rattle.std.proofs.lemmas.Bool.{and_parts, le-leb, eq-eqb, true≢false}
 use Rattle.std.proofs.lemmas.List.{length-map}
 use Rattle.sym_model.specs.Sum.{select, Among}
@@ -9,12 +9,14 @@ use Rattle.sym_model.specs.Schur.{words, row_lengths, fillings_of, semistandard,
 use Rattle.sym_model.specs.GoodTableau.{column_reading, is_among, is_good, good_tableaux}
 use Rattle.sym_model.specs.Tableau.{are_letters}
 use Rattle.sym_model.specs.TableauList.{reading_cells, letter_of_cell, filling_of}
-use Rattle.sym_model.proofs.Exponents.{same_true, same_refl, tests_agree}
+use Rattle.sym_model.proofs.Exponents.{tests_agree}
 use Rattle.sym_model.proofs.Sums.{Among-map, Among_from_map, Among-each, Among_from_each, Among-select, Among_from_select}
 use Rattle.sym_model.proofs.AfterLists.{after_among, among_after, length_after}
+use Rattle.sym_model.proofs.Tableaux.{are_letters-append}
 use Rattle.skew_shapes.specs.CellFillings.{filled_with, is_tableau}
 use Rattle.skew_shapes.specs.Rows.{row_by, rows_by}
 use Rattle.skew_shapes.proofs.CellRows.{lengths-rows_by, map_after-at}
+use Rattle.tableau_laws.proofs.GoodReadings.{is_among-from, is_among-tells}
 use Rattle.tableau_iter.proofs.Orders.{Among-reading, length-reading, reading-whole, filling_of-reading}
 
 -- ---- letters from 1 to n
@@ -147,36 +149,13 @@ rows-by_cells outer inner T l =
 
 -- ---- the words of the list
 
-pub is_among-from : (w : List ℕ) (xs : List (List ℕ)) → Among w xs → is_among w xs ≡ true
-is_among-from w [] m = elim m [ ]
-is_among-from w (x ∷ xs) (inl e) = ap (λ b. b || is_among w xs) (ap (same w) (sym e) ∙ same_refl w)
-is_among-from w (x ∷ xs) (inr m) = by (same w x) (is_among-from w xs m)
-  where
-    by : (b : Bool) → is_among w xs ≡ true → (b || is_among w xs) ≡ true
-    by true e = refl
-    by false e = e
-
-pub is_among-tells : (w : List ℕ) (xs : List (List ℕ)) → is_among w xs ≡ true → Among w xs
-is_among-tells w [] e = absurd (true≢false (sym e))
-is_among-tells w (x ∷ xs) e = by (same w x) refl e (λ h. is_among-tells w xs h)
-  where
-    by : (b : Bool) → same w x ≡ b → (b || is_among w xs) ≡ true → (is_among w xs ≡ true → Among w xs) → Among w (x ∷ xs)
-    by true s h r = inl (same_true w x s)
-    by false s h r = inr (r h)
-
 letters_positive : (n : ℕ) (w : List ℕ) → AreWithin n w → are_letters w ≡ true
 letters_positive n [] h = refl
 letters_positive n (a ∷ w) h = ap₂ (λ x y. x && y) (le-leb 1 a h.0.0) (letters_positive n w h.1)
 
-letters_append : (v w : List ℕ) → are_letters v ≡ true → are_letters w ≡ true → are_letters (v ++ w) ≡ true
-letters_append [] w h e = e
-letters_append (a ∷ v) w h e =
-    let p = and_parts (nat_le 1 a) (are_letters v) h in
-    ap₂ (λ x y. x && y) p.0 (letters_append v w p.1 e)
-
 rows_positive : (n : ℕ) (rows : List (List ℕ)) → RowsWithin n rows → are_letters (letters_of rows) ≡ true
 rows_positive n [] h = refl
-rows_positive n (row ∷ rows) h = letters_append row (letters_of rows) (letters_positive n row h.0) (rows_positive n rows h.1)
+rows_positive n (row ∷ rows) h = are_letters-append row (letters_of rows) (letters_positive n row h.0) (rows_positive n rows h.1)
 
 pub select-among : (test other : List ℕ → Bool) (xs : List (List ℕ)) → ((x : List ℕ) → Among x xs → test x ≡ other x) → select test xs ≡ select other xs
 select-among test other [] h = refl

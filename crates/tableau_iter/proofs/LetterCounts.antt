@@ -7,7 +7,8 @@ use Rattle.sym_model.specs.Polynomial.{join, same}
 use Rattle.sym_model.specs.Schur.{content, times_in}
 use Rattle.sym_model.proofs.AfterLists.{length_after}
 use Rattle.sym_model.proofs.Exponents.{same_true, same_from}
-use Rattle.tableau_laws.proofs.Contents.{times_in-append}
+use Rattle.sym_model.proofs.Parts.{size-map_add}
+use Rattle.sym_model.proofs.Contents.{times_in-append}
 use Rattle.skew_shapes.proofs.CellRows.{map_after-at}
 use Rattle.tableau_iter.specs.Fits.{allows}
 use Rattle.tableau_iter.specs.declared.rule.Rule.TheVariants.{Limited}
@@ -18,10 +19,6 @@ use Rattle.tableau_iter.proofs.FrontContents.{sum-at, times_in-one}
 
 one_at : ℕ → ℕ → ℕ
 one_at a j = cond (eqb a j) 1 0
-
-size-sum : (f g : ℕ → ℕ) (ks : List ℕ) → size (map (λ j. f j + g j) ks) ≡ size (map f ks) + size (map g ks)
-size-sum f g [] = refl
-size-sum f g (k ∷ ks) = let h = size-sum f g ks in omega arith
 
 none-after : (a m k : ℕ) → a ≤ m → size (map (one_at a) (after m k)) ≡ 0
 unfolding one_at
@@ -56,7 +53,7 @@ size-content k (a ∷ w) h =
     let low = h.0.0 in
     let high = h.0.1 in
     let one = one-after a 0 k (omega arith) (omega arith) in
-    omega (arith, size-sum (one_at a) (λ j. times_in j w) (after 0 k), one, size-content k w h.1)
+    omega (arith, size-map_add (one_at a) (λ j. times_in j w) (after 0 k), one, size-content k w h.1)
 
 -- ---- numbers that are not greater, and add up to the same, are the same
 

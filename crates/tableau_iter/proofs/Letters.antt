@@ -1,9 +1,10 @@
 -- The letters of a word, counted one after another.
-use Rattle.std.proofs.Common.{◌≡◌, ℕ, zero, suc, ◌+◌, ◌-◌, ◌<◌, ◌≤◌, ◌==◌, nat_le, nat_lt, Bool, true, false, ◌&&◌, ◌||◌, cond, List, [], ◌∷◌, map, length, take, set, get_or, replicate, refl, sym, ap, ◌∙◌, arith}
+use Rattle.std.proofs.Common.{◌≡◌, ℕ, zero, suc, ◌+◌, ◌-◌, ◌<◌, ◌≤◌, ◌==◌, nat_le, nat_lt, Bool, true, false, ◌&&◌, ◌||◌, List, [], ◌∷◌, map, length, take, set, get_or, replicate, refl, sym, ap, ◌∙◌, arith}
 use Rattle.std.proofs.lemmas.Bool.{and_parts, leb-true, true≢false}
 use Rattle.std.proofs.lemmas.List.{length-take, take_more}
 use Rattle.sym_model.specs.Partition.{after}
 use Rattle.sym_model.specs.Schur.{content, times_in}
+use Rattle.sym_model.proofs.Contents.{times_in-most}
 use Rattle.tableau_iter.specs.Fits.{all_fit}
 use Rattle.tableau_iter.proofs.Boards.{sums-put}
 use Rattle.tableau_iter.proofs.FittingWords.{all_fit-at}
@@ -24,7 +25,7 @@ counts_say : (k : ℕ) (counts now v : List ℕ) (a : ℕ) → now ≡ counts �
 counts_say k counts now v a n e =
     ap (λ xs. is_allowed (length xs) xs a) (n ∙ e) ∙ ap (λ m. is_allowed m (content k v) a) (length-sums [] v k (omega arith))
 
-never : (b : Bool) → (b ≡ true → ⊥) → false ≡ b
+pub never : (b : Bool) → (b ≡ true → ⊥) → false ≡ b
 never true f = absurd (f refl)
 never false f = refl
 
@@ -33,15 +34,6 @@ pub refused : (k : ℕ) (w counts now : List ℕ) (p : ℕ) → p < length w →
 refused k w counts now p h n e f =
     never (is_lattice_word k w)
     (λ t. true≢false (sym (all_fit-at (may_follow k) [] w p t h) ∙ sym (counts_say k counts now (take p w) (get_or w p 0) n e) ∙ f))
-
--- how often a letter stands in a word
-times_in-most : (j : ℕ) (v : List ℕ) → times_in j v ≤ length v
-times_in-most j [] = omega arith
-times_in-most j (a ∷ v) = by (a == j) (times_in-most j v)
-  where
-    by : (b : Bool) → times_in j v ≤ length v → cond {A = ℕ} b 1 0 + times_in j v ≤ suc (length v)
-    by true h = omega (arith, h)
-    by false h = omega (arith, h)
 
 -- a letter that may follow
 pub record IsNext (k : ℕ) (w counts : List ℕ) (p : ℕ) : Type 0 where

@@ -5,19 +5,20 @@ use Rattle.sym_model.specs.Sum.{Among, select}
 use Rattle.sym_model.specs.Partition.{Falls, after, cells, columns}
 use Rattle.sym_model.specs.Polynomial.{join}
 use Rattle.sym_model.specs.Schur.{content, contains, fillings_of, row_lengths, semistandard, words}
-use Rattle.sym_model.specs.GoodTableau.{column_reading, every, good_tableaux, is_among, is_good, lattice_readings}
+use Rattle.sym_model.specs.GoodTableau.{column_reading, good_tableaux, is_among, is_good, lattice_readings}
 use Rattle.sym_model.specs.TableauList.{filling_of, reading_cells}
 use Rattle.sym_model.proofs.Exponents.{tests_agree}
 use Rattle.sym_model.proofs.Sums.{Among-select, Among_from_select}
 use Rattle.skew_shapes.specs.CellFillings.{filled_with, is_tableau}
 use Rattle.skew_shapes.specs.Rows.{cells_right_of}
+use Rattle.tableau_laws.proofs.GoodReadings.{is_among-from, is_among-tells}
 use Rattle.tableau_iter.specs.Fits.{allows}
 use Rattle.tableau_iter.specs.declared.rule.Rule.TheVariants.{Falling}
-use Rattle.tableau_iter.proofs.FittingWords.{all_fit-at, all_fit-from}
+use Rattle.tableau_iter.proofs.FittingWords.{all_fit-at, all_fit-from, every-within}
 use Rattle.tableau_iter.proofs.FrontContents.{falls_at-from, good-allows}
-use Rattle.tableau_iter.proofs.GoodWords.{AreWithin, good-listed, is_among-from, is_among-tells, word_from, word_tells}
+use Rattle.tableau_iter.proofs.GoodWords.{AreWithin, good-listed, word_from, word_tells}
 use Rattle.tableau_iter.proofs.Orders.{length-reading}
-use Rattle.tableau_iter.proofs.Sums.{AreWithinLength, ends-within, falls_at, is_good-ends}
+use Rattle.tableau_iter.proofs.Sums.{ends-within, falls_at, is_good-ends}
 use Rattle.tableau_iter.proofs.Tableaux.{within-at}
 use Rattle.tableau_iter.specs.LatticeWords.{is_lattice_word, may_follow}
 
@@ -75,11 +76,6 @@ none_disordered outer inner w f c n =
     (sym (listed_is outer inner w f c told.0) ∙ told.1) in
     true≢false (sym both.0 ∙ n))
 
--- the fronts of a lattice word have contents that fall
-every-within : (test : ℕ → Bool) (ends : List ℕ) (n : ℕ) → AreWithinLength ends n → ((e : ℕ) → e ≤ n → test e ≡ true) → every test ends ≡ true
-every-within test [] n h t = refl
-every-within test (e ∷ ends) n h t = ap₂ (λ x y. x && y) (t e h.0) (every-within test ends n h.1 t)
-
 letter_at : (k : ℕ) (w : List ℕ) (p : ℕ) → is_lattice_word k w ≡ true → p < length w
     → (1 ≤ get_or w p 0) × (get_or w p 0 ≤ k) × (allows Falling [] (join [] (content k (take p w))) (get_or w p 0) ≡ true)
 letter_at k w p e h =
@@ -90,7 +86,7 @@ letter_at k w p e h =
     let within = and_parts (nat_le 1 (get_or w p 0)) (nat_le (get_or w p 0) k) both.0 in
     (leb-true 1 (get_or w p 0) within.0, leb-true (get_or w p 0) k within.1, both.1)
 
-all_within : (k : ℕ) (w : List ℕ) → ((p : ℕ) → p < length w → (1 ≤ get_or w p 0) × (get_or w p 0 ≤ k)) → AreWithin k w
+pub all_within : (k : ℕ) (w : List ℕ) → ((p : ℕ) → p < length w → (1 ≤ get_or w p 0) × (get_or w p 0 ≤ k)) → AreWithin k w
 all_within k [] h = tt
 all_within k (a ∷ w) h = (h 0 (omega arith), all_within k w (λ p l. h (suc p) (omega arith)))
 

@@ -1,5 +1,5 @@
 -- The cells of a skew shape in the order of the column reading: each once, and the letters of a word in them.
-use Rattle.std.proofs.Common.{◌≡◌, ◌⊎◌, ℕ, zero, suc, ◌+◌, ◌-◌, ◌≤◌, true, false, ◌&&◌, ◌==◌, cond, leb, ltb, List, [], ◌∷◌, ◌++◌, map, length, take, reverse, ◌∙◌, ap, ap₂, sym, refl, subst, inl, inr, arith, append-nil, length-append}
+use Rattle.std.proofs.Common.{◌≡◌, ◌⊎◌, ℕ, ◌+◌, ◌-◌, ◌≤◌, true, false, ◌&&◌, ◌==◌, cond, leb, ltb, List, [], ◌∷◌, ◌++◌, map, length, take, reverse, ◌∙◌, ap, ap₂, sym, refl, subst, inl, inr, arith, append-nil, length-append}
 use Rattle.std.proofs.lemmas.Bool.{cases_eq, eq-eqb, ne_eqb, and_from, lt-ltb, le-leb}
 use Rattle.std.proofs.lemmas.List.{reverse-append, take_all}
 use Rattle.sym_model.specs.Sum.{each, select, Among, Once}
@@ -7,13 +7,14 @@ use Rattle.sym_model.specs.Partition.{IsCell, Falls, part, rows, columns, after,
 use Rattle.sym_model.specs.GoodTableau.{reading_right_of, column_reading}
 use Rattle.sym_model.specs.TableauList.{column_cells, reading_cells, letter_of_cell, filling_of}
 use Rattle.sym_model.proofs.Sums.{Among-map, Among_from_map, Among-each, Among_from_each, Among-select, Among_from_select, Once-map, Once-select, Once-append, Once-each, length_within}
-use Rattle.sym_model.proofs.AfterLists.{after_among, among_after, once_after}
+use Rattle.sym_model.proofs.AfterLists.{after_among, among_after, once_after, after-append}
+use Rattle.sym_model.proofs.Lists.{each-append}
 use Rattle.strip_laws.proofs.Strips.{falls_far}
 use Rattle.skew_shapes.specs.Rows.{reaches, cells_right_of, rows_by}
 use Rattle.skew_shapes.proofs.CellReadings.{each-cells, reading-rows_by, Among-reverse}
 use Rattle.skew_shapes.proofs.CellRows.{cell_row, rows_by-ext}
 use Rattle.skew_shapes.proofs.KeptRows.{is_cell-tells}
-use Rattle.skew_shapes.proofs.CellCounts.{row_cells, each-append}
+use Rattle.skew_shapes.proofs.CellCounts.{row_cells}
 
 -- ---- the cells of the reading
 
@@ -190,13 +191,6 @@ letter-read f (d ∷ cells) c m = elim (cases_eq d.0 c.0) [
 
 -- ---- the reading as prefixes of the word
 
-pub after-split : (a m n : ℕ) → after a (m + n) ≡ after a m ++ after (a + m) n
-after-split a zero n = ap₂ (λ x k. after x k) (omega arith) (omega arith)
-after-split a (suc m) n =
-    let e : suc m + n ≡ suc (m + n) = omega arith in
-    let f : a + 1 + m ≡ a + suc m = omega arith in
-    ap (after a) e ∙ ap (λ l. (a + 1) ∷ l) (after-split (a + 1) m n ∙ ap (λ x. after (a + 1) m ++ after x n) f)
-
 pub reading_split :
     (outer inner : List ℕ) (j : ℕ) → j ≤ columns outer
     → reading_cells outer inner ≡ cells_right_of outer inner j ++ each (column_cells outer inner) (reverse (after 0 j))
@@ -204,7 +198,7 @@ reading_split outer inner j h =
     let e : columns outer ≡ j + (columns outer - j) = omega arith in
     let f : 0 + j ≡ j = omega arith in
     ap (λ n. each (column_cells outer inner) (reverse (after 0 n))) e
-    ∙ ap (λ l. each (column_cells outer inner) (reverse l)) (after-split 0 j (columns outer - j) ∙ ap (λ x. after 0 j ++ after x (columns outer - j)) f)
+    ∙ ap (λ l. each (column_cells outer inner) (reverse l)) (after-append 0 j (columns outer - j) ∙ ap (λ x. after 0 j ++ after x (columns outer - j)) f)
     ∙ ap (each (column_cells outer inner)) (reverse-append (after 0 j) (after j (columns outer - j)))
     ∙ each-append (column_cells outer inner) (reverse (after j (columns outer - j))) (reverse (after 0 j))
 

@@ -6,13 +6,13 @@ use Rattle.sym_model.specs.Sum.{each, select, Among, Once}
 use Rattle.sym_model.specs.Partition.{IsCell, Falls, part, rows, columns, after}
 use Rattle.sym_model.specs.TableauList.{column_cells, reading_cells}
 use Rattle.sym_model.proofs.Sums.{Among-append_left, Among-append_right, Among-each, Among-map, Among-select}
-use Rattle.sym_model.proofs.AfterLists.{among_after}
+use Rattle.sym_model.proofs.AfterLists.{among_after, after-append}
+use Rattle.sym_model.proofs.Lists.{select-append}
 use Rattle.skew_shapes.specs.Rows.{reaches, cells_right_of, cells_above}
 use Rattle.skew_shapes.proofs.CellReadings.{above-reached, right-more}
 use Rattle.skew_shapes.proofs.CellRows.{cell_row}
-use Rattle.tableau_iter.proofs.Orders.{Among-reversed, Once-reading, after-split, columns_far, reading_split}
+use Rattle.tableau_iter.proofs.Orders.{Among-reversed, Once-reading, columns_far, reading_split}
 use Rattle.tableau_iter.proofs.Neighbours.{Among-get}
-use Rattle.tableau_iter.proofs.Walking.{select-append}
 
 -- ---- places in a list with no cell twice
 
@@ -73,7 +73,7 @@ column_split outer inner r j h =
     let from : 0 + r ≡ r = omega arith in
     let test = reaches outer inner j in
     ap (λ n. map {B = ℕ × ℕ} (λ row. (row, j)) (select (reaches outer inner j) (after 0 n))) all
-    ∙ ap (λ l. map {B = ℕ × ℕ} (λ row. (row, j)) (select (reaches outer inner j) l)) (after-split 0 r (length outer - r) ∙ ap (λ a. after 0 r ++ after a (length outer - r)) from)
+    ∙ ap (λ l. map {B = ℕ × ℕ} (λ row. (row, j)) (select (reaches outer inner j) l)) (after-append 0 r (length outer - r) ∙ ap (λ a. after 0 r ++ after a (length outer - r)) from)
     ∙ ap (map {B = ℕ × ℕ} (λ row. (row, j))) (select-append test (after 0 r) (after r (length outer - r)))
     ∙ map-append {B = ℕ × ℕ} (λ row. (row, j)) (select test (after 0 r)) (select test (after r (length outer - r)))
 

@@ -8,8 +8,9 @@ use Rattle.sym_model.specs.GoodTableau.{is_among}
 use Rattle.sym_model.specs.TableauList.{later_than}
 use Rattle.sym_model.proofs.Exponents.{same_false}
 use Rattle.sym_model.proofs.Sums.{Among-select, Among_from_select}
+use Rattle.tableau_laws.proofs.GoodReadings.{is_among-tells}
 use Rattle.tableau_iter.specs.Walks.{completions, continued, later}
-use Rattle.tableau_iter.proofs.GoodWords.{AreWithin, word_tells, word_from, is_among-tells}
+use Rattle.tableau_iter.proofs.GoodWords.{AreWithin, word_tells, word_from}
 use Rattle.tableau_iter.proofs.Walking.{completions-first, continued-next}
 
 -- ---- whether a word is in the list

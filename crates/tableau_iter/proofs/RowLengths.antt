@@ -1,5 +1,5 @@
 -- Rows with as many numbers as those of a shape have cells.
-use Rattle.std.proofs.Common.{◌≡◌, ℕ, zero, suc, ◌+◌, ◌-◌, ◌<◌, Bool, true, false, List, [], ◌∷◌, map, length, get_or, refl, sym, ap, ap₂, subst, ◌∙◌, arith, inl, inr}
+use Rattle.std.proofs.Common.{◌≡◌, ℕ, zero, suc, ◌+◌, ◌-◌, ◌<◌, true, false, List, [], ◌∷◌, map, length, get_or, refl, sym, ap, ap₂, subst, ◌∙◌, arith, inl, inr}
 use Rattle.std.proofs.lemmas.Bool.{cases_eq}
 use Rattle.std.proofs.lemmas.List.{length-map}
 use Rattle.sym_model.specs.GoodTableau.{column_reading}
@@ -7,18 +7,15 @@ use Rattle.sym_model.specs.Polynomial.{same}
 use Rattle.sym_model.specs.Schur.{row_lengths}
 use Rattle.sym_model.proofs.Exponents.{same_true, same_refl}
 use Rattle.sym_model.specs.TableauList.{reading_cells}
+use Rattle.sym_model.proofs.Tableaux.{length-row_lengths, get_or-row_lengths}
 use Rattle.skew_shapes.proofs.CellReadings.{reading-rows_by}
 use Rattle.tableau_iter.proofs.GoodWords.{rows-by_cells}
 use Rattle.tableau_iter.specs.ReadRows.{letter_in_rows}
-
-lengths_count : (outer inner : List ℕ) → length (row_lengths outer inner) ≡ length outer
-lengths_count [] inner = refl
-lengths_count (a ∷ outer) [] = ap suc (lengths_count outer [])
-lengths_count (a ∷ outer) (b ∷ inner) = ap suc (lengths_count outer inner)
+use Rattle.tableau_iter.proofs.Letters.{never}
 
 pub rows_count : {A : Type 0} (f : A → List ℕ) (outer inner : List ℕ) (xs : List A) → map length (map f xs) ≡ row_lengths outer inner → length xs ≡ length outer
 rows_count f outer inner xs l =
-    sym (length-map xs f) ∙ sym (length-map (map f xs) length) ∙ ap length l ∙ lengths_count outer inner
+    sym (length-map xs f) ∙ sym (length-map (map f xs) length) ∙ ap length l ∙ length-row_lengths outer inner
 
 -- the letters of the cells are the column reading
 pub reading_in : (outer inner : List ℕ) (rows : List (List ℕ)) → map length rows ≡ row_lengths outer inner
@@ -26,23 +23,12 @@ pub reading_in : (outer inner : List ℕ) (rows : List (List ℕ)) → map lengt
 reading_in outer inner rows l =
     sym (reading-rows_by (letter_in_rows inner rows) outer inner) ∙ ap (column_reading outer inner) (sym (rows-by_cells outer inner rows l))
 
-pub row_lengths-at : (outer inner : List ℕ) (i : ℕ) → get_or (row_lengths outer inner) i 0 ≡ get_or outer i 0 - get_or inner i 0
-row_lengths-at [] inner i = omega arith
-row_lengths-at (a ∷ outer) [] zero = omega arith
-row_lengths-at (a ∷ outer) [] (suc i) = row_lengths-at outer [] i
-row_lengths-at (a ∷ outer) (b ∷ inner) zero = refl
-row_lengths-at (a ∷ outer) (b ∷ inner) (suc i) = row_lengths-at outer inner i
-
 -- lists of one length with the same numbers
 alike : (xs ys : List ℕ) → length xs ≡ length ys → ((i : ℕ) → i < length ys → get_or xs i 0 ≡ get_or ys i 0) → xs ≡ ys
 alike [] [] l h = refl
 alike [] (y ∷ ys) l h = absurd (omega (arith, l))
 alike (x ∷ xs) [] l h = absurd (omega (arith, l))
 alike (x ∷ xs) (y ∷ ys) l h = ap₂ ◌∷◌ (h 0 (omega arith)) (alike xs ys (omega (arith, l)) (λ i m. h (suc i) (omega (arith, m))))
-
-never : (b : Bool) → (b ≡ true → ⊥) → false ≡ b
-never true f = absurd (f refl)
-never false f = refl
 
 -- another number of rows
 pub other_count : {A : Type 0} (f : A → List ℕ) (outer inner : List ℕ) (xs : List A) → (length xs ≡ length outer → ⊥)
@@ -56,16 +42,16 @@ pub other_length : {A : Type 0} (f : A → List ℕ) (outer inner : List ℕ) (x
     → (get_or (map length (map f xs)) i 0 ≡ get_or outer i 0 - get_or inner i 0 → ⊥) → false ≡ same (map length (map f xs)) (row_lengths outer inner)
 other_length f outer inner xs i n =
     never (same (map length (map f xs)) (row_lengths outer inner))
-    (λ e. n (ap (λ ls. get_or ls i 0) (same_true (map length (map f xs)) (row_lengths outer inner) e) ∙ row_lengths-at outer inner i))
+    (λ e. n (ap (λ ls. get_or ls i 0) (same_true (map length (map f xs)) (row_lengths outer inner) e) ∙ get_or-row_lengths outer inner i))
 
 -- the lengths of the shape
 pub all_lengths : {A : Type 0} (f : A → List ℕ) (outer inner : List ℕ) (xs : List A) → length xs ≡ length outer
     → ((i : ℕ) → i < length outer → get_or (map length (map f xs)) i 0 ≡ get_or outer i 0 - get_or inner i 0)
     → true ≡ same (map length (map f xs)) (row_lengths outer inner)
 all_lengths f outer inner xs l h =
-    let few = lengths_count outer inner in
-    let eq = alike (map length (map f xs)) (row_lengths outer inner) (length-map (map f xs) length ∙ length-map xs f ∙ l ∙ sym (lengths_count outer inner))
-    (λ i m. h i (omega (arith, m, few)) ∙ sym (row_lengths-at outer inner i)) in
+    let few = length-row_lengths outer inner in
+    let eq = alike (map length (map f xs)) (row_lengths outer inner) (length-map (map f xs) length ∙ length-map xs f ∙ l ∙ sym (length-row_lengths outer inner))
+    (λ i m. h i (omega (arith, m, few)) ∙ sym (get_or-row_lengths outer inner i)) in
     sym (ap (λ ls. same ls (row_lengths outer inner)) eq ∙ same_refl (row_lengths outer inner))
 
 pub length_at : {A : Type 0} (f : A → List ℕ) (xs : List A) (i : ℕ) (x : A) → i < length xs → x ≡ get_or xs i x → get_or (map length (map f xs)) i 0 ≡ length (f x)

@@ -1,5 +1,5 @@
 -- What a new board lists, and what comes after a word of the list.
-use Rattle.std.proofs.Common.{◌≡◌, ℕ, suc, ◌<◌, ◌≤◌, Bool, true, false, List, [], ◌∷◌, ◌++◌, map, length, take, get_or, ◌∙◌, ap, ap₂, sym, refl, arith}
+use Rattle.std.proofs.Common.{◌≡◌, ℕ, ◌≤◌, Bool, true, false, List, [], ◌++◌, map, length, take, get_or, ◌∙◌, ap, ap₂, sym, refl, arith}
 use Rattle.std.proofs.lemmas.Bool.{and_parts, true≢false}
 use Rattle.sym_model.specs.Sum.{Among}
 use Rattle.sym_model.specs.Partition.{Falls, cells, rows, size}
@@ -9,17 +9,19 @@ use Rattle.sym_model.specs.GoodTableau.{column_reading, good_readings, good_tabl
 use Rattle.sym_model.specs.TableauList.{later_than, readings_with_content, tableau_readings}
 use Rattle.sym_model.proofs.Sums.{Among-select, Among_from_select}
 use Rattle.skew_shapes.specs.Shapes.{IsSkew}
+use Rattle.tableau_laws.proofs.GoodReadings.{is_among-from, is_among-tells}
 use Rattle.tableau_iter.specs.Walks.{completions, later}
 use Rattle.tableau_iter.specs.declared.rule.Rule.{Rule}
 use Rattle.tableau_iter.specs.declared.rule.Rule.TheVariants.{Free, Falling, Limited}
 use Rattle.tableau_iter.specs.Fits.{Neighbours, all_fit, allows, fits_by, stands_right}
 use Rattle.tableau_iter.specs.Positions.{IsNearIn, IsNewBoard, IsSameUpTo, Position, Setting, fits_in, passes}
-use Rattle.tableau_iter.proofs.GoodWords.{AreWithin, is_among-from, is_among-tells, word_from}
+use Rattle.tableau_iter.proofs.GoodWords.{AreWithin, word_from}
 use Rattle.tableau_iter.proofs.Orders.{length-reading}
 use Rattle.tableau_iter.proofs.Tableaux.{lines-length}
 use Rattle.tableau_iter.proofs.FittingWords.{Around, all_fit-at, content_readings-fits, front-stands, good_readings-fits, tableau_readings-fits}
 use Rattle.tableau_iter.proofs.Boards.{ceiling-most}
 use Rattle.tableau_iter.proofs.Resuming.{later_than-completions, not_among-completions}
+use Rattle.tableau_iter.proofs.Membership.{all_within}
 
 around :
     (k : ℕ) (outer inner : List ℕ) (near : Neighbours) → IsSkew outer inner → (n : IsNearIn k outer inner near) → Around k outer inner n.lines n.ranks near
@@ -63,10 +65,6 @@ content-list counts outer inner p b all =
 
 -- ---- a word of the list
 
-within-from : (k : ℕ) (w : List ℕ) → ((p : ℕ) → p < length w → (1 ≤ get_or w p 0) × (get_or w p 0 ≤ k)) → AreWithin k w
-within-from k [] h = tt
-within-from k (a ∷ w) h = (h 0 (omega arith), within-from k w (λ p l. h (suc p) (omega arith)))
-
 -- its letters are within the letters
 fitting-within :
     (rule : Rule) (counts start : List ℕ) (k : ℕ) (outer inner w : List ℕ) (p : Position) → IsNewBoard rule counts start k outer inner p
@@ -77,7 +75,7 @@ fitting-within rule counts start k outer inner w p b l e =
     let lines = lines-length outer inner n.lines n.ranks n.cells in
     let cells = b.cells in
     let letters : p.setting.letters ≡ k = ap (λ (s : Setting). s.letters) b.setting in
-    within-from p.setting.letters w
+    all_within p.setting.letters w
     (λ q h.
     let fits =
     and_parts (stands_right p.setting.near (take q w) (get_or w q 0))

@@ -1,6 +1,6 @@
 -- Start plus the content of the fronts of a word.
-use Rattle.std.proofs.Common.{◌≡◌, ℕ, zero, suc, ◌+◌, ◌-◌, ◌<◌, ◌≤◌, Bool, ◌&&◌, List, [], ◌∷◌, map, length, get_or, reverse, ◌∙◌, ap, ap₂, sym, refl, arith, length-append, false, cond, inl, inr, take}
-use Rattle.sym_model.specs.Sum.{each, select, Among}
+use Rattle.std.proofs.Common.{◌≡◌, ℕ, zero, suc, ◌+◌, ◌-◌, ◌<◌, ◌≤◌, Bool, ◌&&◌, List, [], ◌∷◌, map, length, get_or, reverse, ◌∙◌, ap, ap₂, sym, refl, arith, length-append, take}
+use Rattle.sym_model.specs.Sum.{each}
 use Rattle.sym_model.specs.Partition.{columns, rows, after}
 use Rattle.sym_model.specs.Polynomial.{join}
 use Rattle.sym_model.specs.Schur.{content, times_in}
@@ -88,8 +88,3 @@ is_good-ends k start outer inner word l =
     (λ j. is_falling (join start (content k (reading_right_of j outer inner (filling_of outer inner word))))) 0 (columns outer) same)
 
 -- ---- words of which none passes
-
-pub select-none : (test : List ℕ → Bool) (xs : List (List ℕ)) → ((x : List ℕ) → Among x xs → test x ≡ false) → select test xs ≡ []
-select-none test [] h = refl
-select-none test (x ∷ xs) h =
-    ap (λ b. cond b (x ∷ select test xs) (select test xs)) (h x (inl refl)) ∙ select-none test xs (λ y m. h y (inr m))

@@ -10,6 +10,7 @@ use Rattle.sym_model.specs.Tableau.{are_letters}
 use Rattle.sym_model.specs.TableauList.{reading_cells, letter_of_cell}
 use Rattle.sym_model.proofs.AfterLists.{length_after}
 use Rattle.strip_laws.proofs.Strips.{falls_part}
+use Rattle.strip_laws.proofs.ClosedShapes.{cell}
 use Rattle.skew_shapes.specs.CellFillings.{filled_with, is_tableau, row_of}
 use Rattle.skew_shapes.specs.Rows.{row_by, rows_by}
 use Rattle.skew_shapes.specs.RowTests.{row_passes, stands_below}
@@ -185,9 +186,6 @@ pub record Rise (f : ℕ → ℕ → ℕ) (outer inner : List ℕ) : Type 0 wher
   pub right : (r j : ℕ) → IsCell outer inner (r + 1) j → IsCell outer inner (r + 1) (j + 1) → f (r + 1) j ≤ f (r + 1) (j + 1)
   pub above : (r j : ℕ) → IsCell outer inner (r + 1) j → IsCell outer inner (r + 1 + 1) j → f (r + 1) j < f (r + 1 + 1) j
 
-a_cell : (outer inner : List ℕ) (i j : ℕ) → 1 ≤ i → part inner i < j → j ≤ part outer i → IsCell outer inner i j
-a_cell outer inner i j h l m = record { row_counts = h; outside = l; within = m }
-
 length-rows_by : (f : ℕ → ℕ → ℕ) (outer inner : List ℕ) → length (rows_by f outer inner) ≡ length outer
 length-rows_by f outer inner = length-map (after 0 (length outer)) (row_by f outer inner) ∙ length_after 0 (length outer)
 
@@ -208,7 +206,7 @@ stands-row f outer inner r rise falls l =
     (drop-after (f (r + 1 + 1)) shift (part inner (r + 1 + 1)) n ∙ ap (λ x. map (f (r + 1 + 1)) (after x (n - shift))) from)
     ∙ columns-from (f (r + 1)) (f (r + 1 + 1)) (part inner (r + 1)) m (n - shift)
     (λ j p q s.
-    rise.above r j (a_cell outer inner (r + 1) j first p (omega arith)) (a_cell outer inner (r + 1 + 1) j second (omega arith) (omega arith)))
+    rise.above r j (cell outer inner (r + 1) j first p (omega arith)) (cell outer inner (r + 1 + 1) j second (omega arith) (omega arith)))
 
 passes-row :
     (f : ℕ → ℕ → ℕ) (outer inner : List ℕ) (r : ℕ) → Rise f outer inner → Falls inner → r + 1 ≤ length outer
@@ -220,11 +218,11 @@ passes-row f outer inner r rise falls l =
     let m = part outer (r + 1) - part inner (r + 1) in
     let row = row_of-rows_by f outer inner (r + 1) first l in
     let letters : are_letters (row_of T (r + 1)) ≡ true =
-    ap are_letters row ∙ letters-from (f (r + 1)) a m (λ j p q. rise.positive (r + 1) j (a_cell outer inner (r + 1) j first p (omega arith))) in
+    ap are_letters row ∙ letters-from (f (r + 1)) a m (λ j p q. rise.positive (r + 1) j (cell outer inner (r + 1) j first p (omega arith))) in
     let rises : row_rises (row_of T (r + 1)) ≡ true =
     ap row_rises row
     ∙ rises-from (f (r + 1)) a m
-    (λ j p q. rise.right r j (a_cell outer inner (r + 1) j first p (omega arith)) (a_cell outer inner (r + 1) (j + 1) first (omega arith) (omega arith))) in
+    (λ j p q. rise.right r j (cell outer inner (r + 1) j first p (omega arith)) (cell outer inner (r + 1) (j + 1) first (omega arith) (omega arith))) in
     ap₂ (λ x y. x && (y && cond (nat_lt (r + 1) (length T)) (stands_below inner T (r + 1)) true)) letters rises
     ∙ by (nat_lt (r + 1) (length T))
     (λ e. stands-row f outer inner r rise falls (omega (arith, ltb-true (r + 1) (length T) e, length-rows_by f outer inner)))

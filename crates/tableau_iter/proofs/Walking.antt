@@ -3,30 +3,9 @@ use Rattle.std.proofs.Common.{◌≡◌, ℕ, zero, suc, ◌+◌, ◌-◌, ◌<�
 use Rattle.sym_model.specs.Sum.{each, select}
 use Rattle.sym_model.specs.Partition.{after}
 use Rattle.sym_model.specs.Schur.{words}
+use Rattle.sym_model.proofs.Lists.{select-each, select-map, select-ext, each-ext}
 use Rattle.tableau_iter.specs.Fits.{all_fit}
 use Rattle.tableau_iter.specs.Walks.{completions, continued, later}
-
-pub select-append : {A : Type 0} (test : A → Bool) (xs ys : List A) → select test (xs ++ ys) ≡ select test xs ++ select test ys
-select-append test [] ys = refl
-select-append test (x ∷ xs) ys = by (test x) (select-append test xs ys)
-  where
-    by : (b : Bool) → select test (xs ++ ys) ≡ select test xs ++ select test ys
-        → cond b (x ∷ select test (xs ++ ys)) (select test (xs ++ ys)) ≡ cond b (x ∷ select test xs) (select test xs) ++ select test ys
-    by true e = ap (λ l. x ∷ l) e
-    by false e = e
-
-select-each : {A B : Type 0} (test : B → Bool) (f : A → List B) (xs : List A) → select test (each f xs) ≡ each (λ (x : A). select test (f x)) xs
-select-each test f [] = refl
-select-each test f (x ∷ xs) = select-append test (f x) (each f xs) ∙ ap (λ l. select test (f x) ++ l) (select-each test f xs)
-
-select-map : {A B : Type 0} (test : B → Bool) (g : A → B) (xs : List A) → select test (map g xs) ≡ map g (select (λ (x : A). test (g x)) xs)
-select-map test g [] = refl
-select-map test g (x ∷ xs) = by (test (g x)) (select-map test g xs)
-  where
-    by : (b : Bool) → select test (map g xs) ≡ map g (select (λ x. test (g x)) xs)
-        → cond b (g x ∷ select test (map g xs)) (select test (map g xs)) ≡ map g (cond b (x ∷ select (λ x. test (g x)) xs) (select (λ x. test (g x)) xs))
-    by true e = ap (λ l. g x ∷ l) e
-    by false e = e
 
 pub select-select : {A : Type 0} (f g : A → Bool) (xs : List A) → select g (select f xs) ≡ select (λ (x : A). f x && g x) xs
 select-select f g [] = refl
@@ -36,14 +15,6 @@ select-select f g (x ∷ xs) = by (f x) (select-select f g xs)
         → select g (cond b (x ∷ select f xs) (select f xs)) ≡ cond (b && g x) (x ∷ select (λ x. f x && g x) xs) (select (λ x. f x && g x) xs)
     by true e = ap (λ l. cond (g x) (x ∷ l) l) e
     by false e = e
-
-pub select-ext : (test other : List ℕ → Bool) (xs : List (List ℕ)) → ((x : List ℕ) → test x ≡ other x) → select test xs ≡ select other xs
-select-ext test other [] h = refl
-select-ext test other (x ∷ xs) h = ap₂ (λ b l. cond b (x ∷ l) l) (h x) (select-ext test other xs h)
-
-each-ext : (f g : ℕ → List (List ℕ)) (xs : List ℕ) → ((x : ℕ) → f x ≡ g x) → each f xs ≡ each g xs
-each-ext f g [] h = refl
-each-ext f g (x ∷ xs) h = ap₂ (λ a b. a ++ b) (h x) (each-ext f g xs h)
 
 -- the first letter runs over all
 pub completions-first :

@@ -1,30 +1,23 @@
 -- The counts of products and of skews as sums over the ways to add columns.
-use Rattle.std.proofs.Common.{◌≡◌, ℕ, zero, suc, ◌+◌, ◌≤◌, Bool, true, false, cond, ◌&&◌, List, [], ◌∷◌, map, length, replicate, nat_le, sym, ◌∙◌, ap, ap₂, refl, arith, ℤ, pos, ◌+ℤ◌}
-use Rattle.std.proofs.lemmas.Int.{ints}
+use Rattle.std.proofs.Common.{◌≡◌, ℕ, zero, suc, ◌+◌, ◌≤◌, true, cond, ◌&&◌, List, [], ◌∷◌, length, replicate, nat_le, sym, ◌∙◌, ap, ap₂, refl, arith, ℤ, pos}
 use Rattle.std.proofs.lemmas.Bool.{and_from, le-leb}
-use Rattle.sym_model.specs.Sum.{total, select}
-use Rattle.sym_model.specs.Partition.{Falls, IsPartition, rows, after, without_last_zeros}
+use Rattle.sym_model.specs.Sum.{total}
+use Rattle.sym_model.specs.Partition.{Falls, IsPartition, rows, without_last_zeros}
 use Rattle.sym_model.specs.Polynomial.{same, join, resize}
 use Rattle.sym_model.specs.Schur.{contains, content}
 use Rattle.sym_model.specs.GoodTableau.{is_falling, good_readings, product_count, lattice_readings, skew_count}
-use Rattle.sym_model.proofs.Sums.{total_ext}
+use Rattle.sym_model.proofs.Sums.{total_ext, length-select}
 use Rattle.sym_model.proofs.Exponents.{resize-nil}
+use Rattle.sym_model.proofs.Contents.{content-none}
+use Rattle.sym_model.proofs.SortedParts.{IsPartition-none}
 use Rattle.tableau_laws.specs.PaddedRows.{fillings_over}
 use Rattle.tableau_laws.specs.Grid.{are_tableau_columns}
 use Rattle.tableau_laws.specs.ColumnFold.{reading_of, sum_reached, is_good_by_columns, over_columns, column_lines, is_sum}
 use Rattle.tableau_laws.proofs.ColumnReadings.{content-reading}
 use Rattle.tableau_laws.proofs.ColumnSums.{of_good_columns, total_good_columns}
 use Rattle.tableau_laws.proofs.GoodReadings.{of_good, total_good_readings}
-use Rattle.sym_model.proofs.AfterLists.{length_after}
 
 -- ---- the start, padded
-
-content_nothing : (n : ℕ) → content n [] ≡ replicate n 0
-content_nothing n = zeros (after 0 n) ∙ ap (λ k. replicate k 0) (length_after 0 n)
-  where
-    zeros : (xs : List ℕ) → map {A = ℕ} {B = ℕ} (λ x. 0) xs ≡ replicate (length xs) 0
-    zeros [] = refl
-    zeros (x ∷ xs) = ap (λ l. 0 ∷ l) (zeros xs)
 
 join_zeros_resize : (n : ℕ) (start : List ℕ) → length start ≤ n → join start (replicate n 0) ≡ resize n start
 join_zeros_resize n [] h = sym (resize-nil n)
@@ -32,7 +25,7 @@ join_zeros_resize zero (a ∷ start) h = absurd (omega arith)
 join_zeros_resize (suc n) (a ∷ start) h = ap₂ ◌∷◌ (let e : a + 0 ≡ a = omega arith in e) (join_zeros_resize n start (omega arith))
 
 pub sum_at_start : (n : ℕ) (start : List ℕ) → length start ≤ n → sum_reached n start [] ≡ resize n start
-sum_at_start n start h = ap (join start) (content_nothing n) ∙ join_zeros_resize n start h
+sum_at_start n start h = ap (join start) (content-none n) ∙ join_zeros_resize n start h
 
 pub falling-resize : (n : ℕ) (parts : List ℕ) → Falls parts → is_falling (resize n parts) ≡ true
 falling-resize zero parts f = refl
@@ -58,18 +51,6 @@ total_readings_by_columns n start outer inner f s o i holds h =
 
 -- ---- counts
 
-pub count_total : {A : Type 0} (test : A → Bool) (xs : List A) → pos (length (select test xs)) ≡ total (λ (x : A). cond (test x) (pos 1) (pos 0)) xs
-count_total test [] = refl
-count_total {A} test (x ∷ xs) = by (test x) (count_total test xs)
-  where
-    by : (b : Bool) → pos (length (select test xs)) ≡ total (λ (y : A). cond (test y) (pos 1) (pos 0)) xs
-        → pos (length (cond b (x ∷ select test xs) (select test xs))) ≡ cond b (pos 1) (pos 0) +ℤ total (λ (y : A). cond (test y) (pos 1) (pos 0)) xs
-    by true e = omega (arith, ints)
-    by false e = omega (arith, ints)
-
-empty_partition : IsPartition []
-empty_partition = record { falls = tt; positive = tt }
-
 pub contains_nothing : (parts : List ℕ) → contains parts [] ≡ true
 contains_nothing [] = refl
 contains_nothing (a ∷ parts) = refl
@@ -77,11 +58,11 @@ contains_nothing (a ∷ parts) = refl
 pub product_count-columns : (k : ℕ) (λ' μ ν : List ℕ) → IsPartition λ' → IsPartition μ → rows λ' ≤ k
     → pos (product_count k λ' μ ν) ≡ over_columns k (column_lines μ []) (is_sum ν) (resize k λ') []
 product_count-columns k λ' μ ν p q h =
-    count_total (λ w. same (without_last_zeros (join λ' (content k w))) ν) (good_readings k λ' μ [])
-    ∙ total_readings_by_columns k λ' μ [] (λ s. cond (same (without_last_zeros s) ν) (pos 1) (pos 0)) p q empty_partition (contains_nothing μ) h
+    length-select (λ w. same (without_last_zeros (join λ' (content k w))) ν) (good_readings k λ' μ [])
+    ∙ total_readings_by_columns k λ' μ [] (λ s. cond (same (without_last_zeros s) ν) (pos 1) (pos 0)) p q IsPartition-none (contains_nothing μ) h
 
 pub skew_count-columns : (outer inner κ : List ℕ) → IsPartition outer → IsPartition inner → contains outer inner ≡ true
     → pos (skew_count outer inner κ) ≡ over_columns (rows outer) (column_lines outer inner) (is_sum κ) (resize (rows outer) []) []
 skew_count-columns outer inner κ p q h =
-    count_total (λ w. same (without_last_zeros (content (rows outer) w)) κ) (lattice_readings outer inner)
-    ∙ total_readings_by_columns (rows outer) [] outer inner (λ s. cond (same (without_last_zeros s) κ) (pos 1) (pos 0)) empty_partition p q h (omega arith)
+    length-select (λ w. same (without_last_zeros (content (rows outer) w)) κ) (lattice_readings outer inner)
+    ∙ total_readings_by_columns (rows outer) [] outer inner (λ s. cond (same (without_last_zeros s) κ) (pos 1) (pos 0)) IsPartition-none p q h (omega arith)

@@ -11,8 +11,9 @@ use Rattle.sym_model.specs.GoodTableau.{letter_in, column, reading_right_of, col
 use Rattle.tableau_laws.specs.PaddedRows.{put_row, transposed, padded}
 use Rattle.tableau_laws.specs.ColumnFold.{filled, reading_of, sum_reached, is_good_by_columns}
 use Rattle.tableau_laws.proofs.PaddedTableaux.{ArePositiveRows}
-use Rattle.tableau_laws.proofs.Contents.{times_in-append, content_same}
+use Rattle.tableau_laws.proofs.Contents.{content_same}
 use Rattle.sym_model.proofs.AfterLists.{after_among}
+use Rattle.sym_model.proofs.Contents.{times_in-append}
 
 -- ---- letters that are not zeros
 

@@ -1,20 +1,13 @@
 -- Contents of padded rows and columns: zeros and the order of the letters do not count.
-use Rattle.std.proofs.Common.{◌≡◌, ℕ, zero, suc, ◌+◌, ◌<◌, ◌==◌, Bool, false, cond, List, [], ◌∷◌, ◌++◌, map, replicate, drop, ◌∙◌, ap, ap₂, refl, inl, inr, arith}
+use Rattle.std.proofs.Common.{◌≡◌, ℕ, zero, suc, ◌+◌, ◌<◌, ◌==◌, Bool, false, cond, List, [], ◌∷◌, ◌++◌, map, replicate, drop, ◌∙◌, ap, refl, arith}
 use Rattle.std.proofs.lemmas.Bool.{ne_eqb}
-use Rattle.sym_model.specs.Sum.{Among}
 use Rattle.sym_model.specs.Partition.{part, after}
 use Rattle.sym_model.specs.Polynomial.{join}
 use Rattle.sym_model.specs.Schur.{times_in, letters_of, content}
 use Rattle.tableau_laws.specs.PaddedRows.{put_row, transposed, padded}
 use Rattle.sym_model.proofs.AfterLists.{after_among}
-
-pub map_among : {A B : Type 0} (f g : A → B) (xs : List A) → ((x : A) → Among x xs → f x ≡ g x) → map f xs ≡ map g xs
-map_among f g [] e = refl
-map_among f g (x ∷ xs) e = ap₂ ◌∷◌ (e x (inl refl)) (map_among f g xs (λ y m. e y (inr m)))
-
-pub times_in-append : (k : ℕ) (v w : List ℕ) → times_in k (v ++ w) ≡ times_in k v + times_in k w
-times_in-append k [] w = omega arith
-times_in-append k (a ∷ v) w = let e = times_in-append k v w in omega arith
+use Rattle.sym_model.proofs.Contents.{times_in-append}
+use Rattle.sym_model.proofs.Lists.{map-among}
 
 pub times_in-zeros : (k b : ℕ) → 0 < k → times_in k (replicate b 0) ≡ 0
 times_in-zeros k zero h = refl
@@ -25,7 +18,7 @@ times_in-zeros k (suc b) h =
 
 -- the same letters as often
 pub content_same : (n : ℕ) (v w : List ℕ) → ((k : ℕ) → 0 < k → times_in k v ≡ times_in k w) → content n v ≡ content n w
-content_same n v w e = map_among (λ k. times_in k v) (λ k. times_in k w) (after 0 n) (λ k m. let h = after_among 0 n k m in e k h.0)
+content_same n v w e = map-among (λ k. times_in k v) (λ k. times_in k w) (after 0 n) (λ k m. let h = after_among 0 n k m in e k h.0)
 
 pub times_in-padded : (k : ℕ) (inner : List ℕ) (rows : List (List ℕ)) → 0 < k → times_in k (letters_of (padded inner rows)) ≡ times_in k (letters_of rows)
 times_in-padded k inner [] h = refl
@@ -66,5 +59,5 @@ join_sums f g (x ∷ xs) = ap (λ l. (f x + g x) ∷ l) (join_sums f g xs)
 
 pub content-append : (n : ℕ) (v w : List ℕ) → content n (v ++ w) ≡ join (content n v) (content n w)
 content-append n v w =
-    map_among (λ k. times_in k (v ++ w)) (λ k. times_in k v + times_in k w) (after 0 n) (λ k m. times_in-append k v w)
+    map-among (λ k. times_in k (v ++ w)) (λ k. times_in k v + times_in k w) (after 0 n) (λ k m. times_in-append k v w)
     ∙ join_sums (λ k. times_in k v) (λ k. times_in k w) (after 0 n)

@@ -1,16 +1,17 @@
 -- Fillings with letters up to n in which only letters up to k stand are the fillings with letters up to k; so Schur
 -- polynomials in n variables restricted to k variables are those in k variables.
 use Rattle.std.proofs.Common.{◌≡◌, ℕ, zero, suc, ◌+◌, ◌-◌, ◌<◌, ◌≤◌, ◌⊎◌, ◌==◌, Bool, true, false, cond, ◌&&◌, List, [], ◌∷◌, ◌++◌, map, nat_le, sym, ◌∙◌, ap, ap₂, refl, inl, inr, arith, ℤ, pos, ◌+ℤ◌, ◌*ℤ◌}
-use Rattle.std.proofs.lemmas.Bool.{and_parts, and_from, leb-true, le-leb, lt-leb, eqb-true, eq-eqb, ne_eqb, cases_eq, cases_lt, cases_Bool}
+use Rattle.std.proofs.lemmas.Bool.{and_parts, and_from, leb-true, le-leb, eqb-true, eq-eqb, ne_eqb, cases_eq, cases_lt, cases_Bool}
 use Rattle.sym_model.specs.Sum.{total, select}
 use Rattle.sym_model.specs.Partition.{Falls, IsPartition, after}
 use Rattle.sym_model.specs.Polynomial.{Term, Same, pair, resize, all_zero, fits_in, restrict}
 use Rattle.sym_model.specs.Schur.{row_lengths, fillings_of, semistandard, contains, tableaux, times_in, letters_of, content, skew_schur}
 use Rattle.sym_model.specs.GoodTableau.{every}
 use Rattle.sym_model.proofs.Ring.{one-product}
-use Rattle.sym_model.proofs.Sums.{total_ext, total_among, total_none, total_map}
+use Rattle.sym_model.proofs.Sums.{total_ext, total_among, total_map}
 use Rattle.sym_model.proofs.Exponents.{tests_agree}
 use Rattle.sym_model.proofs.Polynomials.{pair_restrict, same_from_pair}
+use Rattle.sym_model.proofs.AfterLists.{total_after}
 use Rattle.tableau_laws.specs.PaddedRows.{letters_at, words_over, fillings_over, pattern_of}
 use Rattle.tableau_laws.specs.Grid.{is_padded_tableau}
 use Rattle.tableau_laws.proofs.Transposing.{words_sum, fillings_sum}
@@ -18,7 +19,6 @@ use Rattle.tableau_laws.proofs.PatternFillings.{Fits, AllFit, filling_tells}
 use Rattle.tableau_laws.proofs.RowSums.{of_tableaux, total_tableaux}
 use Rattle.tableau_laws.proofs.Contents.{content-padded}
 use Rattle.tableau_laws.proofs.ColumnSums.{total_under}
-use Rattle.sym_model.proofs.AfterLists.{after_among}
 
 -- whether no letter is greater than k
 abbrev pub are_up_to : ℕ → List ℕ → Bool
@@ -33,16 +33,6 @@ up_to-append k (a ∷ v) w = ap (λ b. nat_le a k && b) (up_to-append k v w) ∙
     regroup false q r = refl
 
 -- ---- letters, words, fillings
-
-total_after : (a k n : ℕ) (g : ℕ → ℤ) → k ≤ n → total (λ (x : ℕ). cond (nat_le x (a + k)) (g x) (pos 0)) (after a n) ≡ total g (after a k)
-total_after a zero n g h =
-    total_none (λ (x : ℕ). cond (nat_le x (a + 0)) (g x) (pos 0)) (after a n)
-    (λ x m. let r = after_among a n x m in let l = r.0 in ap (λ (b : Bool). cond b (g x) (pos 0)) (lt-leb x (a + 0) (omega arith)))
-total_after a (suc k) zero g h = absurd (omega arith)
-total_after a (suc k) (suc n) g h =
-    let e : a + suc k ≡ a + 1 + k = omega arith in
-    ap₂ ◌+ℤ◌ (ap (λ (b : Bool). cond b (g (a + 1)) (pos 0)) (le-leb (a + 1) (a + suc k) (omega arith)))
-    (ap (λ (i : ℕ). total (λ (x : ℕ). cond (nat_le x i) (g x) (pos 0)) (after (a + 1) n)) e ∙ total_after (a + 1) k n g (omega arith))
 
 total_letters : (k n : ℕ) (p : Bool) (g : ℕ → ℤ) → k ≤ n → total (λ (x : ℕ). cond (nat_le x k) (g x) (pos 0)) (letters_at n p) ≡ total g (letters_at k p)
 total_letters k n true g h =

@@ -7,7 +7,7 @@ use Rattle.sym_model.specs.Partition.{Falls, part, rows, columns, after, cells}
 use Rattle.sym_model.specs.Polynomial.{same, join}
 use Rattle.sym_model.specs.Schur.{words, row_lengths, fillings_of, semistandard, contains, tableaux, content, letters_of}
 use Rattle.sym_model.specs.GoodTableau.{column_reading, is_among, is_good, good_tableaux, good_readings, is_falling, every, reading_right_of}
-use Rattle.sym_model.proofs.Sums.{total_among, total_map, total_select, total_same_members, total_ext, Among-map, Among_from_map, Among-select, Among_from_select, Once-map, Once-select}
+use Rattle.sym_model.proofs.Sums.{total_among, total_map, total_select, total_same_members, total_ext, Among-map, Among_from_map, Among-select, Among_from_select, Once-map, Once-select, total_cond_list}
 use Rattle.sym_model.proofs.Exponents.{same_true, same_from}
 use Rattle.tableau_laws.specs.PaddedRows.{put_row, transposed, fillings_over, line_of, pattern_of, padded}
 use Rattle.tableau_laws.specs.Grid.{are_tableau_columns}
@@ -271,10 +271,6 @@ filling_gives n outer inner T falls holds m =
 
 -- ---- the good tableaux by their columns
 
-total_cond : {A : Type 0} (b : Bool) (f : A → ℤ) (xs : List A) → total f (cond b xs []) ≡ cond b (total f xs) (pos 0)
-total_cond true f xs = refl
-total_cond false f xs = refl
-
 both_tests : (a b : Bool) (x : ℤ) → cond a (cond b x (pos 0)) (pos 0) ≡ cond (a && b) x (pos 0)
 both_tests true b x = refl
 both_tests false b x = refl
@@ -288,7 +284,7 @@ pub total_good_tableaux : (n : ℕ) (start outer inner : List ℕ) (f h : List (
     → total f (good_tableaux n start outer inner)
     ≡ cond (nat_le (rows start) n) (total (of_good n start h) (fillings_over n (transposed (pattern_of outer inner)))) (pos 0)
 total_good_tableaux n start outer inner f h falls inner_falls holds e =
-    total_cond (nat_le (rows start) n) f (select (is_good n start outer inner) (tableaux n outer inner))
+    total_cond_list (nat_le (rows start) n) f (select (is_good n start outer inner) (tableaux n outer inner))
     ∙ ap (λ (x : ℤ). cond (nat_le (rows start) n) x (pos 0)) (
     total_select f (is_good n start outer inner) (tableaux n outer inner)
     ∙ total_columns n outer inner (λ (T : List (List ℕ)). cond (is_good n start outer inner T) (f T) (pos 0)) (λ (cs : List (List ℕ)). cond (is_good_by_columns n start cs) (h cs) (pos 0)) falls inner_falls holds

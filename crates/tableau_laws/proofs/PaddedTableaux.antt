@@ -37,7 +37,7 @@ pass_rows [] lower h = refl
 pass_rows (a ∷ upper) [] h = refl
 pass_rows (a ∷ upper) (b ∷ lower) h = ap₂ (λ (p q : Bool). p && q) (above_letter a b h.0) (pass_rows upper lower h.1)
 
-columns_rise-nothing : (upper : List ℕ) → columns_rise upper [] ≡ true
+pub columns_rise-nothing : (upper : List ℕ) → columns_rise upper [] ≡ true
 columns_rise-nothing [] = refl
 columns_rise-nothing (a ∷ upper) = refl
 

@@ -4,6 +4,7 @@ use Rattle.std.proofs.lemmas.List.{map-append}
 use Rattle.sym_model.specs.Sum.{each}
 use Rattle.sym_model.specs.Partition.{part, after}
 use Rattle.sym_model.specs.Schur.{words, row_lengths, fillings_of}
+use Rattle.sym_model.proofs.Lists.{map-map}
 use Rattle.tableau_laws.specs.PaddedRows.{words_over, fillings_over, line_of, pattern_of, padded}
 
 -- ---- each and map
@@ -20,10 +21,6 @@ pub map_each : {A B C : Type 0} (h : B → C) (f : A → List B) (xs : List A) �
 map_each h f [] = refl
 map_each h f (x ∷ xs) = map-append h (f x) (each f xs) ∙ ap (λ l. map h (f x) ++ l) (map_each h f xs)
 
-pub map_map : {A B C : Type 0} (f : B → C) (h : A → B) (xs : List A) → map f (map h xs) ≡ map (λ (x : A). f (h x)) xs
-map_map f h [] = refl
-map_map f h (x ∷ xs) = ap (λ l. f (h x) ∷ l) (map_map f h xs)
-
 map_same : {A : Type 0} (xs : List A) → xs ≡ map (λ (x : A). x) xs
 map_same [] = refl
 map_same (x ∷ xs) = ap (λ l. x ∷ l) (map_same xs)
@@ -39,7 +36,7 @@ words_over-outside n zero line = map_same (words_over n line)
 words_over-outside n (suc b) line =
     append-nil (map (λ (w : List ℕ). 0 ∷ w) (words_over n (replicate b false ++ line)))
     ∙ ap (map (λ (w : List ℕ). 0 ∷ w)) (words_over-outside n b line)
-    ∙ map_map (λ (w : List ℕ). 0 ∷ w) (λ (w : List ℕ). replicate b 0 ++ w) (words_over n line)
+    ∙ map-map (λ (w : List ℕ). 0 ∷ w) (λ (w : List ℕ). replicate b 0 ++ w) (words_over n line)
 
 pub words_over-line : (n b k : ℕ) → words_over n (line_of b k) ≡ map (λ (w : List ℕ). replicate b 0 ++ w) (words n k)
 words_over-line n b k = words_over-outside n b (replicate k true) ∙ ap (map (λ (w : List ℕ). replicate b 0 ++ w)) (words_over-cells n k)
@@ -59,8 +56,8 @@ padded_row n k inner rests padded_rests e =
     row_padded : (row : List ℕ) → map (padded inner) (map (λ (rest : List (List ℕ)). row ∷ rest) rests)
         ≡ map (λ (rest : List (List ℕ)). (replicate (part inner 1) 0 ++ row) ∷ rest) padded_rests
     row_padded row =
-        map_map (padded inner) (λ (rest : List (List ℕ)). row ∷ rest) rests
-        ∙ sym (map_map (λ (rest : List (List ℕ)). (replicate (part inner 1) 0 ++ row) ∷ rest) (padded (drop 1 inner)) rests)
+        map-map (padded inner) (λ (rest : List (List ℕ)). row ∷ rest) rests
+        ∙ sym (map-map (λ (rest : List (List ℕ)). (replicate (part inner 1) 0 ++ row) ∷ rest) (padded (drop 1 inner)) rests)
         ∙ ap (map (λ (rest : List (List ℕ)). (replicate (part inner 1) 0 ++ row) ∷ rest)) e
 
 pub padded-fillings : (n : ℕ) (outer inner : List ℕ) → map (padded inner) (fillings_of n (row_lengths outer inner)) ≡ fillings_over n (pattern_of outer inner)

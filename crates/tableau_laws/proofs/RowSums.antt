@@ -64,14 +64,14 @@ total_tableaux n outer inner f g falls holds e =
 
 -- ---- the rows of a shape are not longer than those above
 
-length_line : (a b : ℕ) → b ≤ a → length (line_of b (a - b)) ≡ a
+pub length_line : (a b : ℕ) → b ≤ a → length (line_of b (a - b)) ≡ a
 length_line a b h =
     let e = length-append (replicate b false) (replicate (a - b) true) in
     let p = length-replicate b false in
     let q = length-replicate (a - b) true in
     omega arith
 
-contains_rest : (a : ℕ) (outer inner : List ℕ) → contains (a ∷ outer) inner ≡ true → (part inner 1 ≤ a) × (contains outer (drop 1 inner) ≡ true)
+pub contains_rest : (a : ℕ) (outer inner : List ℕ) → contains (a ∷ outer) inner ≡ true → (part inner 1 ≤ a) × (contains outer (drop 1 inner) ≡ true)
 contains_rest a outer [] h = (omega arith, contains_nothing outer)
   where
     contains_nothing : (parts : List ℕ) → contains parts [] ≡ true

@@ -8,6 +8,7 @@ use Rattle.std.proofs.lemmas.List.{take_more, length-map}
 use Rattle.sym_model.specs.Sum.{Among}
 use Rattle.sym_model.specs.ExpressionOffence.{OffenceKind, is_wide, literal, range, shape, rank}
 use Rattle.sym_model.specs.CommandOffence.{Offence, Rule, first_offence, offences_by, offences_after, left_of, falls, stays, stands_in, entry_above, when, is_outside, greatest_letter}
+use Rattle.sym_model.proofs.Lists.{slice_get-within}
 use Rattle.word_laws.specs.JudgedRows.{is_too_much, is_too_long, cell_rule, is_disordered, is_no_record}
 use Rattle.calc_words.specs.declared.offence.Kind.{Kind}
 use Rattle.calc_words.specs.declared.offence.Kind.TheVariants.{Literal, Shape}
@@ -98,11 +99,6 @@ take_length (a ∷ ns) (suc i) h = let e = take_length ns i (omega (arith, h)) i
 pub before_length : (ns : List ℕ) (i : ℕ) → i ≤ length ns → length (before_of ns i) ≡ i
 before_length ns i h = let e = onto_length (take i ns) [] in let f = take_length ns i h in omega (arith, e, f)
 
-get_some : (ns : List ℕ) (i : ℕ) → i < length ns → slice_get ns i ≡ Some (get_or ns i 0)
-get_some [] i h = absurd (omega (arith, h))
-get_some (a ∷ ns) zero h = refl
-get_some (a ∷ ns) (suc i) h = get_some ns i (omega (arith, h))
-
 before_left : (ns : List ℕ) (i : ℕ) → i < length ns → left_of (before_of ns i) ≡ left_at ns i
 before_left ns zero h = refl
 before_left ns (suc i) h =
@@ -110,7 +106,7 @@ before_left ns (suc i) h =
     let l : i < length ns = omega (arith, h) in
     ap (λ n. left_of (before_of ns n)) e
     ∙ ap left_of (before_next ns i l)
-    ∙ sym (get_some ns i l)
+    ∙ sym (slice_get-within ns i l)
     ∙ (let z : i ≡ suc i - 1 = omega arith in ap (slice_get ns) z)
     ∙ (let z : (suc i == 0) ≡ false = not_zero i in ap (λ b. cond b None (slice_get ns (suc i - 1))) (sym z))
   where
@@ -195,7 +191,7 @@ first_place rule at ns = let z : at ≡ at + 0 = omega arith in ap (λ n. first_
 pub at_place : {A : Type 0} (f : A → List ℕ) (g : List ℕ → ℕ) (ws : List A) (i : ℕ) (x : A) → i < length ws → x ≡ get_or ws i x
     → slice_get (map g (map f ws)) i ≡ Some (g (f x))
 at_place f g ws i x h e =
-    let k = counted f g ws in get_some (map g (map f ws)) i (omega (arith, h, k)) ∙ ap Some (number_at f g ws i x h e)
+    let k = counted f g ws in slice_get-within (map g (map f ws)) i (omega (arith, h, k)) ∙ ap Some (number_at f g ws i x h e)
 
 pub past_place : {A : Type 0} (f : A → List ℕ) (g : List ℕ → ℕ) (ws : List A) (i : ℕ) → length ws ≤ i → slice_get (map g (map f ws)) i ≡ None
 past_place f g ws i h = let k = counted f g ws in slice_get_past (map g (map f ws)) i (omega (arith, h, k))

@@ -9,8 +9,8 @@ use Rattle.sym_model.specs.ExpressionOffence.{shape, range, literal, is_wide}
 use Rattle.sym_model.specs.CommandOffence.{Offence, first_offence, offences_by, offences_after, entry_rule, row_offences, count_offences, length_offences, empty_row_offences, order_offences, standard_offences, when, is_outside, greatest_letter, falls, stays, left_of, stands_in, entry_above, most_letters, rows_in}
 use Rattle.sym_model.specs.Grammar.{insertion_offences, filled_offences}
 use Rattle.sym_model.specs.WordForms.{numbers}
-use Rattle.word_laws.proofs.FirstOffences.{empty-none}
 use Rattle.word_laws.specs.WrittenRows.{row_text, rows_at, left_at}
+use Rattle.word_laws.proofs.FirstOffences.{first_none}
 use Rattle.tableau_words.specs.WrittenPairs.{IsWrittenPair}
 use Rattle.tableau_words.proofs.EmptyRows.{empties}
 use Rattle.tableau_words.proofs.FaultlessRows.{faultless_letters, faultless_order, faultless_lengths}
@@ -406,11 +406,11 @@ pub written_pair : (k : ℕ) (first second : List Words) (lengths : List ℕ) �
 written_pair k first second lengths s t q h g =
     let rows = rows_at k second in
     let a = none_append (filled_offences rows) (left_at k lengths second ++ standard_offences (size lengths) [] [] rows)
-    (empty-none (filled_offences rows ++ (left_at k lengths second ++ standard_offences (size lengths) [] [] rows)) g) in
+    (first_none (filled_offences rows ++ (left_at k lengths second ++ standard_offences (size lengths) [] [] rows)) g) in
     let b = none_append (left_at k lengths second) (standard_offences (size lengths) [] [] rows) a.1 in
     let c = none_append (row_offences entry_rule rows) (count_offences 0 rows) a.0 in
     let some : 0 < length lengths = subst (λ ls. 0 < length ls) (sym q) (some_lengths first s) in
     let same = faultless_lengths k lengths second some t b.0 in
-    paired k first second (size lengths) s t (empty-none (insertion_offences (rows_at 1 first)) h)
+    paired k first second (size lengths) s t (first_none (insertion_offences (rows_at 1 first)) h)
     (record { entries = c.0; stands = b.1 })
     (number_lengths second ∙ same ∙ q ∙ sym (number_lengths first)) (ap size (q ∙ sym (number_lengths first)))

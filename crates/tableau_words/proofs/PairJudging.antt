@@ -13,7 +13,7 @@ use Rattle.sym_model.specs.CommandOffence.{Offence, PlacedRow, first_offence, of
 use Rattle.sym_model.specs.Grammar.{insertion_offences, filled_offences, unrsk_entry, unrsk_offends}
 use Rattle.sym_model.specs.WordForms.{tableau_words, numbers, placed_rows, tableau_rows, shape_offences}
 use Rattle.sym_model.specs.Form.{words_of}
-use Rattle.word_laws.proofs.FirstOffences.{first-among, empty-none}
+use Rattle.word_laws.proofs.FirstOffences.{first-among, first_none}
 use Rattle.word_laws.specs.WrittenRows.{row_text, further_text, rows_text, tableau_written, rows_at, left_at}
 use Rattle.word_laws.specs.JudgedRows.{earlier, inserted, recorded, cell_rule, is_disordered}
 use Rattle.word_laws.proofs.EarlierOffences.{first_of_both, tally_append, first_alike}
@@ -201,7 +201,7 @@ second_of_pair first second k lengths s t e p q h =
     ∙ ap (λ os. first_offence (filled_offences (rows_at m second) ++ os))
     (sym (none_judged inserts (shape_offences m ls (rows_text second) ++ standard_offences (size ls) [] [] (rows_at m second)) h))
     ∙ ap (λ os. first_offence ((os ++ filled_offences (rows_at m second)) ++ judged_against inserts (shape_offences m ls (rows_text second) ++ standard_offences (size ls) [] [] (rows_at m second))))
-    (sym (empty-none inserts h))
+    (sym (first_none inserts h))
 
 -- the rows of the second, judged by numbers and by lengths
 pub recording_first : (cells : ℕ) (rows : List PlacedRow) (lefts : List Offence)
@@ -252,14 +252,14 @@ no_entry_first [] k h = refl
 no_entry_first (w ∷ ws) k h =
     let rows = rows_at (k + length (row_text w) + 1) ws in
     let all = rows_at k (w ∷ ws) in
-    let a = none_append (((filled_offences all ++ length_offences (numbers w) rows) ++ empty_row_offences all)) (order_offences 0 [] [] all) (empty-none (insertion_offences all) h) in
+    let a = none_append (((filled_offences all ++ length_offences (numbers w) rows) ++ empty_row_offences all)) (order_offences 0 [] [] all) (first_none (insertion_offences all) h) in
     let b = none_append (filled_offences all ++ length_offences (numbers w) rows) (empty_row_offences all) a.0 in
     let c = none_append (filled_offences all) (length_offences (numbers w) rows) b.0 in
     (none_append (row_offences entry_rule all) (count_offences 0 all) c.0).0
 
 pub no_entry_second : (rows : List PlacedRow) (more : List Offence) → first_offence (filled_offences rows ++ more) ≡ None → row_offences entry_rule rows ≡ []
 no_entry_second rows more h =
-    let a = none_append (filled_offences rows) more (empty-none (filled_offences rows ++ more) h) in
+    let a = none_append (filled_offences rows) more (first_none (filled_offences rows ++ more) h) in
     (none_append (row_offences entry_rule rows) (count_offences 0 rows) a.0).0
 
 pub lengths_fit : (ws : List Words) → size (map length ws) ≤ length (further_text ws)

@@ -13,7 +13,7 @@ use Rattle.sym_model.specs.Command.{rect}
 use Rattle.sym_model.specs.CommandOffence.{Offence, PlacedRow, first_offence, offences_by, offences_after, part_offences, part_rule, inside_rule, judged_against, entry_rule, row_offences, order_offences, when, falls, stays, left_of, entry_above, rows_in}
 use Rattle.sym_model.specs.Grammar.{rect_entry, rect_offends, inner_offences}
 use Rattle.sym_model.specs.WordForms.{tableau_words, numbers, partition, placed_rows, shape_offences}
-use Rattle.word_laws.proofs.FirstOffences.{first-among, empty-none}
+use Rattle.word_laws.proofs.FirstOffences.{first-among, first_none}
 use Rattle.word_laws.specs.WrittenRows.{rows_text, tableau_written, rows_at, left_at}
 use Rattle.word_laws.specs.JudgedRows.{earlier, skewed}
 use Rattle.word_laws.proofs.EarlierOffences.{first_of_both, tally_append, first_alike}
@@ -69,7 +69,7 @@ pub no_entry_skew : (k : ℕ) (outer inner : List ℕ) (rows : List Words) → f
 no_entry_skew k outer inner rows h =
     (none_append (row_offences entry_rule (rows_at k rows))
     (shape_offences k (row_lengths outer inner) (rows_text rows) ++ order_offences 0 [] inner (rows_at k rows))
-    (empty-none (skew_offences k outer inner rows) h)).0
+    (first_none (skew_offences k outer inner rows) h)).0
 
 -- ---- zeros at the end of a partition as it is written
 
@@ -214,7 +214,7 @@ neither_first outer inner rows parts e n h =
     first_of_both outers inners ∙ ap (λ x. earlier x (first_offence inners)) n ∙ ap first_offence (sym (inner_is m parts outer inner e n)) ∙ h in
     ap (λ os. first_offence (fills ++ (shapes ++ os))) (order_same 0 [] (numbers inner) (rows_at k rows))
     ∙ ap (λ os. first_offence (fills ++ os)) (sym (none_judged (outers ++ inners) later none))
-    ∙ ap (λ os. first_offence ((os ++ fills) ++ judged_against (outers ++ inners) later)) (sym (empty-none (outers ++ inners) none))
+    ∙ ap (λ os. first_offence ((os ++ fills) ++ judged_against (outers ++ inners) later)) (sym (first_none (outers ++ inners) none))
 
 -- ---- the words
 

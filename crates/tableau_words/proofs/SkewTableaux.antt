@@ -1,6 +1,6 @@
 -- A skew tableau without an offence is a tableau.
-use Rattle.std.proofs.Common.{◌≡◌, ℕ, zero, suc, ◌+◌, ◌-◌, ◌<◌, ◌≤◌, nat_lt, true, ◌&&◌, List, [], ◌∷◌, ◌++◌, map, length, get_or, refl, sym, ap, ◌∙◌, subst, arith, None}
-use Rattle.std.proofs.lemmas.Bool.{le-leb, ltb-false, eq-eqb}
+use Rattle.std.proofs.Common.{◌≡◌, ℕ, zero, suc, ◌+◌, ◌-◌, ◌<◌, ◌≤◌, nat_lt, true, List, [], ◌∷◌, ◌++◌, map, length, get_or, refl, sym, ap, ◌∙◌, subst, arith, None}
+use Rattle.std.proofs.lemmas.Bool.{ltb-false}
 use Rattle.sym_model.specs.Partition.{part, IsPartition, without_last_zeros}
 use Rattle.sym_model.specs.Schur.{row_lengths, contains}
 use Rattle.sym_model.specs.Tableau.{IsTableau}
@@ -8,8 +8,8 @@ use Rattle.sym_model.specs.ExpressionOffence.{shape}
 use Rattle.sym_model.specs.Form.{EachOf}
 use Rattle.sym_model.specs.CommandOffence.{first_offence, offences_by, offences_after, inside_rule, entry_rule, row_offences, order_offences, rows_in}
 use Rattle.sym_model.specs.WordForms.{numbers, shape_offences}
-use Rattle.word_laws.proofs.FirstOffences.{empty-none}
 use Rattle.word_laws.specs.WrittenRows.{rows_text, rows_at}
+use Rattle.word_laws.proofs.FirstOffences.{first_none}
 use Rattle.tableau_words.specs.AskedLengths.{asked_lengths}
 use Rattle.calc_words.specs.NumberRuns.{IsNumber}
 use Rattle.tableau_words.specs.SkewWords.{skew_offences}
@@ -17,6 +17,7 @@ use Rattle.tableau_words.proofs.FaultlessRows.{faultless_letters, faultless_orde
 use Rattle.tableau_words.proofs.PairJudging.{left_shape_of, number_lengths}
 use Rattle.tableau_words.proofs.SkewJudging.{asked_shape, asked_some, get_same}
 use Rattle.calc_words.proofs.WrittenLists.{none_append, none_next, not_when}
+use Rattle.strip_laws.proofs.Containment.{contains_from_places}
 
 abbrev Words : Type 0
 Words = List (List ℕ)
@@ -38,19 +39,10 @@ none_inside outer before k (a ∷ ns) h (suc j) =
     (let y : length (a ∷ before) + j ≡ length before + suc j = omega arith in ap (λ i. get_or outer i 0) y) in
     omega (arith, r, z)
 
-contains_by : (outer inner : List ℕ) → ((j : ℕ) → get_or inner j 0 ≤ get_or outer j 0) → contains outer inner ≡ true
-contains_by [] [] h = refl
-contains_by (a ∷ outer) [] h = refl
-contains_by [] (b ∷ inner) h =
-    let z : b ≡ 0 = (let y = h 0 in omega (arith, y)) in
-    ap (λ x. x && contains [] inner) (eq-eqb b 0 z) ∙ contains_by [] inner (λ j. let y = h (suc j) in y)
-contains_by (a ∷ outer) (b ∷ inner) h =
-    ap (λ x. x && contains outer inner) (le-leb b a (h 0)) ∙ contains_by outer inner (λ j. h (suc j))
-
 pub inside_contains : (outer : List ℕ) (k : ℕ) (ns : List ℕ) → first_offence (offences_by (inside_rule outer) k ns) ≡ None → contains outer (without_last_zeros ns) ≡ true
 inside_contains outer k ns h =
-    let n = none_inside outer [] k ns (empty-none (offences_by (inside_rule outer) k ns) h) in
-    contains_by outer (without_last_zeros ns)
+    let n = none_inside outer [] k ns (first_none (offences_by (inside_rule outer) k ns) h) in
+    contains_from_places outer (without_last_zeros ns)
     (λ j.
     let e = get_same ns j in
     let y = n j in
@@ -88,7 +80,7 @@ skew_tableau k outer inner ws o i c s e h =
     let fills = row_offences entry_rule (rows_at k ws) in
     let shapes = shape_offences k (row_lengths outer inner) (rows_text ws) in
     let orders = order_offences 0 [] inner (rows_at k ws) in
-    let p = none_append fills (shapes ++ orders) (empty-none (skew_offences k outer inner ws) h) in
+    let p = none_append fills (shapes ++ orders) (first_none (skew_offences k outer inner ws) h) in
     let q = none_append shapes orders p.1 in
     let left = sym (asked_shape k outer inner (rows_text ws) ∙ left_shape_of k (asked_lengths outer inner) ws (asked_some outer inner) s e) ∙ q.0 in
     tableau_in outer inner k ws o i c p.0 (faultless_lengths k (asked_lengths outer inner) ws (asked_some outer inner) s left) q.1

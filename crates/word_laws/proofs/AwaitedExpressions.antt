@@ -4,7 +4,7 @@ use Rattle.std.proofs.lemmas.Bool.{and_parts, and_from, or_cases, or_left, or_ri
 use Rattle.sym_model.specs.Sum.{Among}
 use Rattle.sym_model.proofs.Sums.{Among-append_left, Among-append_right, Among_from_append, Among-map, Among_from_map, Among-each, Among_from_each}
 use Rattle.sym_model.specs.Form.{exact, number, target, formula, Form, empty, word, sequence, either, many, SomeOf, Has, Awaits, fits, is_skippable, derivatives, after_word, after_words, awaits_next, some_awaits_next, TellsExpressions}
-use Rattle.word_laws.proofs.Derivatives.{sequence_parts, has_more, has_none, skipped, skippable, derivative_sound, derivative_complete, Splits, inside, behind, splits}
+use Rattle.word_laws.proofs.Derivatives.{sequence_parts, has_more, has_none, skipped, skippable, derivative_sound, derivative_complete, Splits, inside, behind, splits, among_cond_true, among_cond as from_cond}
 use Rattle.word_laws.proofs.LongestPrefixes.{some_in, some_out}
 
 abbrev Words : Type 0
@@ -64,14 +64,6 @@ pub record AwaitsAfter (reads : List ℕ → Bool) (f : Form) (text : List ℕ) 
   pub among : Among next (derivatives reads f text)
   pub awaits : Awaits next ws
 
-among_cond : {A : Type 0} (b : Bool) (x : A) (xs : List A) → b ≡ true → Among x xs → Among x (cond b xs [])
-among_cond true x xs h m = m
-among_cond false x xs h m = cc
-
-from_cond : {A : Type 0} (b : Bool) (x : A) (xs : List A) → Among x (cond b xs []) → (b ≡ true) × Among x xs
-from_cond true x xs m = (refl, m)
-from_cond false x xs m = absurd m
-
 pub awaits_after : (reads : List ℕ → Bool) → TellsExpressions reads → (f : Form) (text : List ℕ) (ws : Words)
     → Awaits f (text ∷ ws) → AwaitsAfter reads f text ws
 awaits_after reads tells empty text ws h = absurd h
@@ -105,7 +97,7 @@ awaits_after reads tells (sequence f g) text ws (inr h) =
         record {
           next = n.next;
           among = Among-append_right n.next (map (λ h. sequence h g) (derivatives reads f text)) (cond (is_skippable f) (derivatives reads g text) [])
-              (among_cond (is_skippable f) n.next (derivatives reads g text) (skippable f h.3.written (sym h.3.spelled ∙ e)) n.among);
+              (among_cond_true (is_skippable f) n.next (derivatives reads g text) (skippable f h.3.written (sym h.3.spelled ∙ e)) n.among);
           awaits = n.awaits;
         }
 awaits_after reads tells (either f g) text ws (inl h) =

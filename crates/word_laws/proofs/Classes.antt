@@ -8,6 +8,7 @@ use Rattle.sym_model.specs.Expansion.{Basis}
 use Rattle.sym_model.specs.NumberWord.{AreDigits, IsNumberWord}
 use Rattle.sym_model.specs.Phrase.{numeral, letter, spelling}
 use Rattle.sym_model.specs.Form.{Class, exact, number, target, formula, WrittenWord, word_of, SomeOf, MayBe, is_digit, are_digits, is_number_word, is_letter_of, fits, TellsExpressions, has_words}
+use Rattle.expression_laws.proofs.PhrasePrefixes.{one_is_number}
 
 digits_sound : (text : List ℕ) → are_digits text ≡ true → AreDigits text
 digits_sound [] h = tt
@@ -66,13 +67,10 @@ fits_complete reads tells number x h = number_complete x h
 fits_complete reads tells (target bases) x h = letter_complete bases x h
 fits_complete reads tells formula x h = tells.complete (spelling x) x (record { allowed = h; spelled = refl })
 
-is_one : IsNumberWord (codes "1")
-is_one = record { nonempty = omega arith; digits = ((omega arith, omega arith), tt) }
-
 -- a class that has words has one
 pub some_word : (c : Class) → has_words c ≡ true → (x : WrittenWord c) × MayBe c x
 some_word (exact w) h = (tt, tt)
-some_word number h = (codes "1", is_one)
+some_word number h = (codes "1", one_is_number)
 some_word (target []) h = cc
 some_word (target (b ∷ bases)) h = (b, inl refl)
-some_word formula h = (numeral (codes "1"), is_one)
+some_word formula h = (numeral (codes "1"), one_is_number)

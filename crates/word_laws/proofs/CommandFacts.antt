@@ -14,7 +14,7 @@ use Rattle.sym_model.specs.Entry.{Entry, SpellsFreely, SpellsWithoutOffence}
 use Rattle.sym_model.specs.Grammar.{entries_of, mult_entry, skew_entry, coef_entry, coprod_entry, tab_entry, quantum_entry, fusion_entry, schubert_entry, schubmult_entry, expand_entry, rsk_entry, unrsk_entry, rect_entry, batch_entry, work_entry}
 use Rattle.word_laws.specs.Reading.{forms_of}
 use Rattle.word_laws.proofs.LongestPrefixes.{CanBe, some_words}
-use Rattle.word_laws.proofs.FirstOffences.{empty-none}
+use Rattle.word_laws.proofs.FirstOffences.{first_none}
 
 abbrev Words : Type 0
 Words = List (List ℕ)
@@ -80,7 +80,7 @@ expanded bases words target one_line t h =
     let k = 2 + length (words_of (optional form_words) x.1.0) in
     let basis = x.1.1.0 in
     let phrase = x.1.1.1 in
-    let none = no_map (placed k) (offences basis phrase) (empty-none (expression_offences k basis phrase) h.no_offence) in
+    let none = no_map (placed k) (offences basis phrase) (first_none (expression_offences k basis phrase) h.no_offence) in
     subst (λ b. degree t ≤ degree_limit b) (sym (ap target_of h.says_it))
     (subst (λ e. degree e ≤ degree_limit basis) (sym (ap expression_of h.says_it)) (within_degree basis phrase none))
 

@@ -79,11 +79,11 @@ skippable (either f g) (inl x) h = or_left (is_skippable f) (is_skippable g) (sk
 skippable (either f g) (inr x) h = or_right (is_skippable f) (is_skippable g) (skippable g x h)
 skippable (many f) x h = refl
 
-among_cond : {A : Type 0} (b : Bool) (x : A) (xs : List A) → Among x (cond b xs []) → (b ≡ true) × Among x xs
+pub among_cond : {A : Type 0} (b : Bool) (x : A) (xs : List A) → Among x (cond b xs []) → (b ≡ true) × Among x xs
 among_cond true x xs m = (refl, m)
 among_cond false x xs m = absurd m
 
-among_cond_true : {A : Type 0} (b : Bool) (x : A) (xs : List A) → b ≡ true → Among x xs → Among x (cond b xs [])
+pub among_cond_true : {A : Type 0} (b : Bool) (x : A) (xs : List A) → b ≡ true → Among x xs → Among x (cond b xs [])
 among_cond_true true x xs h m = m
 among_cond_true false x xs h m = cc
 

@@ -5,7 +5,8 @@ use Rattle.std.proofs.lemmas.Bool.{and_parts}
 use Rattle.sym_model.specs.Sum.{Among}
 use Rattle.sym_model.specs.ExpressionOffence.{OffenceKind, literal, range, shape, rank}
 use Rattle.sym_model.specs.CommandOffence.{Offence, is_no_later, earlier_of, first_offence}
-use Rattle.word_laws.proofs.FirstOffences.{first-among, empty-none}
+use Rattle.sym_model.proofs.Numbers.{nat_le-trans, not_le-trans}
+use Rattle.word_laws.proofs.FirstOffences.{first-among, first_none}
 use Rattle.word_laws.specs.JudgedRows.{earlier}
 
 -- ---- places are in one order
@@ -39,12 +40,6 @@ both_ways a b true false h k = absurd (grind (arith, nat_tests))
 both_ways a b false true h k = absurd (grind (arith, nat_tests))
 both_ways a b false false h k = absurd (grind (arith, nat_tests))
 
-ranks_on : (a b c : ℕ) → nat_le a b ≡ true → nat_le b c ≡ true → nat_le a c ≡ true
-ranks_on a b c h k = grind (arith, nat_tests)
-
-ranks_not : (a b c : ℕ) → nat_le a b ≡ false → nat_le b c ≡ false → nat_le a c ≡ false
-ranks_not a b c h k = grind (arith, nat_tests)
-
 ranks_both : (a b : ℕ) → nat_le a b ≡ true → nat_le b a ≡ true → a ≡ b
 ranks_both a b h k = grind (arith, nat_tests)
 
@@ -54,12 +49,12 @@ inner o p = goes o.1 p.1 (nat_le (rank o.2) (rank p.2))
 pub later_on : (o p q : Offence) → is_no_later o p ≡ true → is_no_later p q ≡ true → is_no_later o q ≡ true
 later_on o p q =
     goes_on o.0 p.0 q.0 (inner o p) (inner p q) (inner o q)
-    (goes_on o.1 p.1 q.1 (nat_le (rank o.2) (rank p.2)) (nat_le (rank p.2) (rank q.2)) (nat_le (rank o.2) (rank q.2)) (ranks_on (rank o.2) (rank p.2) (rank q.2)))
+    (goes_on o.1 p.1 q.1 (nat_le (rank o.2) (rank p.2)) (nat_le (rank p.2) (rank q.2)) (nat_le (rank o.2) (rank q.2)) (nat_le-trans (rank o.2) (rank p.2) (rank q.2)))
 
 pub later_not : (o p q : Offence) → is_no_later o p ≡ false → is_no_later p q ≡ false → is_no_later o q ≡ false
 later_not o p q =
     goes_not o.0 p.0 q.0 (inner o p) (inner p q) (inner o q)
-    (goes_not o.1 p.1 q.1 (nat_le (rank o.2) (rank p.2)) (nat_le (rank p.2) (rank q.2)) (nat_le (rank o.2) (rank q.2)) (ranks_not (rank o.2) (rank p.2) (rank q.2)))
+    (goes_not o.1 p.1 q.1 (nat_le (rank o.2) (rank p.2)) (nat_le (rank p.2) (rank q.2)) (nat_le (rank o.2) (rank q.2)) (not_le-trans (rank o.2) (rank p.2) (rank q.2)))
 
 same_kind : (a b : OffenceKind) → rank a ≡ rank b → a ≡ b
 same_kind literal literal h = refl
@@ -147,7 +142,7 @@ first_least (x ∷ os) o p h m = by (first_offence os) refl h m (first_least os)
     by : (rest : Option Offence) → first_offence os ≡ rest → earlier_of x rest ≡ Some o → Among p (x ∷ os)
         → ((q r : Offence) → first_offence os ≡ Some q → Among r os → is_no_later q r ≡ true) → is_no_later o p ≡ true
     by None e h (inl s) ih = let xo : x ≡ o = cc in subst (λ q. is_no_later o q ≡ true) (sym xo ∙ sym s) (itself o)
-    by None e h (inr s) ih = absurd (subst (Among p) (empty-none os e) s)
+    by None e h (inr s) ih = absurd (subst (Among p) (first_none os e) s)
     by (Some y) e h m ih = first_is (is_no_later x y) y refl h m (ih y p e)
 
 -- one of them that is no later than any is the first
@@ -156,7 +151,7 @@ pub first_is_least : (os : List Offence) (o : Offence) → Among o os → ((p : 
 first_is_least os o m h = by (first_offence os) refl
   where
     by : (rest : Option Offence) → first_offence os ≡ rest → rest ≡ Some o
-    by None e = absurd (subst (Among o) (empty-none os e) m)
+    by None e = absurd (subst (Among o) (first_none os e) m)
     by (Some q) e = ap Some (one_place q o (first_least os q o e m) (h q (first-among os q e)))
 
 -- how often an offence stands among others, and how many of them come before it
@@ -212,7 +207,7 @@ first_alike xs ys h = by (first_offence xs) refl
 
     by : (first : Option Offence) → first_offence xs ≡ first → first ≡ first_offence ys
     by None e =
-        let none : xs ≡ [] = empty-none xs e in
+        let none : xs ≡ [] = first_none xs e in
         sym (ap first_offence (no_more ys (sym (h (λ p. 1)) ∙ ap (tally (λ p. 1)) none)))
     by (Some o) e =
         let among = some_at o xs (first-among xs o e) in

@@ -48,7 +48,7 @@ has_spells (e ∷ entries) words (inr h) = let r = has_spells entries words h in
 
 -- ---- where words go wrong
 
-not_true : (b : Bool) → b ≡ false → b ≡ true → ⊥
+pub not_true : (b : Bool) → b ≡ false → b ≡ true → ⊥
 not_true b h k = cc
 
 begins_entry : (entries : List Entry) (ws : Words) → BeginsOne (forms_of entries) ws → BeginsCommand entries ws

@@ -79,7 +79,7 @@ comes_no_later x y (inl h) = test_less x.0 y.0 (goes_first x.1 (rank x.2) y.1 (r
 comes_no_later x y (inr h) =
     test_equal x.0 y.0 (goes_first x.1 (rank x.2) y.1 (rank y.2)) h.0 (first_before x.1 (rank x.2) y.1 (rank y.2) h.1)
 
-first_none : (os : List Offence) → first_offence os ≡ None → os ≡ []
+pub first_none : (os : List Offence) → first_offence os ≡ None → os ≡ []
 first_none [] h = refl
 first_none (x ∷ os) h = absurd (by (first_offence os) h)
   where
@@ -93,9 +93,6 @@ first_none (x ∷ os) h = absurd (by (first_offence os) h)
 
 pub none-empty : (os : List Offence) → os ≡ [] → first_offence os ≡ None
 none-empty os h = ap first_offence h
-
-pub empty-none : (os : List Offence) → first_offence os ≡ None → os ≡ []
-empty-none os h = first_none os h
 
 -- which of two it is
 one_of : (x y o : Offence) (c : Bool) → cond c (Some x) (Some y) ≡ Some o → ((c ≡ true) × (o ≡ x)) ⊎ ((c ≡ false) × (o ≡ y))

@@ -26,7 +26,7 @@ some_words (either f g) h =
     let p = and_parts (can_be f) (can_be g) h in let l = some_words f p.0 in (l.0, has_left f g l.0 l.1)
 some_words (many f) h = ([], has_none f)
 
-among_cond : {A : Type 0} (b : Bool) (x : A) (xs : List A) → Among x (cond b xs []) → Among x xs
+pub among_cond : {A : Type 0} (b : Bool) (x : A) (xs : List A) → Among x (cond b xs []) → Among x xs
 among_cond true x xs m = m
 among_cond false x xs m = absurd m
 

@@ -13,7 +13,7 @@ use Rattle.sym_model.specs.WordForms.{row_words, tableau_words, row_entries, pla
 use Rattle.expression_laws.proofs.PhraseRuns.{one_phrase}
 use Rattle.word_laws.specs.Reading.{is_expression}
 use Rattle.word_laws.proofs.Derivatives.{has_sequence}
-use Rattle.word_laws.proofs.LongestPrefixes.{BeginsOne, taken_longest, whole_sound, whole_complete}
+use Rattle.word_laws.proofs.LongestPrefixes.{BeginsOne, taken_longest, whole_sound, whole_complete, among_cond}
 use Rattle.word_laws.proofs.Readings.{one_written}
 use Rattle.word_laws.proofs.ExpressionWords.{tells_expressions}
 
@@ -55,10 +55,6 @@ same_derivatives r s (either f g) text h =
     ∙ ap (λ hs. derivatives s f text ++ hs) (same_derivatives r s g text p.1)
 same_derivatives r s (many f) text h = ap (map (λ h. sequence h (many f))) (same_derivatives r s f text h)
 
-from_cond : {A : Type 0} (b : Bool) (x : A) (xs : List A) → Among x (cond b xs []) → Among x xs
-from_cond true x xs m = m
-from_cond false x xs m = absurd m
-
 plain_cond : (b : Bool) (h : Form) → Among h (cond b (empty ∷ []) []) → is_plain h ≡ true
 plain_cond true h (inl e) = ap is_plain e
 plain_cond true h (inr m) = absurd m
@@ -80,7 +76,7 @@ plain_derivative r (sequence f g) h text p m =
     by e (inl a) l k =
         let b = Among_from_map (λ h. sequence h g) h (derivatives r f text) a in
         ap is_plain b.2 ∙ and_from (is_plain b.0) (is_plain g) (l b.0 b.1) e
-    by e (inr a) l k = k (from_cond (is_skippable f) h (derivatives r g text) a)
+    by e (inr a) l k = k (among_cond (is_skippable f) h (derivatives r g text) a)
 plain_derivative r (either f g) h text p m =
     let q = and_parts (is_plain f) (is_plain g) p in
     elim (Among_from_append h (derivatives r f text) (derivatives r g text) m) [

@@ -1,5 +1,5 @@
 -- Where a reader of words stands: what is still to be read of the commands, and where words go wrong from there.
-use Rattle.std.proofs.Common.{◌≡◌, ℕ, suc, ◌+◌, ◌<◌, Bool, true, false, List, [], ◌∷◌, ◌++◌, length, length-append, take, refl, sym, ap, ◌∙◌, subst, arith, inl, inr}
+use Rattle.std.proofs.Common.{◌≡◌, ℕ, suc, ◌+◌, ◌<◌, true, false, List, [], ◌∷◌, ◌++◌, length, length-append, take, refl, sym, ap, ◌∙◌, subst, arith, inl, inr}
 use Rattle.std.specs.Prelude.{slice_index_or}
 use Rattle.std.proofs.Math.Seq.{take-append_seam, get_or-append_seam}
 use Rattle.std.proofs.lemmas.List.{append-nil}
@@ -12,7 +12,7 @@ use Rattle.sym_model.specs.SyntaxPlace.{IsExpressionWord, IsSyntaxPlace}
 use Rattle.word_laws.specs.Reading.{is_expression, forms_of}
 use Rattle.word_laws.proofs.LongestPrefixes.{CanBe, whole_complete}
 use Rattle.word_laws.proofs.AwaitedExpressions.{awaits_sound, awaits_complete}
-use Rattle.word_laws.proofs.EntryLists.{of_forms, to_forms, spells_has, word_longest}
+use Rattle.word_laws.proofs.EntryLists.{of_forms, to_forms, spells_has, word_longest, not_true}
 use Rattle.word_laws.proofs.ExpressionWords.{tells_expressions}
 
 abbrev Words : Type 0
@@ -72,9 +72,6 @@ taken-append forms (u ∷ us) vs f next h =
 taken_none : (forms : List Form) (text : List ℕ) (rest : Words) → after_word is_expression forms text ≡ []
     → taken is_expression forms (text ∷ rest) ≡ 0
 taken_none forms text rest h = ap (λ fs. one_more fs (taken is_expression (after_word is_expression forms text) rest)) h
-
-not_true : (b : Bool) → b ≡ false → b ≡ true → ⊥
-not_true b h k = cc
 
 at_end : (n : ℕ) → n + 0 ≡ n
 at_end n = omega arith

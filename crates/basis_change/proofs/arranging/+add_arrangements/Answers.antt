@@ -4,8 +4,7 @@ use Rattle.std.proofs.lemmas.Result.{on_ok_weaker}
 use Rattle.sym_model.specs.Sum.{each}
 use Rattle.sym_model.specs.Partition.{size}
 use Rattle.sym_model.specs.Alternant.{staircase}
-use Rattle.alternant_laws.proofs.Staircase.{length_staircase}
-use Rattle.partitions.proofs.Parts.{size-append}
+use Rattle.sym_model.proofs.Parts.{length-staircase, size-append}
 use Rattle.sparse_polys.proofs.Steps.{error_is}
 use Rattle.basis_change.specs.Mixed.{Mixed, Added}
 use Rattle.basis_change.specs.Arranging.{straight_term, straight_terms, OverflowsSomewhere}
@@ -17,7 +16,7 @@ use Rattle.basis_change.proofs.arranging.+add_arrangements.Goals.{then-greatest-
 pub add_straight-requires-clause-few : goal.add_straight-requires-clause-few
 add_straight-requires-clause-few t c =
     let e = ap length (c.deref.ensures.value ∙ c.in_ok-entries.ensures) ∙ length-append c.args.front.now (staircase c.args.places) in
-    let s = length_staircase c.args.places in
+    let s = length-staircase c.args.places in
     let h = c.requires.few in
     omega arith
 

@@ -7,7 +7,7 @@ use Rattle.basis_change.specs.Mixed.{weighed, weight, AreReady, converted_terms}
 use Rattle.basis_change.specs.Clearing.{cleared_terms, HasFactors}
 use Rattle.basis_change.specs.Costs.{cost}
 use Rattle.basis_change.specs.Factors.{product_value}
-use Rattle.basis_change.proofs.Costs.{cost-positive, factorial-positive}
+use Rattle.basis_change.proofs.Costs.{cost-positive}
 use Rattle.basis_change.proofs.CostTable.{has-factors}
 use Rattle.basis_change.proofs.Bounds.{large-number, large-denominator, weight-mono}
 use Rattle.basis_change.proofs.Starts.{none-large, start-cost, table-cost, table-ready}
@@ -15,6 +15,7 @@ use Rattle.basis_change.proofs.Ends.{expansion-changed}
 use Rattle.basis_change.proofs.change.by_augmented.Goals as goal
 use native.Mathlib.Nat.{mul-pos, mul-le-mul_left}
 use lib.IntN.{+ℤ_idl}
+use Rattle.monomial_laws.proofs.Growths.{factorial-positive}
 
 pub returns-in_default-clause-large : goal.returns-in_default-clause-large
 returns-in_default-clause-large c err d w =

@@ -2,11 +2,12 @@ use Rattle.std.proofs.Common.{◌+◌, ◌∷◌, [], ◌++◌, map, take, drop,
 use Rattle.sparse_polys.proofs.Steps.{error_is}
 use Rattle.sym_model.specs.RaisedPart.{raise}
 use Rattle.sym_model.proofs.SortedParts.{IsPartition-raise, size-raise, has-zero_or}
+use Rattle.sym_model.proofs.Lists.{slice_get-within}
 use Rattle.basis_expand.proofs.PartitionTerms.{IsWithinLimits-low}
 use Rattle.basis_change.specs.declared.mixed.MixedLabel.{MixedLabel}
 use Rattle.basis_change.specs.Mixed.{Mixed, Added, Overflows, mixed}
 use Rattle.basis_change.proofs.Tables.{Added-then, Overflows-then, Overflows-front}
-use Rattle.basis_change.proofs.Walks.{map-next, map-whole, get-index, part-within, has-index}
+use Rattle.basis_change.proofs.Walks.{map-next, map-whole, part-within, has-index}
 use Rattle.basis_change.proofs.products.take_raised.Goals as goal
 
 pub take_one-requires-clause-small : goal.take_one-requires-clause-small
@@ -27,7 +28,7 @@ returns-in_err-take_one-clause-large c err =
     let xs = c.args.augmented.now in
     let i = c.loop-part.part-index in
     let x = get_or c.args.augmented.now c.loop-part.part-index 0 in
-    subst (λ (l : Mixed). Overflows l c.args.sum.now.entries) (map-whole h xs i x (get-index c.args.augmented.now c.loop-part.part-index c.loop-part-test.true))
+    subst (λ (l : Mixed). Overflows l c.args.sum.now.entries) (map-whole h xs i x (slice_get-within c.args.augmented.now c.loop-part.part-index c.loop-part-test.true))
     (Overflows-front (map h (take i xs) ++ (h x ∷ [])) (map h (drop (i + 1) xs)) c.args.sum.now.entries
     (Overflows-then (map h (take i xs)) (h x ∷ []) c.args.sum.now.entries c.loop-part.sum.entries c.loop-part.invariant
     (c.in_err-take_one.ensures.large (ap Err (error_is _ _ _ c.from_residual.ensures.1 err)))))
@@ -38,5 +39,5 @@ loop-part-preserved c =
     let xs = c.args.augmented.now in
     let i = c.loop-part.part-index in
     let x = get_or c.args.augmented.now c.loop-part.part-index 0 in
-    subst (λ (l : Mixed). Added l c.args.sum.now.entries c.take_one.new.sum.entries) (sym (map-next h xs i x (get-index c.args.augmented.now c.loop-part.part-index c.loop-part-test.true)))
+    subst (λ (l : Mixed). Added l c.args.sum.now.entries c.take_one.new.sum.entries) (sym (map-next h xs i x (slice_get-within c.args.augmented.now c.loop-part.part-index c.loop-part-test.true)))
     (Added-then (map h (take i xs)) (h x ∷ []) c.args.sum.now.entries c.loop-part.sum.entries c.take_one.new.sum.entries c.loop-part.invariant c.in_ok-take_one.ensures.ok)

@@ -8,8 +8,9 @@ use Rattle.sym_model.specs.WholeTerms.{numerators}
 use Rattle.sparse_polys.specs.Combination.{terms_of, HasMoreAt}
 use Rattle.sparse_polys.proofs.Steps.{all_done, error_is, IsCombination-empty}
 use Rattle.sparse_polys.proofs.Rows.{list_whole}
+use Rattle.sparse_polys.proofs.Coefficients.{numerators-terms}
 use Rattle.basis_expand.specs.Tables.{equal, found, IsTable}
-use Rattle.basis_expand.proofs.Quotients.{Quotients, Quotients-none, Quotients-next, coefficient-before, not_refused_quotient, numerators-whole}
+use Rattle.basis_expand.proofs.Quotients.{Quotients, Quotients-none, Quotients-next, coefficient-before, not_refused_quotient}
 use Rattle.basis_expand.proofs.division.divided.Goals as goal
 
 pub loop-label-init : goal.loop-label-init
@@ -59,4 +60,4 @@ returns-clause-value c =
     let done = map deref_pair c.loop-label.yielded in
     let entries = all_done (map deref_pair c.loop-label.yielded) c.loop-label.label-iterator _ _ c.in-None.ensures.steps.0 c.loop-label.invariant.so_far c.into_iter-label-iterator.ensures.into_iter_gives in
     let all : numerators (terms_of whole (map deref_pair c.loop-label.yielded)) ≡ numerators c.args.terms.now = ap numerators (ap (terms_of whole) entries ∙ c.iter-label-items.ensures.rest) in
-    subst (Quotients c.args.den c.loop-label.list) (sym (numerators-whole done) ∙ all) c.loop-label.invariant.quotients
+    subst (Quotients c.args.den c.loop-label.list) (sym (numerators-terms done) ∙ all) c.loop-label.invariant.quotients

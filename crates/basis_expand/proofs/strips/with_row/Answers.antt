@@ -1,7 +1,7 @@
 use Rattle.std.proofs.Common.{◌≡◌, List, ℕ, ◌∷◌, ◌++◌, sym, ◌∙◌, ap, subst}
 use Rattle.partitions.specs.Limits.{IsWithinLimits}
+use Rattle.sparse_polys.proofs.Coefficients.{if_answered}
 use Rattle.basis_expand.proofs.StripLists.{with_row_numbers}
-use Rattle.basis_expand.proofs.WholeLists.{if_ok}
 use Rattle.basis_expand.proofs.strips.with_row.Goals as goal
 
 pub from_valid_numbers-requires : goal.from_valid_numbers-requires
@@ -14,5 +14,5 @@ pub returns : goal.returns
 returns c =
     let list : c.deref.result.now ≡ c.args.row ∷ c.args.rest.now =
     c.deref.ensures.value ∙ c.in_ok-extend_from_slice.ensures.items ∙ ap (λ (l : List ℕ). l ++ c.args.rest.now) c.in_ok-rows.ensures.items in
-    if_ok c.from_valid_numbers.result c.from_valid_numbers.ensures.ok
+    if_answered c.from_valid_numbers.result c.from_valid_numbers.ensures.ok
     (λ shape e. e ∙ with_row_numbers c.args.row c.args.rest.now c.deref.result.now c.requires.rest.partition list)

@@ -1,6 +1,6 @@
 use Rattle.std.proofs.Common.{subst}
 use Rattle.sym_model.specs.WholeTerms.{AreWhole}
-use Rattle.basis_expand.proofs.WholeLists.{AreWhole-terms_of}
+use Rattle.sparse_polys.proofs.Expansions.{AreWhole-terms_of}
 use Rattle.basis_expand.proofs.whole.is_whole.Goals as goal
 
 pub returns-clause-whole : goal.returns-clause-whole

@@ -2,7 +2,7 @@ use Rattle.std.proofs.Common.{arith, subst, ap, List, ℕ, pos}
 use Rattle.coeff_rings.specs.Fractions.{whole}
 use Rattle.sym_model.specs.Expansion.{Fraction}
 use Rattle.sym_model.specs.Partition.{size}
-use Rattle.basis_expand.proofs.WholeLists.{if_ok}
+use Rattle.sparse_polys.proofs.Coefficients.{if_answered}
 use Rattle.direct_schurs.specs.SchurLists.{IsOneTerm}
 use Rattle.direct_schurs.proofs.OneTerms.{expansion_monomial, bounded_monomial, within_monomial}
 use Rattle.direct_schurs.proofs.atoms.from_monomial.Goals as goal
@@ -22,7 +22,7 @@ to_basis-requires-clause-sizes c t m =
 
 pub returns : goal.returns
 returns c =
-    if_ok c.to_basis.result c.to_basis.ensures.value
+    if_answered c.to_basis.result c.to_basis.ensures.value
     (λ list h n. h n _ 1
     (expansion_monomial c.args.label.now c.in_ok-list.list
     (subst (λ (l : List ℕ). IsOneTerm l (whole (pos 1)) c.in_ok-list.list) c.parts.ensures.value

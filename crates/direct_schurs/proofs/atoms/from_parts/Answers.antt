@@ -1,7 +1,7 @@
 use Rattle.std.proofs.Common.{arith, [], sym, ap, subst, List, ℕ}
 use Rattle.sym_model.specs.Expansion.{schurs, Fraction, IsExpansionOf}
 use Rattle.sym_model.specs.Partition.{ArePositive, size}
-use Rattle.basis_expand.proofs.WholeLists.{if_ok}
+use Rattle.sparse_polys.proofs.Coefficients.{if_answered}
 use Rattle.direct_schurs.specs.Families.{product_of}
 use Rattle.direct_schurs.specs.SchurLists.{IsOneTerm}
 use Rattle.direct_schurs.proofs.OneTerms.{expansion_schur}
@@ -16,7 +16,7 @@ times_parts-requires-clause-low c = let s = ap size c.parts.ensures.value in let
 
 pub returns : goal.returns
 returns c =
-    if_ok c.times_parts.result c.times_parts.ensures
+    if_answered c.times_parts.result c.times_parts.ensures
     (λ list h n.
     subst (λ (l : List ℕ). IsExpansionOf schurs list n (product_of c.args.family l n) 1) c.parts.ensures.value
     (product_alone c.args.family c.parts.result.now c.in_ok-one.one list n (h n)

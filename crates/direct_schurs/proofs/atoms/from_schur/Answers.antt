@@ -1,14 +1,14 @@
 use Rattle.std.proofs.Common.{subst, List, ℕ, pos}
 use Rattle.coeff_rings.specs.Fractions.{whole}
 use Rattle.sym_model.specs.Expansion.{Fraction}
-use Rattle.basis_expand.proofs.WholeLists.{if_ok}
+use Rattle.sparse_polys.proofs.Coefficients.{if_answered}
 use Rattle.direct_schurs.specs.SchurLists.{IsOneTerm}
 use Rattle.direct_schurs.proofs.OneTerms.{expansion_schur}
 use Rattle.direct_schurs.proofs.atoms.from_schur.Goals as goal
 
 pub returns : goal.returns
 returns c =
-    if_ok c.single.result c.single.ensures
+    if_answered c.single.result c.single.ensures
     (λ list is.
     expansion_schur c.args.label.now list
     (subst (λ (l : List ℕ). IsOneTerm l (whole (pos 1)) list) c.parts.ensures.value (subst (λ (x : Fraction). IsOneTerm c.parts.result.now x list) c.one.ensures.value is)))

@@ -2,8 +2,8 @@ use Rattle.std.proofs.Common.{◌≡◌, sym, subst}
 use Rattle.std.specs.Prelude.{IfOk}
 use Rattle.sym_model.specs.Expression.{atom, product}
 use Rattle.calc_expressions.specs.Trees.{tree_of}
+use Rattle.sparse_polys.proofs.Coefficients.{if_answered}
 use Rattle.basis_expand.proofs.TreeFacts.{HasDenominators-plain}
-use Rattle.basis_expand.proofs.WholeLists.{if_ok}
 use Rattle.direct_schurs.specs.Families.{basis_in}
 use Rattle.direct_schurs.specs.SchurLists.{StandsFor}
 use Rattle.direct_schurs.proofs.Factors.{factor_times}
@@ -44,7 +44,7 @@ returns-in-Some t c =
     let left = rw c.deref-in-Some.ensures at c.in_ok-converted-in-Product.ensures in
     rw c.in-Product.is
     (subst (λ g. IfOk c.times_parts.result (StandsFor (product e g))) (sym factor)
-    (if_ok c.times_parts.result c.times_parts.ensures
+    (if_answered c.times_parts.result c.times_parts.ensures
     (λ list h. right_factor e (basis_in family) c.in-Some.label.now list
     (factor_times family e c.parts.result.now c.in-Some.label.now c.in_ok-converted-in-Product.field-0 list c.parts.ensures.value h left))))
 
@@ -56,7 +56,7 @@ returns-in-Some-factors_of t c =
     let right = rw c.deref-in-Some-factors_of.ensures at c.in_ok-converted-in-Product-2.ensures in
     rw c.in-Product.is
     (subst (λ g. IfOk c.times_parts-in-Some-factors_of.result (StandsFor (product g e))) (sym factor)
-    (if_ok c.times_parts-in-Some-factors_of.result c.times_parts-in-Some-factors_of.ensures
+    (if_answered c.times_parts-in-Some-factors_of.result c.times_parts-in-Some-factors_of.ensures
     (λ list h. left_factor e (basis_in family) c.in-Some-factors_of.label.now list
     (factor_times family e c.parts-in-Some-factors_of.result.now c.in-Some-factors_of.label.now c.in_ok-converted-in-Product-2.field-0 list c.parts-in-Some-factors_of.ensures.value h right))))
 
@@ -64,4 +64,4 @@ pub returns-in_ok-second-in-Product : goal.returns-in_ok-second-in-Product
 returns-in_ok-second-in-Product t c =
     let left = rw c.deref-in-Product-3.ensures at c.in_ok-first-in-Product.ensures in
     let right = rw c.deref-in-Product-4.ensures at c.in_ok-second-in-Product.ensures in
-    rw c.in-Product.is (if_ok c.product.result c.product.ensures (λ list h n. h n _ _ _ _ (left n) (right n)))
+    rw c.in-Product.is (if_answered c.product.result c.product.ensures (λ list h n. h n _ _ _ _ (left n) (right n)))

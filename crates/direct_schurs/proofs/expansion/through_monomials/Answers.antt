@@ -3,7 +3,7 @@ use Rattle.sym_model.specs.Expansion.{schurs}
 use Rattle.calc_expressions.specs.Trees.{tree_of}
 use Rattle.calc_expressions.proofs.WeightFacts.{positive}
 use Rattle.calc_expressions.proofs.GrowthFacts.{wide-weight}
-use Rattle.basis_expand.proofs.WholeLists.{if_ok}
+use Rattle.sparse_polys.proofs.Coefficients.{if_answered}
 use Rattle.direct_schurs.proofs.Weights.{heavy_for_s}
 use Rattle.direct_schurs.proofs.expansion.through_monomials.Goals as goal
 
@@ -23,4 +23,4 @@ to_basis-requires-clause-positive c =
 
 pub returns-clause-value : goal.returns-clause-value
 returns-clause-value c =
-    if_ok c.to_basis.result c.to_basis.ensures.value (λ list h n. h n _ _ (c.in-Ok.ensures.value n))
+    if_answered c.to_basis.result c.to_basis.ensures.value (λ list h n. h n _ _ (c.in-Ok.ensures.value n))

@@ -9,8 +9,8 @@ use Rattle.sym_model.specs.Polynomial.{pair, times}
 use Rattle.sym_model.specs.Schur.{schur}
 use Rattle.sym_model.specs.WholeTerms.{WholeTerms, AreWhole, numerators}
 use Rattle.sparse_polys.specs.Combination.{terms_of}
-use Rattle.basis_expand.proofs.Quotients.{numerators-whole}
-use Rattle.basis_expand.proofs.WholeLists.{AreWhole-terms_of}
+use Rattle.sparse_polys.proofs.Coefficients.{numerators-terms}
+use Rattle.sparse_polys.proofs.Expansions.{AreWhole-terms_of}
 use Rattle.direct_schurs.specs.SchurLists.{product_at}
 use Rattle.direct_schurs.proofs.ListProducts.{counted, listed_next, listed_product, nothing_left, nothing_right}
 use Rattle.direct_schurs.proofs.Tables.{Adds-none, Adds-term, Adds-then, Adds-same}
@@ -52,7 +52,7 @@ returns c q some cd cleared =
     sym (append-nil c.loop-shape.yielded) ∙ ap (λ (xs : WholeTerms). c.loop-shape.yielded ++ xs) (sym none) ∙ c.loop-shape.invariant.so_far in
     let given : terms_of whole (into_iter_items c.into_iter-shape-iterator.result) ≡ c.in_ok-terms.terms = c.into_iter-shape-iterator.ensures.into_iter_gives in
     let told : c.loop-shape.yielded ≡ numerators c.in_ok-terms.terms =
-    all ∙ sym (numerators-whole (into_iter_items c.into_iter-shape-iterator.result)) ∙ ap numerators given in
+    all ∙ sym (numerators-terms (into_iter_items c.into_iter-shape-iterator.result)) ∙ ap numerators given in
     let whole_terms : AreWhole c.in_ok-terms.terms = subst AreWhole given (AreWhole-terms_of (into_iter_items c.into_iter-shape-iterator.result)) in
     Adds-same q c.args.sum.now c.loop-shape.sum _ _
     (λ n φ.

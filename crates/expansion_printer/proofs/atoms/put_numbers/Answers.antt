@@ -1,9 +1,9 @@
 use Rattle.std.proofs.Common.{ℕ, ◌∙◌, ap, map, get_or}
 use Rattle.std.specs.Prelude.{codes, decimal}
 use Rattle.sym_model.specs.TableauText.{separated}
+use Rattle.sym_model.proofs.Lists.{get_or-any}
 use Rattle.calc_base.proofs.PutsLaws.{Puts-then, Puts-as}
 use Rattle.expansion_printer.proofs.Texts.{numbers_text-separated, numerals-more, numerals-all, map_same}
-use Rattle.expansion_printer.proofs.LineTexts.{get_or-any}
 use Rattle.expansion_printer.proofs.atoms.put_numbers.Goals as goal
 
 pub loop-at-preserved : goal.loop-at-preserved

@@ -2,10 +2,11 @@ use Rattle.std.proofs.Common.{Iter, ◌≡◌, ◌<◌, List, [], ◌∷◌, ◌
 use Rattle.std.proofs.lemmas.List.{map-append}
 use Rattle.sym_model.specs.Expansion.{Fraction}
 use Rattle.sym_model.specs.PrintedBlock.{lines_by}
+use Rattle.sym_model.proofs.Lists.{all_read}
 use Rattle.calc_base.proofs.PutsLaws.{Puts-then, Puts-as, Puts-nothing}
 use Rattle.sparse_polys.specs.Combination.{terms_of}
 use Rattle.expansion_printer.specs.HeldTerms.{AreHeld}
-use Rattle.expansion_printer.proofs.Texts.{all_read, lines_by-push, block_by-some, block_by-nothing}
+use Rattle.expansion_printer.proofs.Texts.{lines_by-push, block_by-some, block_by-nothing}
 use Rattle.expansion_printer.proofs.PrintableTerms.{AreHeld-push, held-none}
 use Rattle.expansion_printer.proofs.block.put_terms.Goals as goal
 

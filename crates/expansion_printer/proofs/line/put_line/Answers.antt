@@ -2,11 +2,11 @@ use Rattle.std.proofs.Common.{Iter, ◌≡◌, ◌<◌, ℕ, List, [], ◌∷◌
 use Rattle.std.specs.Prelude.{codes}
 use Rattle.std.proofs.lemmas.List.{map-append}
 use Rattle.sym_model.specs.Expansion.{Fraction, Terms}
+use Rattle.sym_model.proofs.Lists.{all_read}
 use Rattle.calc_base.proofs.PutsLaws.{Puts-then, Puts-as}
 use Rattle.calc_expressions.specs.Trees.{basis_of}
 use Rattle.sparse_polys.specs.Combination.{terms_of}
 use Rattle.expansion_printer.specs.HeldTerms.{AreHeld}
-use Rattle.expansion_printer.proofs.Texts.{all_read}
 use Rattle.expansion_printer.proofs.PrintableTerms.{AreHeld-push}
 use Rattle.expansion_printer.specs.SignedTerms.{signed_terms, is_empty}
 use Rattle.expansion_printer.proofs.LineTexts.{signed_terms-push, is_empty-push, one_line-some}

@@ -1,4 +1,4 @@
-use Rattle.expression_laws.proofs.FirstOffences.{first-among, none-before, none-empty, empty-none}
+use Rattle.expression_laws.proofs.FirstOffences.{first-among, none-before, none-empty, first_none}
 use Rattle.expression_laws.proofs.first_offence.first_offence_law.Goals as goal
 
 pub returns-clause-is_one : goal.returns-clause-is_one
@@ -8,4 +8,4 @@ pub returns-clause-none_before : goal.returns-clause-none_before
 returns-clause-none_before c = none-before
 
 pub returns-clause-none : goal.returns-clause-none
-returns-clause-none c = λ os. (empty-none os, none-empty os)
+returns-clause-none c = λ os. (first_none os, none-empty os)

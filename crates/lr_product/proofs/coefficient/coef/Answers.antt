@@ -1,7 +1,8 @@
 use Rattle.std.proofs.Common.{◌∙◌}
 use Rattle.lr_product.proofs.GoodCounts.{coef_past, coef_fits}
-use Rattle.lr_product.proofs.Results.{if_answered, on_answered}
 use Rattle.alternant_laws.proofs.CountedTerms.{coef_meets}
+use Rattle.sparse_polys.proofs.Coefficients.{if_answered}
+use Rattle.sparse_polys.proofs.ClearedSums.{on_ok}
 use Rattle.lr_product.proofs.coefficient.coef.Goals as goal
 
 pub returns-clause-meets : goal.returns-clause-meets
@@ -14,4 +15,4 @@ returns-clause-large c = λ e. coef_past c.args.outer.now c.args.left.now c.args
 
 pub returns-clause-fits : goal.returns-clause-fits
 returns-clause-fits c =
-    on_answered c.count_in.result c.count_in.ensures.fits (coef_fits c.args.outer.now c.args.left.now c.args.right.now c.count_in.ensures.factors.0 c.count_in.ensures.factors.1 c.count_in.ensures.factors.2)
+    on_ok c.count_in.result c.count_in.ensures.fits (coef_fits c.args.outer.now c.args.left.now c.args.right.now c.count_in.ensures.factors.0 c.count_in.ensures.factors.1 c.count_in.ensures.factors.2)

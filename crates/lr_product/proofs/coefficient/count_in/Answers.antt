@@ -1,6 +1,7 @@
 use Rattle.std.proofs.Common.{◌∙◌, ap, arith, pos}
 use Rattle.schur_laws.proofs.ProductCounts.{product_exchanged}
-use Rattle.lr_product.proofs.Results.{if_answered, on_answered}
+use Rattle.sparse_polys.proofs.Coefficients.{if_answered}
+use Rattle.sparse_polys.proofs.ClearedSums.{on_ok}
 use Rattle.lr_product.proofs.coefficient.count_in.Goals as goal
 
 pub returns-then-size-clause-value : goal.returns-then-size-clause-value
@@ -17,4 +18,4 @@ returns-then-size-clause-large c = λ e.
 pub returns-then-size-clause-fits : goal.returns-then-size-clause-fits
 returns-then-size-clause-fits c =
     let same = product_exchanged c.args.right.now c.args.left.now c.args.outer.now c.count_inside.ensures.factors.1 c.count_inside.ensures.factors.2 c.count_inside.ensures.factors.0 in
-    on_answered c.count_inside.result c.count_inside.ensures.fits (λ fits. omega arith)
+    on_ok c.count_inside.result c.count_inside.ensures.fits (λ fits. omega arith)

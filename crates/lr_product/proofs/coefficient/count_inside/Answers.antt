@@ -2,9 +2,10 @@ use Rattle.std.proofs.Common.{◌≡◌, ◌+◌, true, sym, subst, ap, ap₂, �
 use Rattle.std.specs.Int.{w128}
 use Rattle.std.proofs.lemmas.Int.{to_z_pos}
 use Rattle.sym_model.specs.Schur.{contains}
+use Rattle.strip_laws.proofs.Containment.{contains-from}
 use Rattle.schur_laws.proofs.ProductCounts.{product_outside}
 use Rattle.lr_product.proofs.Sums.{counted_shape, not_past}
-use Rattle.lr_product.proofs.GoodCounts.{contains-from, contains-false, product_count-other_size}
+use Rattle.lr_product.proofs.GoodCounts.{contains-false, product_count-other_size}
 use Rattle.lr_product.proofs.coefficient.count_inside.Goals as goal
 
 pub returns-then-size-clause-value : goal.returns-then-size-clause-value

@@ -1,8 +1,9 @@
 use Rattle.std.proofs.Common.{◌≡◌, ap, ◌∙◌, arith}
 use Rattle.sym_model.specs.Polynomial.{resize}
+use Rattle.sym_model.proofs.Exponents.{length-resize}
 use Rattle.lr_product.specs.WeighedSum.{at_state, weighed}
 use Rattle.lr_product.proofs.Agreeing.{agree_same, agree_then}
-use Rattle.lr_product.proofs.Rounds.{at_whole, length-resize}
+use Rattle.lr_product.proofs.Rounds.{at_whole}
 use Rattle.lr_product.proofs.columns.first_table.Goals as goal
 
 pub returns : goal.returns

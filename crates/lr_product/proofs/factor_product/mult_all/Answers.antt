@@ -1,7 +1,9 @@
 use Rattle.std.proofs.Common.{◌≡◌, ◌∙◌, ap, max, map}
 use Rattle.std.specs.Option.{unwrap_or}
 use Rattle.sym_model.specs.Partition.{size, rows}
-use Rattle.lr_product.proofs.Results.{if_answered, on_answered, on_any}
+use Rattle.sparse_polys.proofs.Coefficients.{if_answered}
+use Rattle.sparse_polys.proofs.ClearedSums.{on_ok}
+use Rattle.lr_product.proofs.Results.{on_any}
 use Rattle.lr_product.proofs.PastCoefficients.{past_factors, small_factors}
 use Rattle.lr_product.proofs.NothingLeft.{nothing_meets, nothing_fits}
 use Rattle.lr_product.proofs.factor_product.mult_all.Goals as goal
@@ -30,4 +32,4 @@ pub returns-clause-fits : goal.returns-clause-fits
 returns-clause-fits c =
     let e : c.unwrap_or-variables.result ≡ unwrap_or c.args.rows (max (size (map rows c.args.factors.now)) 1) =
     c.unwrap_or-variables.ensures ∙ ap (unwrap_or c.args.rows) (c.max.ensures ∙ ap (λ n. max n 1) c.rows.ensures.value) in
-    on_answered c.product_in.result c.product_in.ensures.small (small_factors c.args.rows c.unwrap_or-variables.result c.args.factors.now c.rows.ensures.limits e)
+    on_ok c.product_in.result c.product_in.ensures.small (small_factors c.args.rows c.unwrap_or-variables.result c.args.factors.now c.rows.ensures.limits e)

@@ -4,13 +4,14 @@ use Rattle.std.specs.Int.{w128}
 use Rattle.std.specs.Cmp.Lexicographic.{pointwise}
 use Rattle.coeff_rings.specs.Fractions.{whole}
 use Rattle.coeff_rings.specs.Checked.{checked_i128}
+use Rattle.coeff_rings.proofs.Sizes.{answered_is}
 use Rattle.sym_model.specs.Polynomial.{Same}
 use Rattle.sym_model.specs.WholeTerms.{numerators}
 use Rattle.sparse_polys.specs.Combination.{coefficient, HasMoreAt}
 use Rattle.sparse_polys.specs.Refusal.{IsRefused}
 use Rattle.sparse_polys.proofs.Steps.{error_is}
 use Rattle.lr_product.proofs.TableLists.{Same-more}
-use Rattle.lr_product.proofs.CountSums.{answered_is, refused_product, refused_sum, small_more}
+use Rattle.lr_product.proofs.CountSums.{refused_product, refused_sum, small_more}
 use Rattle.lr_product.proofs.next_factor.add_product.Goals as goal
 
 pub returns-in_default-clause-large : goal.returns-in_default-clause-large

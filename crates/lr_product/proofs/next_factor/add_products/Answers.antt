@@ -6,7 +6,8 @@ use Rattle.sym_model.specs.Target.{classical_product}
 use Rattle.product_laws.specs.FactorSteps.{ArePartitions}
 use Rattle.product_laws.proofs.SomeLabel.{are_two}
 use Rattle.product_laws.proofs.Growing.{two_counts}
-use Rattle.lr_product.proofs.Results.{error_of, on_answered}
+use Rattle.sparse_polys.proofs.ClearedSums.{on_ok}
+use Rattle.lr_product.proofs.Results.{error_of}
 use Rattle.lr_product.proofs.CountSums.{Reaches-same, Reaches-scaled, Same-scaled, scaled_within}
 use Rattle.lr_product.proofs.PastCoefficients.{past_reaches}
 use Rattle.lr_product.proofs.Partial.{term_of}
@@ -28,7 +29,7 @@ add_terms-requires-clause-counts c = λ t m.
 
 pub returns-clause-sums : goal.returns-clause-sums
 returns-clause-sums c =
-    on_answered c.add_terms.result c.add_terms.ensures.sums
+    on_ok c.add_terms.result c.add_terms.ensures.sums
     (Same-scaled c.args.c (numerators c.add_terms.new.sums) (numerators c.args.sums.now) (numerators c.in-Ok.terms) (classical_product c.args.variables (c.args.label.now ∷ c.args.next.now ∷ [])) c.in-Ok.ensures.classical)
 
 pub returns-clause-large : goal.returns-clause-large

@@ -4,9 +4,10 @@ use Rattle.std.proofs.lemmas.List.{map-append}
 use Rattle.coeff_rings.specs.Fractions.{whole}
 use Rattle.sym_model.specs.Polynomial.{Same, coefficient, scale}
 use Rattle.sym_model.specs.WholeTerms.{WholeTerms, numerators}
+use Rattle.sym_model.proofs.Lists.{all_read}
 use Rattle.sparse_polys.specs.Combination.{terms_of}
 use Rattle.sparse_polys.proofs.Steps.{error_is}
-use Rattle.lr_product.proofs.FactorSums.{all_read, read_of, term_count, terms_next, terms_large}
+use Rattle.lr_product.proofs.FactorSums.{read_of, term_count, terms_next, terms_large}
 use Rattle.lr_product.proofs.next_factor.add_terms.Goals as goal
 
 pub loop-shape-init : goal.loop-shape-init

@@ -1,6 +1,6 @@
 use Rattle.std.proofs.Common.{subst}
 use Rattle.sym_model.specs.WholeTerms.{AreWhole}
-use Rattle.lr_product.proofs.TableLists.{AreWhole-terms_of}
+use Rattle.sparse_polys.proofs.Expansions.{AreWhole-terms_of}
 use Rattle.lr_product.proofs.next_factor.is_canonical.Goals as goal
 
 pub returns-clause-whole : goal.returns-clause-whole

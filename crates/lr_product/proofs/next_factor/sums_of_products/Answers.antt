@@ -4,11 +4,12 @@ use Rattle.std.proofs.lemmas.List.{map-append}
 use Rattle.coeff_rings.specs.Fractions.{whole}
 use Rattle.sym_model.specs.Polynomial.{Same}
 use Rattle.sym_model.specs.WholeTerms.{WholeTerms, numerators}
+use Rattle.sym_model.proofs.Lists.{all_read}
 use Rattle.product_laws.specs.FactorSteps.{multiplied}
 use Rattle.sparse_polys.specs.Combination.{terms_of}
 use Rattle.sparse_polys.proofs.Steps.{error_is}
 use Rattle.lr_product.proofs.CountSums.{small_same}
-use Rattle.lr_product.proofs.FactorSums.{all_read, read_of, label_met, products_next, products_large}
+use Rattle.lr_product.proofs.FactorSums.{read_of, label_met, products_next, products_large}
 use Rattle.lr_product.proofs.next_factor.sums_of_products.Goals as goal
 
 pub add_products-requires-clause-sizes : goal.add_products-requires-clause-sizes

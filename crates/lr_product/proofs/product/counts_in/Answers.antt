@@ -4,8 +4,10 @@ use Rattle.sym_model.specs.GoodTableau.{product_count}
 use Rattle.alternant_laws.specs.GoodSums.{ListsCounts}
 use Rattle.lr_product.specs.Counts.{good_count, IsPastSomewhere}
 use Rattle.schur_laws.proofs.ProductCounts.{product_count-none}
+use Rattle.sparse_polys.proofs.Coefficients.{if_answered}
+use Rattle.sparse_polys.proofs.ClearedSums.{on_ok}
 use Rattle.lr_product.proofs.GoodCounts.{none_counted, same_product, lists_in, fits_in, past_in}
-use Rattle.lr_product.proofs.Results.{if_answered, on_answered, on_any}
+use Rattle.lr_product.proofs.Results.{on_any}
 use Rattle.lr_product.proofs.product.counts_in.Goals as goal
 
 pub returns-then-rows-letters-clause-counts : goal.returns-then-rows-letters-clause-counts
@@ -31,7 +33,7 @@ pub returns-clause-fits : goal.returns-clause-fits
 returns-clause-fits c =
     let n : c.min-letters.result ≡ min c.args.variables (rows c.args.left.now + rows c.args.right.now) = omega (arith, c.min-letters.ensures, c.rows.ensures.value, c.rows-2.ensures.value) in
     let same = same_product c.min-letters.result c.args.variables c.args.left.now c.args.right.now n c.rows.ensures.limits.partition c.rows-2.ensures.limits.partition (omega (arith, c.if-rows-letters.false, c.rows-3.ensures.value)) in
-    on_answered c.good_counts.result c.good_counts.ensures.fits
+    on_ok c.good_counts.result c.good_counts.ensures.fits
     (λ f. fits_in c.min-letters.result c.args.variables (good_count c.min-letters.result c.args.left.now c.args.right.now []) (product_count c.args.variables c.args.left.now c.args.right.now) same
     (subst (λ s. (parts : List ℕ) → good_count c.min-letters.result s c.args.right.now [] parts < 2 ^ 127) c.parts.ensures.value f))
 

@@ -1,8 +1,9 @@
 use Rattle.std.proofs.Common.{◌≡◌, ◌+◌, ◌∙◌, ap, ap₂}
 use Rattle.std.specs.Option.{unwrap_or}
 use Rattle.sym_model.specs.Partition.{rows}
+use Rattle.sparse_polys.proofs.Coefficients.{if_answered}
+use Rattle.sparse_polys.proofs.ClearedSums.{on_ok}
 use Rattle.lr_product.proofs.GoodCounts.{mult_answers, mult_past, mult_fits, classical_if, heavy_if}
-use Rattle.lr_product.proofs.Results.{if_answered, on_answered}
 use Rattle.lr_product.proofs.product.mult.Goals as goal
 
 pub returns-clause-meets : goal.returns-clause-meets
@@ -18,7 +19,7 @@ returns-clause-large c = λ e.
 pub returns-clause-fits : goal.returns-clause-fits
 returns-clause-fits c =
     let m : c.unwrap_or-variables.result ≡ unwrap_or c.args.rows (rows c.args.left.now + rows c.args.right.now) = c.unwrap_or-variables.ensures ∙ ap (unwrap_or c.args.rows) (ap₂ ◌+◌ c.rows.ensures.value c.rows-2.ensures.value) in
-    on_answered c.counts_in.result c.counts_in.ensures.fits (mult_fits c.args.rows c.unwrap_or-variables.result c.args.left.now c.args.right.now m c.counts_in.ensures.factors.0 c.counts_in.ensures.factors.1)
+    on_ok c.counts_in.result c.counts_in.ensures.fits (mult_fits c.args.rows c.unwrap_or-variables.result c.args.left.now c.args.right.now m c.counts_in.ensures.factors.0 c.counts_in.ensures.factors.1)
 
 pub returns-clause-classical : goal.returns-clause-classical
 returns-clause-classical c =

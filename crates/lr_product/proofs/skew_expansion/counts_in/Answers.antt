@@ -2,9 +2,10 @@ use Rattle.std.proofs.Common.{◌≡◌, ℕ, ◌^◌, ◌<◌, min, List, [], s
 use Rattle.sym_model.specs.Partition.{rows}
 use Rattle.sym_model.specs.GoodTableau.{skew_count}
 use Rattle.alternant_laws.specs.GoodSums.{ListsCounts}
+use Rattle.sparse_polys.proofs.Coefficients.{if_answered}
+use Rattle.sparse_polys.proofs.ClearedSums.{on_ok}
 use Rattle.lr_product.specs.Counts.{good_count, IsPastSomewhere}
 use Rattle.lr_product.proofs.GoodCounts.{same_skew, lists_in, fits_in, past_in}
-use Rattle.lr_product.proofs.Results.{if_answered, on_answered}
 use Rattle.lr_product.proofs.skew_expansion.counts_in.Goals as goal
 
 pub returns-clause-counts : goal.returns-clause-counts
@@ -19,7 +20,7 @@ pub returns-clause-fits : goal.returns-clause-fits
 returns-clause-fits c =
     let n : c.min-letters.result ≡ min c.args.variables (rows c.args.outer.now) = c.min-letters.ensures ∙ ap (min c.args.variables) c.rows.ensures.value in
     let same = same_skew c.min-letters.result c.args.variables c.args.outer.now c.args.inner.now n c.rows.ensures.limits.partition c.parts.ensures.limits.partition c.requires.inside in
-    on_answered c.good_counts.result c.good_counts.ensures.fits
+    on_ok c.good_counts.result c.good_counts.ensures.fits
     (λ f. fits_in c.min-letters.result c.args.variables (good_count c.min-letters.result [] c.args.outer.now c.args.inner.now) (skew_count c.args.outer.now c.args.inner.now) same
     (subst (λ s. (parts : List ℕ) → good_count c.min-letters.result [] c.args.outer.now s parts < 2 ^ 127) c.parts.ensures.value f))
 

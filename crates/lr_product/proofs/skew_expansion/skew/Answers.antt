@@ -5,8 +5,11 @@ use Rattle.sym_model.specs.Command.{skew}
 use Rattle.sym_model.specs.Kind.{product}
 use Rattle.sym_model.specs.Answer.{answer}
 use Rattle.sym_model.specs.Target.{Meets}
-use Rattle.lr_product.proofs.GoodCounts.{contains-from, contains-false, outside_answers, outside_fits, skew_answers, skew_past, skew_fits}
-use Rattle.lr_product.proofs.Results.{if_answered, on_answered, on_any}
+use Rattle.sparse_polys.proofs.Coefficients.{if_answered}
+use Rattle.sparse_polys.proofs.ClearedSums.{on_ok}
+use Rattle.strip_laws.proofs.Containment.{contains-from}
+use Rattle.lr_product.proofs.GoodCounts.{contains-false, outside_answers, outside_fits, skew_answers, skew_past, skew_fits}
+use Rattle.lr_product.proofs.Results.{on_any}
 use Rattle.lr_product.proofs.skew_expansion.skew.Goals as goal
 
 pub returns-then-not-contains-clause-meets : goal.returns-then-not-contains-clause-meets
@@ -42,4 +45,4 @@ returns-clause-fits c =
     let m : c.unwrap_or-variables.result ≡ unwrap_or c.args.rows (rows c.args.outer.now) = c.unwrap_or-variables.ensures ∙ ap (unwrap_or c.args.rows) c.rows.ensures.value in
     let yes : c.contains.result ≡ true = cc in
     let inside = contains-from c.args.outer.now c.args.inner.now (c.contains.ensures.0 yes) in
-    on_answered c.counts_in.result c.counts_in.ensures.fits (skew_fits c.args.rows c.unwrap_or-variables.result c.args.outer.now c.args.inner.now m c.counts_in.ensures.shape.0 c.counts_in.ensures.shape.1 inside)
+    on_ok c.counts_in.result c.counts_in.ensures.fits (skew_fits c.args.rows c.unwrap_or-variables.result c.args.outer.now c.args.inner.now m c.counts_in.ensures.shape.0 c.counts_in.ensures.shape.1 inside)

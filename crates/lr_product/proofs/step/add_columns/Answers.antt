@@ -1,8 +1,8 @@
 use Rattle.std.proofs.Common.{◌≡◌, ℕ, ◌+◌, ◌*◌, List, length, take, drop, sym, ap, ap₂, ◌∙◌}
+use Rattle.sparse_polys.proofs.ClearedSums.{on_ok}
 use Rattle.lr_product.specs.WeighedSum.{weighed}
 use Rattle.lr_product.specs.Extension.{extended}
 use Rattle.lr_product.proofs.Agreeing.{agree_then, agree_same}
-use Rattle.lr_product.proofs.Results.{on_answered}
 use Rattle.lr_product.proofs.ColumnExtension.{extended-seen}
 use Rattle.lr_product.proofs.step.add_columns.Goals as goal
 
@@ -14,6 +14,6 @@ returns-clause-adds c =
     let front : c.in_ok-reached.reached ≡ take n s = c.in_ok-reached.ensures ∙ c.split_at.ensures.front ∙ ap₂ (λ k (l : List ℕ). take k l) c.from.ensures c.numbers.ensures in
     let back : c.split_at.result.1.now ≡ drop n s = c.split_at.ensures.back ∙ ap₂ (λ k (l : List ℕ). drop k l) c.from.ensures c.numbers.ensures in
     let long : length (take n s) ≡ n = ap length (sym front) ∙ ap length c.in_ok-reached.ensures ∙ c.split_at.ensures.front_len ∙ c.from.ensures in
-    on_answered c.extend.result c.extend.ensures.adds (λ adds f v. agree_then _ _ _ (adds f v)
+    on_ok c.extend.result c.extend.ensures.adds (λ adds f v. agree_then _ _ _ (adds f v)
     (agree_same _ _ (ap (λ x. weighed n f c.args.next.now.entries + c.args.column.ways * x)
     (ap₂ (λ (r t : List ℕ). extended kept n c.args.line.now r 0 f t) back front ∙ extended-seen kept n c.args.line.now (drop n s) f (take n s) long))))

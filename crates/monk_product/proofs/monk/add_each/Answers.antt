@@ -5,6 +5,7 @@ use Rattle.coeff_rings.specs.Fractions.{whole}
 use Rattle.coeff_rings.specs.Checked.{checked_i128}
 use Rattle.sym_model.specs.Sum.{total}
 use Rattle.sym_model.specs.LabelLimits.{is_permutation_label}
+use Rattle.sym_model.proofs.Sums.{Among-get_or}
 use Rattle.sparse_polys.specs.Combination.{coefficient, HasMoreAt}
 use Rattle.sparse_polys.specs.Refusal.{IsRefused}
 use Rattle.sparse_polys.proofs.Steps.{error_is}
@@ -12,7 +13,7 @@ use Rattle.schubert_transition.specs.TermLists.{equal, over, only}
 use Rattle.schubert_transition.proofs.TermSums.{over_more}
 use Rattle.monk_product.proofs.Masses.{mass_more, short_more}
 use Rattle.monk_product.proofs.MassSums.{product_next}
-use Rattle.monk_product.proofs.Covers.{total_take, among_get}
+use Rattle.monk_product.proofs.Covers.{total_take}
 use Rattle.monk_product.proofs.Bounds.{refused_at, large_at}
 use Rattle.monk_product.proofs.monk.add_each.Goals as goal
 
@@ -39,7 +40,7 @@ loop-cover-preserved c =
           omega arith;
       short = λ most old covers.
           short_more is_permutation_label cur new x v c.in_ok-add_term.ensures.was c.in_ok-add_term.ensures.combination more most (inv.short most old covers)
-          (covers x (among_get c.args.covers.now i x inside c.cover-item.is));
+          (covers x (Among-get_or c.args.covers.now i x inside c.cover-item.is));
     }
 
 pub returns-in_err-add_term-clause-large : goal.returns-in_err-add_term-clause-large

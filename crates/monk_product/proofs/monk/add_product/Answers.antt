@@ -2,12 +2,13 @@ use Rattle.std.proofs.Common.{◌*◌, max, length, ◌∙◌, ap, subst, arith,
 use Rattle.std.specs.Prelude.{Err, nat_abs}
 use Rattle.sym_model.specs.Sum.{Among, total}
 use Rattle.sym_model.specs.Permutation.{covers_up, covers_down}
+use Rattle.sym_model.proofs.Numbers.{many-within}
 use Rattle.sparse_polys.proofs.Steps.{error_is}
+use Rattle.sparse_polys.proofs.ClearedSums.{on_ok}
 use Rattle.schubert_transition.specs.TermLists.{over, only}
-use Rattle.schubert_transition.proofs.WaitingSums.{on_ok}
 use Rattle.monk_product.specs.Monk.{count_of}
 use Rattle.monk_product.proofs.MassSums.{abs_negated, signed_next}
-use Rattle.monk_product.proofs.Covers.{count_covers, up_within, down_within, split_product}
+use Rattle.monk_product.proofs.Covers.{count_covers, up_within, down_within}
 use Rattle.monk_product.proofs.Bounds.{count_added, within_one}
 use Rattle.monk_product.proofs.OneCover.{one_cover}
 use Rattle.monk_product.proofs.monk.add_product.Goals as goal
@@ -45,7 +46,7 @@ returns-clause-mass c =
     let e = ap length (c.up.ensures ∙ c.in_ok-covers.ensures.up) in
     let f = ap length (c.down.ensures ∙ c.in_ok-covers.ensures.down) in
     let n = count_covers c.args.r c.args.w.now c.requires.first in
-    let p = split_product (nat_abs c.args.c) (length c.up.result.now) (length c.down.result.now) (max (length c.args.w.now) c.args.r) (omega arith) in
+    let p = many-within (nat_abs c.args.c) (length c.up.result.now) (length c.down.result.now) (max (length c.args.w.now) c.args.r) (omega arith) in
     let g = ap (λ z. nat_abs z * length c.down.result.now) c.in_ok-negated.ensures.ok in
     let h = ap (λ z. z * length c.down.result.now) (abs_negated c.args.c) in
     omega arith)

@@ -2,9 +2,9 @@ use Rattle.std.proofs.Common.{ℕ, List, subst}
 use Rattle.coeff_rings.specs.Fractions.{whole}
 use Rattle.sym_model.specs.LabelLimits.{is_permutation_label}
 use Rattle.sparse_polys.specs.Combination.{HasMoreAt}
+use Rattle.sparse_polys.proofs.ClearedSums.{on_ok}
 use Rattle.schubert_transition.specs.TermLists.{equal}
 use Rattle.schubert_transition.proofs.TermSums.{over_more}
-use Rattle.schubert_transition.proofs.WaitingSums.{on_ok}
 use Rattle.monk_product.proofs.Masses.{mass_more, mass_refused, short_more}
 use Rattle.monk_product.proofs.monk.add_single.Goals as goal
 

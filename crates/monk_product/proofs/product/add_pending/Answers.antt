@@ -2,9 +2,9 @@ use Rattle.std.proofs.Common.{◌*◌, ◌^◌, length, ap, ◌∙◌, arith, �
 use Rattle.std.specs.Prelude.{nat_abs}
 use Rattle.std.proofs.lemmas.Int.{ints}
 use Rattle.sym_model.specs.Partition.{size}
+use Rattle.sym_model.proofs.Sums.{Among-get_or}
+use Rattle.sparse_polys.proofs.ClearedSums.{on_ok}
 use Rattle.schubert_transition.specs.Transitions.{acted}
-use Rattle.schubert_transition.proofs.TodoLists.{among_at}
-use Rattle.schubert_transition.proofs.WaitingSums.{on_ok}
 use Rattle.monk_product.proofs.EntrySums.{set_value, set_growth, set_large, set_pending}
 use Rattle.monk_product.proofs.product.add_pending.Goals as goal
 
@@ -37,7 +37,7 @@ returns-clause-pending c =
     let same = c.in_ok-at.ensures.found.1 c.index_mut-pending.result.now c.index_mut-pending.ensures.value ∙ c.in_ok-copy.ensures.ok in
     let z = ap size same in
     let mid = c.in_ok-at.ensures.pending n d most (omega arith) (omega arith) old in
-    let was = mid c.index_mut-pending.result.now (among_at c.index_of.new.todo.items c.in_ok-at.at c.index_mut-pending.result.now c.in_ok-at.ensures.found.0 c.index_mut-pending.ensures.value) in
+    let was = mid c.index_mut-pending.result.now (Among-get_or c.index_of.new.todo.items c.in_ok-at.at c.index_mut-pending.result.now c.in_ok-at.ensures.found.0 c.index_mut-pending.ensures.value) in
     set_pending c.index_of.new.todo.items c.in_ok-at.at c.index_mut-pending.result.now c.add_single.new.sum c.in_ok-at.ensures.found.0 c.index_mut-pending.ensures.value n d most mid
     (λ k e. more k (was.short k e) (omega arith)))
 

@@ -2,12 +2,12 @@ use Rattle.std.proofs.Common.{◌≡◌, ℕ, ◌+◌, ◌-◌, ◌*◌, ◌^◌
 use Rattle.std.proofs.lemmas.Int.{ints}
 use Rattle.sym_model.specs.Partition.{size}
 use Rattle.sym_model.specs.Expansion.{Terms}
+use Rattle.sym_model.proofs.Sums.{Among-get_or}
 use Rattle.sparse_polys.specs.Raised.{raised}
 use Rattle.sparse_polys.proofs.Raising.{size-raised, length-raised}
+use Rattle.sparse_polys.proofs.ClearedSums.{on_ok}
 use Rattle.schubert_transition.specs.TermLists.{over}
 use Rattle.schubert_transition.specs.Transitions.{acted}
-use Rattle.schubert_transition.proofs.TodoLists.{among_at}
-use Rattle.schubert_transition.proofs.WaitingSums.{on_ok}
 use Rattle.monk_product.specs.declared.pending.Pending.{Pending}
 use Rattle.monk_product.specs.Monk.{mass, AreShort, over_covers}
 use Rattle.monk_product.specs.Pending.{IsPending}
@@ -99,7 +99,7 @@ returns-clause-pending c =
     let mid = c.in_ok-at.ensures.pending n d most (omega arith) (omega arith) old in
     let same = c.in_ok-at.ensures.found.1 c.index_mut-target.result.now c.index_mut-target.ensures.value in
     let z = ap size same in
-    let was = mid c.index_mut-target.result.now (among_at c.index_of.new.todo.items c.in_ok-at.at c.index_mut-target.result.now c.in_ok-at.ensures.found.0 c.index_mut-target.ensures.value) in
+    let was = mid c.index_mut-target.result.now (Among-get_or c.index_of.new.todo.items c.in_ok-at.at c.index_mut-target.result.now c.in_ok-at.ensures.found.0 c.index_mut-target.ensures.value) in
     set_pending c.index_of.new.todo.items c.in_ok-at.at c.index_mut-target.result.now c.add_times_var.new.sum c.in_ok-at.ensures.found.0 c.index_mut-target.ensures.value n d most mid
     (λ k s.
     let up : most - size e + 1 ≡ k = omega arith in

@@ -6,10 +6,10 @@ use Rattle.sym_model.specs.Polynomial.{pair}
 use Rattle.sym_model.specs.Schubert.{schubert_in}
 use Rattle.sym_model.specs.Expansion.{Fraction}
 use Rattle.sym_model.proofs.Sums.{total_ext}
+use Rattle.sparse_polys.proofs.ClearedSums.{on_ok}
 use Rattle.schubert_transition.specs.TermLists.{over}
 use Rattle.schubert_transition.specs.Transitions.{acted}
 use Rattle.schubert_transition.proofs.Acted.{acted_start}
-use Rattle.schubert_transition.proofs.WaitingSums.{on_ok}
 use Rattle.monk_product.specs.Monk.{mass}
 use Rattle.monk_product.proofs.Dividing.{zero_size, some_length}
 use Rattle.monk_product.proofs.product.work_off.Goals as goal

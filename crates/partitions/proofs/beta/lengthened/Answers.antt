@@ -1,12 +1,13 @@
 use Rattle.std.proofs.Common.{◌≡◌, ◌+◌, ◌-◌, get_or, unwrap_or, ap, ◌∙◌, arith}
-use Rattle.partitions.proofs.BetaSteps.{at-within-size, beta-more}
+use Rattle.sym_model.proofs.Parts.{get_or-le-size}
+use Rattle.partitions.proofs.BetaSteps.{beta-more}
 use Rattle.partitions.proofs.beta.lengthened.Goals as goal
 
 pub overflow_add-part : goal.overflow_add-part
 overflow_add-part c =
     let part : c.unwrap_or-part.result ≡ get_or c.args.parts.now c.from-in-loop-i.result 0 =
     c.unwrap_or-part.ensures ∙ ap (λ o. unwrap_or o 0) c.copied.ensures ∙ c.get.ensures.lookup.4 (omega arith) 0 in
-    omega (arith, at-within-size c.args.parts.now c.from-in-loop-i.result, c.requires.limits.small)
+    omega (arith, get_or-le-size c.args.parts.now c.from-in-loop-i.result, c.requires.limits.small)
 
 pub loop-i-preserved : goal.loop-i-preserved
 loop-i-preserved c =

@@ -2,8 +2,9 @@ use Rattle.std.proofs.Common.{◌≡◌, ℕ, suc, ◌+◌, ◌-◌, ◌<◌, Li
 use Rattle.std.specs.List.{refill}
 use Rattle.sym_model.specs.Partition.{IsPartition, without_last_zeros}
 use Rattle.sym_model.specs.Slide.{lowered_at}
+use Rattle.sym_model.proofs.Parts.{get_or-lowered}
 use Rattle.partitions.proofs.Steps.{all_written}
-use Rattle.partitions.proofs.LoweredParts.{lowered_kept, lowered_dropped, length-lowered, at-lowered}
+use Rattle.partitions.proofs.LoweredParts.{lowered_kept, lowered_dropped, length-lowered}
 use Rattle.partitions.proofs.corners.lower_last.Goals as goal
 
 -- the list that is then in the vector
@@ -19,7 +20,7 @@ kept :
     → now ≡ lowered_at (suc place) parts → (get_or now place 0 ≡ 0 → ⊥)
     → now ≡ without_last_zeros (lowered_at (place + 1) parts)
 kept parts now place p corner e nonzero =
-    let here : get_or now place 0 ≡ get_or parts place 0 - 1 = ap (λ xs. get_or xs place 0) e ∙ at-lowered parts place in
+    let here : get_or now place 0 ≡ get_or parts place 0 - 1 = ap (λ xs. get_or xs place 0) e ∙ get_or-lowered parts place in
     e ∙ sym (lowered_kept parts place p.positive (omega (arith, nonzero)))
     ∙ ap (λ i. without_last_zeros (lowered_at i parts)) (sym (add-one place))
 
@@ -28,7 +29,7 @@ dropped :
     → now ≡ lowered_at (suc place) parts → get_or now place 0 ≡ 0 → left ≡ take (length now - 1) now
     → left ≡ without_last_zeros (lowered_at (place + 1) parts)
 dropped parts now left place p corner e zero f =
-    let here : get_or now place 0 ≡ get_or parts place 0 - 1 = ap (λ xs. get_or xs place 0) e ∙ at-lowered parts place in
+    let here : get_or now place 0 ≡ get_or parts place 0 - 1 = ap (λ xs. get_or xs place 0) e ∙ get_or-lowered parts place in
     let next : get_or parts (suc place) 0 < get_or parts place 0 = subst (λ i. get_or parts i 0 < get_or parts place 0) (add-one place) corner in
     f ∙ ap (λ xs. take (length xs - 1) xs) e
     ∙ ap (λ n. take (n - 1) (lowered_at (suc place) parts)) (length-lowered parts place)

@@ -1,6 +1,6 @@
 use Rattle.std.proofs.Common.{◌≡◌, ◌+◌, ◌-◌, ◌++◌, ◌∷◌, [], length, sym, ap, ◌∙◌, arith, append_assoc}
 use Rattle.sym_model.specs.Partition.{after}
-use Rattle.perm_codes.proofs.Prefixes.{after_next}
+use Rattle.sym_model.proofs.AfterLists.{after-more}
 use Rattle.perm_codes.proofs.letters.add_fixed.Goals as goal
 
 pub loop-at-preserved : goal.loop-at-preserved
@@ -13,7 +13,7 @@ loop-at-preserved c =
     let items = c.in_ok-push.ensures.ok ∙ ap (λ l. l ++ (at + 1) ∷ []) c.loop-at.invariant.1
     ∙ append_assoc w (after n (at - n)) ((at + 1) ∷ [])
     ∙ ap (λ x. w ++ (after n (at - n) ++ x ∷ [])) (sym last)
-    ∙ ap (λ l. w ++ l) (sym (after_next n (at - n)))
+    ∙ ap (λ l. w ++ l) (sym (after-more n (at - n)))
     ∙ ap (λ k. w ++ after n k) next in
     (omega arith, items)
 

@@ -1,8 +1,9 @@
 use Rattle.std.proofs.Common.{◌≡◌, ◌∙◌, ap, subst, ◌*ℤ◌}
 use Rattle.std.proofs.lemmas.Result.{on_ok_weaker}
 use Rattle.coeff_rings.specs.Fractions.{whole}
+use Rattle.coeff_rings.proofs.Sizes.{answered_is}
 use Rattle.sparse_polys.specs.Combination.{HasMoreAt}
-use Rattle.rim_hooks.proofs.CollectedTerms.{collects-more, refused_sum, answered_is, kept_through}
+use Rattle.rim_hooks.proofs.CollectedTerms.{collects-more, refused_sum, kept_through}
 use Rattle.rim_hooks.proofs.collecting.add_signed.Goals as goal
 
 pub returns-clause-ok : goal.returns-clause-ok

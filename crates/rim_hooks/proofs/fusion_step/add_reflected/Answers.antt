@@ -4,17 +4,18 @@ use Rattle.std.specs.Cmp.Lexicographic.{pointwise}
 use Rattle.sym_model.specs.Polynomial.{scale}
 use Rattle.sym_model.specs.WholeTerms.{WholeTerms}
 use Rattle.sym_model.proofs.Ring.{product_assoc}
+use Rattle.sym_model.proofs.Integers.{nat_abs-product}
+use Rattle.coeff_rings.proofs.Sizes.{refused_size, answered_is}
 use Rattle.rim_hooks.specs.Reduced.{signed_partition}
 use Rattle.rim_hooks.specs.Collected.{Collects, IsSign}
-use Rattle.rim_hooks.proofs.CollectedTerms.{answered_is, kept_narrow, unanswered}
+use Rattle.rim_hooks.proofs.CollectedTerms.{kept_narrow}
 use Rattle.rim_hooks.proofs.Reflecting.{sign_told}
-use Rattle.rim_hooks.proofs.RaisedTerms.{nat_abs-product}
 use Rattle.rim_hooks.proofs.ScaledTerms.{reflected_one-some}
 use Rattle.rim_hooks.proofs.fusion_step.add_reflected.Goals as goal
 
 pub returns-in_default-mul-clause-large : goal.returns-in_default-mul-clause-large
 returns-in_default-mul-clause-large c = λ before was err.
-    let past = unanswered (c.args.c *ℤ c.args.d) (sym c.in_default-mul.ensures.product) in
+    let past = refused_size (c.args.c *ℤ c.args.d) (sym c.in_default-mul.ensures.product) in
     let p = nat_abs-product c.args.c c.args.d in
     omega arith
 

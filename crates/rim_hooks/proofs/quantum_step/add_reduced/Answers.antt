@@ -3,9 +3,10 @@ use Rattle.std.specs.Prelude.{OnOk}
 use Rattle.sym_model.proofs.Ring.{product_assoc}
 use Rattle.rim_hooks.specs.Reduced.{reduction}
 use Rattle.product_laws.specs.FactorSteps.{raised}
+use Rattle.coeff_rings.proofs.Sizes.{answered_is}
 use Rattle.rim_hooks.specs.Collected.{Collects, IsSign}
 use Rattle.rim_hooks.specs.ReducedLists.{PowerTerms, same_power_label}
-use Rattle.rim_hooks.proofs.CollectedTerms.{answered_is, kept_narrow}
+use Rattle.rim_hooks.proofs.CollectedTerms.{kept_narrow}
 use Rattle.rim_hooks.proofs.Reducing.{core_sign}
 use Rattle.rim_hooks.proofs.RaisedTerms.{reduced_one-some}
 use Rattle.rim_hooks.proofs.quantum_step.add_reduced.Goals as goal

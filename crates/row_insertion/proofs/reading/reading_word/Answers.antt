@@ -1,7 +1,8 @@
 use Rattle.std.proofs.Common.{◌≡◌, ◌≤◌, ℕ, List, length, drop, reverse, ◌∙◌, ap, sym, arith}
 use Rattle.sym_model.specs.Schur.{letters_of}
 use Rattle.skew_shapes.proofs.StandardNumbers.{rows-tableau}
-use Rattle.row_insertion.proofs.MadeTableaux.{nothing_left, read_more}
+use Rattle.row_insertion.proofs.MadeTableaux.{read_more}
+use Rattle.row_insertion.proofs.GrowingRows.{nothing_left}
 use Rattle.row_insertion.proofs.reading.reading_word.Goals as goal
 
 pub loop-row-init : goal.loop-row-init

@@ -1,10 +1,12 @@
 use Rattle.std.proofs.Common.{◌≡◌, ◌-◌, sym, ap, ◌∙◌, refl, subst, arith, ◌+ℤ◌}
 use Rattle.sym_model.specs.PlaceOrders.{inversions}
+use Rattle.sym_model.proofs.Sums.{Among-get_or}
+use Rattle.sparse_polys.proofs.ClearedSums.{on_ok}
 use Rattle.schubert_transition.specs.TermLists.{over, AreTerms}
 use Rattle.schubert_transition.specs.Transitions.{acted}
 use Rattle.schubert_transition.specs.Todo.{value_of}
-use Rattle.schubert_transition.proofs.TodoLists.{among_at, load_set}
-use Rattle.schubert_transition.proofs.WaitingSums.{on_ok, entry, set_value, set_waiting, set_large, large_as}
+use Rattle.schubert_transition.proofs.TodoLists.{load_set}
+use Rattle.schubert_transition.proofs.WaitingSums.{entry, set_value, set_waiting, set_large, large_as}
 use Rattle.schubert_transition.proofs.expand.add_waiting.Goals as goal
 
 pub returns-clause-value : goal.returns-clause-value
@@ -23,7 +25,7 @@ returns-clause-waiting c =
     let w = c.index_mut-waiting.result.now in
     let p = c.in_ok-at.ensures.found.1 c.index_mut-waiting.result.now c.index_mut-waiting.ensures.value in
     let was : AreTerms n (d - inversions c.index_mut-waiting.result.now.perm) c.index_mut-waiting.result.now.factor =
-    (mid c.index_mut-waiting.result.now (among_at c.index_of.new.todo.items c.in_ok-at.at c.index_mut-waiting.result.now c.in_ok-at.ensures.found.0 c.index_mut-waiting.ensures.value)).terms in
+    (mid c.index_mut-waiting.result.now (Among-get_or c.index_of.new.todo.items c.in_ok-at.at c.index_mut-waiting.result.now c.in_ok-at.ensures.found.0 c.index_mut-waiting.ensures.value)).terms in
     let q : d - inversions c.index_mut-waiting.result.now.perm ≡ d - inversions c.args.perm = ap (λ x. d - inversions x) p in
     set_waiting n d c.index_of.new.todo.items c.in_ok-at.at c.index_mut-waiting.result.now c.add_all.new.sum c.in_ok-at.ensures.found.0 c.index_mut-waiting.ensures.value mid
     (subst (λ k. AreTerms n k c.add_all.new.sum) (sym q) (kept n (d - inversions c.args.perm) (subst (λ k. AreTerms n k c.index_mut-waiting.result.now.factor) q was) terms)))
@@ -40,7 +42,7 @@ returns-clause-large c err n d short inside terms old =
     let mid = c.in_ok-at.ensures.waiting n d short inside old in
     let p = c.in_ok-at.ensures.found.1 c.index_mut-waiting.result.now c.index_mut-waiting.ensures.value in
     let was : AreTerms n (d - inversions c.index_mut-waiting.result.now.perm) c.index_mut-waiting.result.now.factor =
-    (mid c.index_mut-waiting.result.now (among_at c.index_of.new.todo.items c.in_ok-at.at c.index_mut-waiting.result.now c.in_ok-at.ensures.found.0 c.index_mut-waiting.ensures.value)).terms in
+    (mid c.index_mut-waiting.result.now (Among-get_or c.index_of.new.todo.items c.in_ok-at.at c.index_mut-waiting.result.now c.in_ok-at.ensures.found.0 c.index_mut-waiting.ensures.value)).terms in
     let q : d - inversions c.index_mut-waiting.result.now.perm ≡ d - inversions c.args.perm = ap (λ x. d - inversions x) p in
     large_as (λ φ. value_of n φ c.index_of.new.todo.items +ℤ over (λ e. acted n φ c.args.perm e) c.args.terms.now) (λ φ. value_of n φ c.args.todo.now.items +ℤ over (λ e. acted n φ c.args.perm e) c.args.terms.now)
     (λ φ. ap (λ z. z +ℤ over (λ e. acted n φ c.args.perm e) c.args.terms.now) (c.in_ok-at.ensures.value n φ))

@@ -1,11 +1,13 @@
 use Rattle.std.proofs.Common.{◌≡◌, ◌+◌, ◌-◌, sym, ap, ◌∙◌, refl, subst, arith, ◌+ℤ◌}
 use Rattle.sym_model.specs.PlaceOrders.{inversions}
+use Rattle.sym_model.proofs.Sums.{Among-get_or}
 use Rattle.schubert_transition.specs.TermLists.{over, AreTerms}
 use Rattle.schubert_transition.specs.Transitions.{acted}
 use Rattle.schubert_transition.specs.Todo.{value_of}
 use Rattle.sparse_polys.specs.Raised.{raised}
-use Rattle.schubert_transition.proofs.TodoLists.{among_at, load_set}
-use Rattle.schubert_transition.proofs.WaitingSums.{on_ok, entry, set_value, set_waiting, set_large, large_as}
+use Rattle.sparse_polys.proofs.ClearedSums.{on_ok}
+use Rattle.schubert_transition.proofs.TodoLists.{load_set}
+use Rattle.schubert_transition.proofs.WaitingSums.{entry, set_value, set_waiting, set_large, large_as}
 use Rattle.schubert_transition.proofs.expand.add_waiting_times_var.Goals as goal
 
 pub returns-clause-value : goal.returns-clause-value
@@ -24,7 +26,7 @@ returns-clause-waiting c =
     let w = c.index_mut-waiting.result.now in
     let p = c.in_ok-at.ensures.found.1 c.index_mut-waiting.result.now c.index_mut-waiting.ensures.value in
     let was : AreTerms n (d - inversions c.index_mut-waiting.result.now.perm) c.index_mut-waiting.result.now.factor =
-    (mid c.index_mut-waiting.result.now (among_at c.index_of.new.todo.items c.in_ok-at.at c.index_mut-waiting.result.now c.in_ok-at.ensures.found.0 c.index_mut-waiting.ensures.value)).terms in
+    (mid c.index_mut-waiting.result.now (Among-get_or c.index_of.new.todo.items c.in_ok-at.at c.index_mut-waiting.result.now c.in_ok-at.ensures.found.0 c.index_mut-waiting.ensures.value)).terms in
     let q : d - inversions c.index_mut-waiting.result.now.perm ≡ d - inversions c.args.perm - 1 + 1 = ap (λ x. d - inversions x) p ∙ (let s : d - inversions c.args.perm ≡ d - inversions c.args.perm - 1 + 1 = omega arith in s) in
     set_waiting n d c.index_of.new.todo.items c.in_ok-at.at c.index_mut-waiting.result.now c.add_times_var.new.sum c.in_ok-at.ensures.found.0 c.index_mut-waiting.ensures.value mid
     (subst (λ k. AreTerms n k c.add_times_var.new.sum) (sym q) (kept n (d - inversions c.args.perm - 1) within (subst (λ k. AreTerms n k c.index_mut-waiting.result.now.factor) q was) terms)))
@@ -41,7 +43,7 @@ returns-clause-large c err n d short within inside terms old =
     let mid = c.in_ok-at.ensures.waiting n d short (omega arith) old in
     let p = c.in_ok-at.ensures.found.1 c.index_mut-waiting.result.now c.index_mut-waiting.ensures.value in
     let was : AreTerms n (d - inversions c.index_mut-waiting.result.now.perm) c.index_mut-waiting.result.now.factor =
-    (mid c.index_mut-waiting.result.now (among_at c.index_of.new.todo.items c.in_ok-at.at c.index_mut-waiting.result.now c.in_ok-at.ensures.found.0 c.index_mut-waiting.ensures.value)).terms in
+    (mid c.index_mut-waiting.result.now (Among-get_or c.index_of.new.todo.items c.in_ok-at.at c.index_mut-waiting.result.now c.in_ok-at.ensures.found.0 c.index_mut-waiting.ensures.value)).terms in
     let q : d - inversions c.index_mut-waiting.result.now.perm ≡ d - inversions c.args.perm - 1 + 1 = ap (λ x. d - inversions x) p ∙ (let s : d - inversions c.args.perm ≡ d - inversions c.args.perm - 1 + 1 = omega arith in s) in
     large_as (λ φ. value_of n φ c.index_of.new.todo.items +ℤ over (λ e. acted n φ c.args.perm (raised c.args.r e)) c.args.terms.now) (λ φ. value_of n φ c.args.todo.now.items +ℤ over (λ e. acted n φ c.args.perm (raised c.args.r e)) c.args.terms.now)
     (λ φ. ap (λ z. z +ℤ over (λ e. acted n φ c.args.perm (raised c.args.r e)) c.args.terms.now) (c.in_ok-at.ensures.value n φ))

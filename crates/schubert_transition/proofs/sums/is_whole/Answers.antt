@@ -1,6 +1,6 @@
 use Rattle.std.proofs.Common.{subst}
 use Rattle.sym_model.specs.WholeTerms.{AreWhole}
-use Rattle.schubert_transition.proofs.SumSteps.{AreWhole-terms_of}
+use Rattle.sparse_polys.proofs.Expansions.{AreWhole-terms_of}
 use Rattle.schubert_transition.proofs.sums.is_whole.Goals as goal
 
 pub returns-clause-whole : goal.returns-clause-whole

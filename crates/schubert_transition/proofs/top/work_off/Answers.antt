@@ -3,15 +3,16 @@ use Rattle.std.proofs.lemmas.Int.{ints}
 use Rattle.sym_model.specs.Polynomial.{resize, fits_in}
 use Rattle.sym_model.specs.PlaceOrders.{inversions}
 use Rattle.sym_model.proofs.Exponents.{fits_in_length}
+use Rattle.sparse_polys.proofs.ClearedSums.{on_ok}
 use Rattle.schubert_transition.specs.declared.todo.Waiting.{Waiting}
 use Rattle.schubert_transition.specs.TermLists.{over, only}
 use Rattle.schubert_transition.specs.Transitions.{acted, shown}
 use Rattle.schubert_transition.proofs.Members.{fewer_inversions}
 use Rattle.schubert_transition.proofs.Ranks.{weight_positive}
-use Rattle.schubert_transition.proofs.TermSums.{over_natural, over_within, at_only_natural}
-use Rattle.schubert_transition.proofs.Acted.{shown_natural}
+use Rattle.schubert_transition.proofs.TermSums.{over_natural, over_within}
+use Rattle.schubert_transition.proofs.Acted.{shown_natural, at_only_natural}
 use Rattle.schubert_transition.proofs.TodoLists.{total_at_least}
-use Rattle.schubert_transition.proofs.WaitingSums.{on_ok, value_natural, terms_weaker}
+use Rattle.schubert_transition.proofs.WaitingSums.{value_natural, terms_weaker}
 use Rattle.schubert_transition.proofs.FinalSums.{shown_at, over_identity}
 use Rattle.schubert_transition.proofs.top.work_off.Goals as goal
 

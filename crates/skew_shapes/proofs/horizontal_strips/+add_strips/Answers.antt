@@ -1,9 +1,10 @@
 use Rattle.std.proofs.Common.{◌≡◌, ◌+◌, ◌-◌, ◌≤◌, ◌++◌, [], ◌∷◌, List, ℕ, get_or, take, drop, length, map, subst, sym, ap, ◌∙◌, arith, append_assoc}
 use Rattle.sym_model.specs.Partition.{Falls}
 use Rattle.sym_model.specs.Sum.{Among, each}
+use Rattle.sym_model.proofs.Parts.{split_first}
 use Rattle.partitions.specs.Limits.{IsWithinLimits}
 use Rattle.skew_shapes.specs.HorizontalStrips.{counting_down, strips_on}
-use Rattle.skew_shapes.proofs.StripLists.{split_rows, grown_all, grown, each-next, listed_further}
+use Rattle.skew_shapes.proofs.StripLists.{grown_all, grown, each-next, listed_further}
 use Rattle.skew_shapes.proofs.horizontal_strips.+add_strips.Goals as goal
 
 falls_rows : (a b : ℕ) (below inner : List ℕ) → b ∷ below ≡ inner → Falls (a ∷ inner) → (b ≤ a) × Falls (b ∷ below)
@@ -13,7 +14,7 @@ pub add_strips-requires : goal.add_strips-requires
 add_strips-requires t c =
     let a = get_or c.args.inner.now 0 0 in
     let below = take (length c.args.inner.now - 1) (drop 1 c.args.inner.now) in
-    let split = split_rows c.args.inner.now c.in-len1-up.len_at_least in
+    let split = split_first c.args.inner.now c.in-len1-up.len_at_least in
     let falls = falls_rows c.args.most (get_or c.args.inner.now 0 0) (take (length c.args.inner.now - 1) (drop 1 c.args.inner.now)) c.args.inner.now split c.requires.falls in
     let first = falls.0 in
     let shorter = ap length split in
@@ -47,7 +48,7 @@ loop-shorter-preserved t c =
 
 pub returns : goal.returns
 returns t c =
-    let split = split_rows c.args.inner.now c.in-len1-up.len_at_least in
+    let split = split_first c.args.inner.now c.in-len1-up.len_at_least in
     grown_all c.args.most c.args.left (get_or c.args.inner.now 0 0) c.loop-shorter.shorter (take (length c.args.inner.now - 1) (drop 1 c.args.inner.now)) c.args.rows.now c.args.inner.now
     c.args.shapes.now.items c.loop-shorter.shapes.items split (omega arith)
     (c.loop-shorter.invariant

@@ -1,8 +1,9 @@
 use Rattle.std.proofs.Common.{◌≡◌, ℕ, ◌+◌, ◌<◌, ◌≤◌, List, length, take, ap, ◌∙◌, arith, length-append}
 use Rattle.std.proofs.lemmas.List.{take_all}
 use Rattle.sym_model.specs.Schur.{letters_of, times_in}
+use Rattle.sym_model.proofs.Contents.{times_in-append}
 use Rattle.skew_shapes.specs.CellFillings.{row_of}
-use Rattle.skew_shapes.proofs.StandardNumbers.{letters-more, times_in-append, length-letters-take, rows-tableau, few-letters}
+use Rattle.skew_shapes.proofs.StandardNumbers.{letters-more, length-letters-take, rows-tableau, few-letters}
 use Rattle.skew_shapes.proofs.standard.times.Goals as goal
 
 -- one row more

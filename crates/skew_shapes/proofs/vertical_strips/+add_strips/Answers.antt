@@ -1,9 +1,10 @@
 use Rattle.std.proofs.Common.{◌≡◌, ◌+◌, ◌-◌, ◌≤◌, ◌++◌, [], ◌∷◌, List, ℕ, get_or, take, drop, length, map, subst, sym, ap, ◌∙◌, arith, append_assoc}
 use Rattle.sym_model.specs.Partition.{Falls}
 use Rattle.sym_model.specs.Sum.{Among, each}
+use Rattle.sym_model.proofs.Parts.{split_first}
 use Rattle.partitions.specs.Limits.{IsWithinLimits}
 use Rattle.skew_shapes.specs.HorizontalStrips.{counting_down}
-use Rattle.skew_shapes.proofs.StripLists.{split_rows, each-next}
+use Rattle.skew_shapes.proofs.StripLists.{each-next}
 use Rattle.skew_shapes.specs.VerticalStrips.{vertical_on}
 use Rattle.skew_shapes.proofs.ShapeLists.{widened_all, listed_further}
 use Rattle.skew_shapes.proofs.vertical_strips.+add_strips.Goals as goal
@@ -18,7 +19,7 @@ falls_rows a b c below inner e f l = let g : Falls (a ∷ b ∷ below) = subst (
 pub add_strips-requires : goal.add_strips-requires
 add_strips-requires t c =
     let a = get_or c.args.inner.now 0 0 in
-    let split = split_rows c.args.inner.now c.in-len1-up.len_at_least in
+    let split = split_first c.args.inner.now c.in-len1-up.len_at_least in
     let shorter = ap length split in
     let first = (falls_rows c.args.most (get_or c.args.inner.now 0 0) (get_or c.args.inner.now 0 0) (take (length c.args.inner.now - 1) (drop 1 c.args.inner.now)) c.args.inner.now split c.requires.falls (omega arith)).0 in
     let falls = falls_rows c.args.most (get_or c.args.inner.now 0 0) (c.min-longest.result - c.loop-shorter.shorter) (take (length c.args.inner.now - 1) (drop 1 c.args.inner.now)) c.args.inner.now split c.requires.falls (omega arith) in
@@ -48,7 +49,7 @@ loop-shorter-preserved t c =
 
 pub returns : goal.returns
 returns t c =
-    let split = split_rows c.args.inner.now c.in-len1-up.len_at_least in
+    let split = split_first c.args.inner.now c.in-len1-up.len_at_least in
     widened_all c.args.most c.args.left (get_or c.args.inner.now 0 0) c.loop-shorter.shorter (take (length c.args.inner.now - 1) (drop 1 c.args.inner.now)) c.args.rows.now c.args.inner.now
     c.args.shapes.now.items c.loop-shorter.shapes.items split (let m = c.min.ensures in omega arith)
     (c.loop-shorter.invariant

@@ -3,6 +3,7 @@ use Rattle.std.specs.Prelude.{Err}
 use Rattle.std.proofs.lemmas.List.{take_all}
 use Rattle.sym_model.specs.Partition.{IsPartition, size}
 use Rattle.sym_model.proofs.SortedParts.{rows_within_size}
+use Rattle.sym_model.proofs.Numbers.{many-within}
 use Rattle.coeff_rings.specs.Fractions.{scaled}
 use Rattle.coeff_rings.specs.Room.{magnitude}
 use Rattle.sparse_polys.proofs.Steps.{error_is}
@@ -10,7 +11,7 @@ use Rattle.monomial_laws.specs.MonomialProduct.{arrangements}
 use Rattle.sparse_polys.specs.declared.search.Counted.{Counted}
 use Rattle.sparse_polys.specs.Search.{count_at, AreCounted}
 use Rattle.sparse_polys.specs.MonomialProducts.{count_of, AreSmall}
-use Rattle.sparse_polys.proofs.Accumulating.{Adds-then, Adds-none, Adds-same, Overflows-then, Overflows-many, distribute_counts, times-nothing, product-within, many-within}
+use Rattle.sparse_polys.proofs.Accumulating.{Adds-then, Adds-none, Adds-same, Overflows-then, Overflows-many, distribute_counts, times-nothing, product-within}
 use Rattle.sparse_polys.proofs.ExactCounts.{among_at, all_among}
 use Rattle.sparse_polys.proofs.Rows.{count_at-next, count_at-within}
 use Rattle.sparse_polys.proofs.expansion_products.add_pair.Goals as goal

@@ -4,13 +4,14 @@ use Rattle.std.specs.Map.Iter.{deref_pair}
 use Rattle.std.proofs.lemmas.List.{map-append}
 use Rattle.sym_model.specs.Partition.{size}
 use Rattle.sym_model.specs.Expansion.{Terms, Fraction}
+use Rattle.sym_model.proofs.Numbers.{many-within}
 use Rattle.coeff_rings.specs.Fractions.{scaled}
 use Rattle.coeff_rings.specs.Room.{magnitude}
 use Rattle.sparse_polys.specs.Combination.{terms_of}
 use Rattle.sparse_polys.proofs.Steps.{all_done, error_is}
 use Rattle.monomial_laws.specs.MonomialProduct.{arrangements}
 use Rattle.sparse_polys.specs.MonomialProducts.{row, absolute_row, greatest_size, Adds}
-use Rattle.sparse_polys.proofs.Accumulating.{Adds-then, Adds-none, Overflows-then, distribute_next, times-nothing, many-within, magnitude-positive}
+use Rattle.sparse_polys.proofs.Accumulating.{Adds-then, Adds-none, Overflows-then, distribute_next, times-nothing, magnitude-positive}
 use Rattle.sparse_polys.proofs.Rows.{row-next, absolute_row-next, row-within, times-within, greatest_size-among, list_whole, list_among, scaled-within}
 use Rattle.sparse_polys.proofs.expansion_products.add_row.Goals as goal
 

@@ -1,7 +1,8 @@
 use Rattle.std.proofs.Common.{◌≡◌, ℕ, zero, suc, ◌+◌, ◌<◌, List, [], ◌∷◌, ◌++◌, length, get_or, set, refl, ap, ◌∙◌, inr, arith, append_assoc}
 use Rattle.sym_model.specs.Partition.{size}
+use Rattle.sym_model.proofs.Parts.{get_or-le-size}
 use Rattle.sparse_polys.specs.Raised.{raised}
-use Rattle.sparse_polys.proofs.Raising.{zeros, length-then, set-raised, entry-small, size-padded, refilled}
+use Rattle.sparse_polys.proofs.Raising.{zeros, length-then, set-raised, size-padded, refilled}
 use Rattle.std.proofs.lemmas.List.{length-set}
 use Rattle.sparse_polys.proofs.monomial.raise.Goals as goal
 
@@ -22,7 +23,7 @@ pub add_one-requires-clause-small : goal.add_one-requires-clause-small
 add_one-requires-clause-small c =
     let inv = c.loop-exponents.invariant in
     let items = c.loop-exponents.exponents.items in
-    let small = entry-small items c.args.at in
+    let small = get_or-le-size items c.args.at in
     let same : size items ≡ size c.args.exponents.now.items = ap size inv.1 ∙ size-padded c.args.exponents.now.items inv.0 in
     let e : get_or c.as_mut_slice.result.now c.args.at 0 ≡ get_or items c.args.at 0 = ap (λ x. get_or x c.args.at 0) c.as_mut_slice.ensures.value in
     omega arith

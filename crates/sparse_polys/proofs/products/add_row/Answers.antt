@@ -11,7 +11,8 @@ use Rattle.sparse_polys.specs.Combination.{terms_of}
 use Rattle.sparse_polys.proofs.Steps.{all_done, error_is}
 use Rattle.sparse_polys.specs.Products.{cleared_sum, Adds}
 use Rattle.sparse_polys.proofs.ClearedSums.{Adds-none, Adds-then}
-use Rattle.sparse_polys.proofs.ListSteps.{sum_next, absolute_next, list_whole, list_among, so_far_next, product_sums, product_sizes, product_large}
+use Rattle.sparse_polys.proofs.ListSteps.{sum_next, absolute_next, list_whole, list_among, so_far_next, product_sizes, product_large}
+use Rattle.sparse_polys.proofs.Accumulating.{distribute_next as product_sums}
 use Rattle.sparse_polys.proofs.products.add_row.Goals as goal
 use lib.IntN.{*ℤ-zero}
 

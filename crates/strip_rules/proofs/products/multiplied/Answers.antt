@@ -9,10 +9,11 @@ use Rattle.sparse_polys.proofs.Steps.{all_done, error_is}
 use Rattle.sparse_polys.proofs.ListSteps.{list_whole, list_among, so_far_next}
 use Rattle.sparse_polys.specs.MonomialProducts.{greatest_size}
 use Rattle.sparse_polys.proofs.Expansions.{common-denominators, least-denominators, divides_terms}
+use Rattle.sparse_polys.proofs.Rows.{greatest_size-among}
 use Rattle.strip_rules.specs.Factors.{polynomial_of}
 use Rattle.strip_rules.specs.Room.{AreWithin}
 use Rattle.strip_rules.proofs.TermProducts.{list_value, expansion}
-use Rattle.strip_rules.proofs.ListProducts.{AddsList, AddsList-none, AddsList-next, refused_large, list_large, size_within, weight_within}
+use Rattle.strip_rules.proofs.ListProducts.{AddsList, AddsList-none, AddsList-next, refused_large, list_large, weight_within}
 use Rattle.strip_rules.proofs.products.multiplied.Goals as goal
 
 pub loop-label-init : goal.loop-label-init
@@ -60,7 +61,7 @@ loop-label-preserved g c =
           λ q common.
           let before = c.loop-label.invariant.sums q common in
           subst (λ es. AddsList f k (greatest_size list) q (terms_of value es) c.add_product.new.sum) pushed
-          (AddsList-next value f k (greatest_size list) q done c.loop-label.sum c.add_product.new.sum label v (size_within list (label, value v) here)
+          (AddsList-next value f k (greatest_size list) q done c.loop-label.sum c.add_product.new.sum label v (greatest_size-among list (label, value v) here)
           (c.in_ok-add_product.ensures.ok q (record { positive = common.positive; multiple = common.multiple (label, value v) here }) before.cleared)
           before);
       labels =

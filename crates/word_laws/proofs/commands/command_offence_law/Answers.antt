@@ -1,5 +1,5 @@
 -- The first offence.
-use Rattle.word_laws.proofs.FirstOffences.{first-among, none-before, empty-none, none-empty}
+use Rattle.word_laws.proofs.FirstOffences.{first-among, none-before, none-empty, first_none}
 use Rattle.word_laws.proofs.commands.command_offence_law.Goals as goal
 
 pub returns-clause-is_one : goal.returns-clause-is_one
@@ -9,4 +9,4 @@ pub returns-clause-none_before : goal.returns-clause-none_before
 returns-clause-none_before c = none-before
 
 pub returns-clause-none : goal.returns-clause-none
-returns-clause-none c = λ os. (empty-none os, none-empty os)
+returns-clause-none c = λ os. (first_none os, none-empty os)

@@ -2,9 +2,9 @@ use Rattle.std.proofs.Common.{ℕ, ◌<◌, ◌-◌, List, length, refl, ap, sym
 use Rattle.sym_model.specs.Partition.{part}
 use Rattle.sym_model.specs.Slide.{HasInnerCorner}
 use Rattle.sym_model.specs.Tableau.{SkewFilling}
+use Rattle.sym_model.proofs.Parts.{positive_within}
 use Rattle.skew_shapes.specs.CellFillings.{without_outer_cell}
 use Rattle.skew_shapes.specs.Rows.{IsKept, filling_in}
-use Rattle.skew_shapes.proofs.CellRows.{positive_within}
 use Rattle.skew_shapes.proofs.KeptRows.{HasPlaces-lowered, IsSkew-outer_lowered, filling_in-dropped}
 use Rattle.skew_shapes.proofs.filled.Filled.drop_outer_cell.Goals as goal
 

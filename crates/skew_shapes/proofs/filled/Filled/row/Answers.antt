@@ -1,7 +1,7 @@
 use Rattle.std.proofs.Common.{◌≡◌, ◌≤◌, ◌+◌, ◌-◌, length, take, drop, ap, ap₂, sym, subst, ◌∙◌, arith}
 use Rattle.sym_model.specs.Partition.{part, rows}
 use Rattle.sym_model.specs.Tableau.{SkewFilling}
-use Rattle.partitions.proofs.BetaSteps.{at-within-size}
+use Rattle.sym_model.proofs.Parts.{get_or-le-size}
 use Rattle.skew_shapes.specs.CellFillings.{row_of}
 use Rattle.skew_shapes.specs.Rows.{place_of}
 use Rattle.skew_shapes.proofs.KeptRows.{row-kept, row-bounds}
@@ -10,11 +10,11 @@ use Rattle.skew_shapes.proofs.filled.Filled.row.Goals.{After-deref-3}
 
 pub overflow_add-part : goal.overflow_add-part
 overflow_add-part c =
-    omega (arith, c.part.ensures.value, at-within-size c.inner.result.now (c.args.row - 1), c.part.ensures.limits.small)
+    omega (arith, c.part.ensures.value, get_or-le-size c.inner.result.now (c.args.row - 1), c.part.ensures.limits.small)
 
 pub overflow_add-part-2 : goal.overflow_add-part-2
 overflow_add-part-2 c =
-    omega (arith, c.part-2.ensures.value, at-within-size c.outer.result.now (c.args.row - 1), c.part-2.ensures.limits.small)
+    omega (arith, c.part-2.ensures.value, get_or-le-size c.outer.result.now (c.args.row - 1), c.part-2.ensures.limits.small)
 
 counted : (c : After-deref-3) → (1 ≤ c.args.row) × (c.args.row ≤ rows c.self.inside.shape.0)
 counted c = subst (λ (t : SkewFilling). (1 ≤ c.args.row) × (c.args.row ≤ rows t.outer)) (sym c.self.view_is) c.requires

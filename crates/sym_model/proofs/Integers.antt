@@ -1,0 +1,47 @@
+-- Integers: absolute values, signs, and the test of specs/LargeAnswer for a coefficient past the limit.
+use Rattle.std.proofs.Common.{◌+◌, ◌+ℤ◌, arith, negsuc, pos, ℤ, ◌≤◌, inl, inr, refl, suc, zero, ◌≡◌, ◌⊎◌, ◌*ℤ◌, ◌^◌, true, ◌*◌, Bool, cond, false}
+use Rattle.std.proofs.lemmas.Int.{ints}
+use Rattle.std.specs.Prelude.{nat_abs, ◌≤ℤ◌}
+use Rattle.std.proofs.Math.Nat.{mul-suc}
+use Rattle.std.proofs.lemmas.Bool.{leb-true, le-leb}
+use Rattle.sym_model.specs.LargeAnswer.{is_past}
+
+pub nat_abs-sum : (x y : ℤ) → nat_abs (x +ℤ y) ≤ nat_abs x + nat_abs y
+nat_abs-sum (pos a) (pos b) = omega (arith, ints)
+nat_abs-sum (pos a) (negsuc b) = omega (arith, ints)
+nat_abs-sum (negsuc a) (pos b) = omega (arith, ints)
+nat_abs-sum (negsuc a) (negsuc b) = omega (arith, ints)
+
+pub zero_or_not : (z : ℤ) → (z ≡ pos 0) ⊎ (z ≡ pos 0 → ⊥)
+zero_or_not (pos zero) = inl refl
+zero_or_not (pos (suc n)) = inr (λ e. absurd (omega (arith, ints)))
+zero_or_not (negsuc n) = inr (λ e. absurd (omega (arith, ints)))
+
+pub product-at_least : (a b : ℤ) → pos 0 ≤ℤ a → pos 1 ≤ℤ b → a ≤ℤ (a *ℤ b)
+product-at_least (pos a) (pos zero) h k = absurd (omega (arith, ints))
+product-at_least (pos a) (pos (suc b)) h k = let e = mul-suc a b in omega (arith, ints)
+product-at_least (pos a) (negsuc b) h k = absurd (omega (arith, ints))
+product-at_least (negsuc a) b h k = absurd (omega (arith, ints))
+
+pub product-nonnegative : (a b : ℤ) → pos 0 ≤ℤ a → pos 0 ≤ℤ b → pos 0 ≤ℤ (a *ℤ b)
+product-nonnegative (pos a) (pos b) h k = omega (arith, ints)
+product-nonnegative (negsuc a) b h k = absurd (omega (arith, ints))
+product-nonnegative (pos a) (negsuc b) h k = absurd (omega (arith, ints))
+
+pub is_past-tells : (z : ℤ) → is_past z ≡ true → pos (2 ^ 127) ≤ℤ z
+is_past-tells (pos n) h = let l = leb-true (2 ^ 127) n h in omega (arith, ints)
+is_past-tells (negsuc n) h = cc
+
+pub is_past-from : (z : ℤ) → pos (2 ^ 127) ≤ℤ z → is_past z ≡ true
+is_past-from (pos n) h = le-leb (2 ^ 127) n (omega (arith, ints))
+is_past-from (negsuc n) h = absurd (omega (arith, ints))
+
+pub nat_abs-product : (a b : ℤ) → nat_abs (a *ℤ b) ≡ nat_abs a * nat_abs b
+nat_abs-product (pos m) (pos n) = omega (arith, ints)
+nat_abs-product (pos m) (negsuc n) = omega (arith, ints)
+nat_abs-product (negsuc m) (pos n) = omega (arith, ints)
+nat_abs-product (negsuc m) (negsuc n) = omega (arith, ints)
+
+pub cond-nonnegative : (b : Bool) (z : ℤ) → pos 0 ≤ℤ z → pos 0 ≤ℤ cond b z (pos 0)
+cond-nonnegative true z h = h
+cond-nonnegative false z h = omega (arith, ints)

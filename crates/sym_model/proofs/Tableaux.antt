@@ -1,0 +1,33 @@
+-- The lengths of the rows of a shape, and the letters of tableaux.
+use Rattle.std.proofs.Common.{List, [], arith, length, refl, ℕ, ◌∷◌, ◌≡◌, ap, suc, ◌++◌, nat_le, true, ◌-◌, get_or, zero}
+use Rattle.std.proofs.lemmas.List.{length-append}
+use Rattle.std.proofs.lemmas.Bool.{and_from, and_parts}
+use Rattle.sym_model.specs.Schur.{letters_of, row_lengths}
+use Rattle.sym_model.specs.Tableau.{shape_of, are_letters}
+use Rattle.sym_model.specs.Partition.{size}
+
+pub length-letters_of : (rows : List (List ℕ)) → length (letters_of rows) ≡ size (shape_of rows)
+length-letters_of [] = refl
+length-letters_of (row ∷ rows) = omega (arith, length-append row (letters_of rows), length-letters_of rows)
+
+pub length-row_lengths : (outer inner : List ℕ) → length (row_lengths outer inner) ≡ length outer
+length-row_lengths [] inner = refl
+length-row_lengths (a ∷ outer) [] = ap suc (length-row_lengths outer [])
+length-row_lengths (a ∷ outer) (b ∷ inner) = ap suc (length-row_lengths outer inner)
+
+pub are_letters-append : (v w : List ℕ) → are_letters v ≡ true → are_letters w ≡ true → are_letters (v ++ w) ≡ true
+are_letters-append [] w p q = q
+are_letters-append (a ∷ v) w p q =
+    let h = and_parts (nat_le 1 a) (are_letters v) p in
+    and_from (nat_le 1 a) (are_letters (v ++ w)) h.0 (are_letters-append v w h.1 q)
+
+pub get_or-row_lengths : (outer inner : List ℕ) (k : ℕ) → get_or (row_lengths outer inner) k 0 ≡ get_or outer k 0 - get_or inner k 0
+get_or-row_lengths [] inner k = omega arith
+get_or-row_lengths (a ∷ outer) [] zero = omega arith
+get_or-row_lengths (a ∷ outer) [] (suc k) = get_or-row_lengths outer [] k
+get_or-row_lengths (a ∷ outer) (b ∷ inner) zero = refl
+get_or-row_lengths (a ∷ outer) (b ∷ inner) (suc k) = get_or-row_lengths outer inner k
+
+pub row_lengths-none : (parts : List ℕ) → row_lengths parts [] ≡ parts
+row_lengths-none [] = refl
+row_lengths-none (a ∷ parts) = ap (λ l. a ∷ l) (row_lengths-none parts)
