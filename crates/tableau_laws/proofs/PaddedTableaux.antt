@@ -95,4 +95,4 @@ padded-semistandard inner (row ∷ lower ∷ rows) f p =
     (pass_padded (part inner 1) (part (drop 1 inner) 1) row lower (subst (λ k. k ≤ part inner 1) (second_part inner) (falls_first inner f)) p.0
     ∙ ap (λ k. columns_rise row (drop (part inner 1 - k) lower)) (sym (second_part inner)))
     (padded-semistandard (drop 1 inner) (lower ∷ rows) (falls_after inner f) p.1))
-    ∙ and_assoc (row_rises row) (columns_rise row (drop (part inner 1 - part inner 2) lower)) (semistandard (drop 1 inner) (lower ∷ rows))
+    ∙ sym (and_assoc (row_rises row) (columns_rise row (drop (part inner 1 - part inner 2) lower)) (semistandard (drop 1 inner) (lower ∷ rows)))
