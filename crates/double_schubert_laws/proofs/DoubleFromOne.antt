@@ -10,10 +10,11 @@ use Rattle.sym_model.specs.Permutation.{IsOneLine, IsTransition, letter, kept, t
 use Rattle.sym_model.specs.Schubert.{schubert_over}
 use Rattle.sym_model.proofs.Polynomials.{pair_plus, pair_negate, pair_each, pair_determined, same_from_pair, Same_refl, Same_sym, plus_respects, times_respects}
 use Rattle.sym_model.proofs.AfterLists.{length_after}
+use Rattle.sym_model.proofs.Lists.{get_or-any}
 use Rattle.schubert_laws.proofs.DifferenceLaws.{variable_after}
 use Rattle.schubert_laws.proofs.FixedTails.{one_line_added, one_line_next, next_after}
 use Rattle.schubert_laws.proofs.PathsFromOne.{below_next}
-use Rattle.schubert_laws.proofs.Swaps.{swap_at, length-swap_at, default_free, among_get}
+use Rattle.schubert_laws.proofs.Swaps.{swap_at, length-swap_at, among_get}
 use Rattle.schubert_laws.proofs.LowerPermutations.{letter_added, letter_kept}
 use Rattle.schubert_laws.proofs.PlaceSums.{sum_below_ext}
 use Rattle.schubert_laws.proofs.MonkStep.{is_cover, signed, value, IsMonk}
@@ -52,7 +53,7 @@ letter_longer w k q h =
     let i : q ≡ suc q - 1 = omega arith in
     let la = length-append w (after (length w) (k + 1)) in
     let lb = length_after (length w) (k + 1) in
-    default_free (longer w k) q 0 (suc q) (omega arith) ∙ ap (λ j. get_or (longer w k) j (suc q)) i ∙ letter_added (k + 1) w (suc q) (omega arith)
+    get_or-any (longer w k) q 0 (suc q) (omega arith) ∙ ap (λ j. get_or (longer w k) j (suc q)) i ∙ letter_added (k + 1) w (suc q) (omega arith)
 
 -- ---- Monk's rule
 
@@ -85,7 +86,7 @@ letter_counts w i o h = at w (i - 1) (λ a m. (o.letters a m).0)
 pub letter_small : (w : List ℕ) (i : ℕ) → IsOneLine w → 1 ≤ i → letter w i ≤ max (length w) i
 letter_small w i o h = elim (cases_lt (i - 1) (length w)) [
   | inl l ↦
-      let d = default_free w (i - 1) i 0 l in
+      let d = get_or-any w (i - 1) i 0 l in
       let m = (o.letters (get_or w (i - 1) 0) (among_get (i - 1) 0 w l)).1 in
       omega arith
   | inr l ↦ let p = get_past w (i - 1) i l in omega arith

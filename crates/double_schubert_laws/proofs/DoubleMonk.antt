@@ -9,12 +9,13 @@ use Rattle.sym_model.specs.Permutation.{code}
 use Rattle.sym_model.specs.DividedDifference.{differences_after}
 use Rattle.sym_model.specs.Schubert.{schubert_over}
 use Rattle.sym_model.proofs.Polynomials.{pair_in, pair_negate, pair_times, same_from_pair}
+use Rattle.sym_model.proofs.Parts.{length-staircase}
 use Rattle.schubert_laws.proofs.Climbs.{across, across_ext}
 use Rattle.schubert_laws.proofs.Differences.{along, pair_differences}
 use Rattle.schubert_laws.proofs.Exchanges.{raise, length-exchange_at}
 use Rattle.schubert_laws.proofs.DifferenceLaws.{variable_after}
 use Rattle.schubert_laws.proofs.Dominant.{pair_x_to, once_exchange, among_exchange, greater_head, code_no_ascent}
-use Rattle.schubert_laws.proofs.FixedLetters.{falls_staircase, length-staircase, once_added, code_added}
+use Rattle.schubert_laws.proofs.FixedLetters.{falls_staircase, once_added, code_added}
 use Rattle.schubert_laws.proofs.Swaps.{swap_at, length-swap_at, once_swap, among_get}
 use Rattle.schubert_laws.proofs.PlaceSums.{sum_below_only}
 use Rattle.schubert_laws.proofs.MonkStep.{covered, value, signed_up, covered_is, Passes, IsMonk}

@@ -3,7 +3,7 @@ use Rattle.std.proofs.lemmas.List.{map-append}
 use Rattle.sym_model.specs.Expansion.{Fraction}
 use Rattle.sparse_polys.specs.Combination.{terms_of}
 use Rattle.expansion_printer.specs.HeldTerms.{AreHeld}
-use Rattle.expansion_printer.proofs.Texts.{all_read}
+use Rattle.sym_model.proofs.Lists.{all_read}
 use Rattle.expansion_printer.proofs.PrintableTerms.{AreHeld-push}
 use Rattle.expansion_printer.proofs.block.tell_terms.Goals as goal
 
