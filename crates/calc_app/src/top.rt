@@ -32,7 +32,7 @@ use std::alloc::Global;
 /// where a coefficient that is defined for it is past 2^127 - 1, or its weight is 2^127 or more; tableaux are put as they are
 /// listed. Its text is put, then `finish` is called, after a refusal too.
 /// `SinkFault` comes exactly where a call of the sink failed, and the sink is not called after it. Where memory is refused
-/// the answer is `NoMemory`, and nothing was put.
+/// the answer is `NoMemory`, and nothing was put; of a batch the blocks of the lines before stand.
 ///
 /// `batch` runs each line of the source as a command, and puts its block, a refusal too, as soon as the line is read, with the
 /// line `--` between two blocks. It ends with `SomeRefused` where a line was refused, and with `SourceFault` after the lines
