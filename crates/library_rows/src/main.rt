@@ -4,6 +4,7 @@
 
 mod expressions;
 mod factors;
+mod growth_rows;
 mod hooks;
 mod kept;
 mod listed;
@@ -27,6 +28,7 @@ fn main(rt: HostRuntime) -> anyhow::Result<()> {
     table_rows::print(&rt)?;
     listed::print(&rt)?;
     made::print(&rt)?;
+    growth_rows::print(&rt)?;
     expressions::print(&rt)?;
     nesting::print(&rt)?;
     texts::print(&rt)?;
