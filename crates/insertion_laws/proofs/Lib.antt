@@ -12,3 +12,10 @@ pub mod SlidOrder
 pub mod SlidLetters
 pub mod KeptOrder
 pub mod SlideKeeps
+pub mod Classes
+pub mod RowRuns
+pub mod OneRow
+pub mod Triples
+pub mod ReadingWords
+pub mod MovedUp
+pub mod SlidWords

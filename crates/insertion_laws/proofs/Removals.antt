@@ -1,10 +1,10 @@
 -- A cell taken off a tableau: what is left is a tableau, insertion gives the cell back, and it is undone so.
-use Rattle.std.proofs.Common.{◌≡◌, ◌≢◌, ◌⊎◌, ℕ, zero, suc, ◌+◌, ◌<◌, ◌≤◌, cond, List, [], ◌∷◌, ◌++◌, length, Option, Some, None, ◌∙◌, ap, ap₂, sym, refl, subst, inl, inr, arith, nat_lt}
-use Rattle.std.proofs.lemmas.Bool.{lt-ltb, le-ltb, eq-eqb, ne_eqb}
+use Rattle.std.proofs.Common.{◌≡◌, ◌≢◌, ◌⊎◌, ℕ, zero, suc, ◌+◌, ◌<◌, ◌≤◌, cond, List, [], ◌∷◌, ◌++◌, length, Option, Some, None, ◌∙◌, ap, ap₂, sym, refl, subst, inl, inr, arith}
+use Rattle.std.proofs.lemmas.Bool.{cases_lt, lt-ltb, le-ltb, eq-eqb, ne_eqb}
 use Rattle.std.proofs.lemmas.List.{length-append}
 use Rattle.sym_model.specs.Insertion.{row_with, bumped, inserted, with_step}
 use Rattle.sym_model.specs.Tableau.{shape_of}
-use Rattle.sym_model.specs.Growth.{grown}
+use Rattle.sym_model.specs.Growth.{grown, with_end}
 use Rattle.insertion_laws.specs.Rows.{RisesFrom, StandsOn, first_row, AreRows, AreBelow, RowsBelow, HasOneMore, HasCorner}
 use Rattle.insertion_laws.specs.Removal.{row_back, letter_back, without_last, last_of, row_over, removed, row_ending, without_step}
 use Rattle.insertion_laws.proofs.InsertedRows.{inserted-none, first-inserted, with-end, length-with}
@@ -103,6 +103,31 @@ grown-here a b large small h = ap (λ t. cond t 0 (suc (grown large small))) (lt
 
 pub grown-below : (a b : ℕ) (large small : List ℕ) → a ≤ b → grown (a ∷ large) (b ∷ small) ≡ suc (grown large small)
 grown-below a b large small h = ap (λ t. cond t 0 (suc (grown large small))) (le-ltb b a h)
+
+pub grown-within : (large small : List ℕ) → grown large small ≤ length small
+grown-within [] small = omega arith
+grown-within (a ∷ large) [] = omega arith
+grown-within (a ∷ large) (b ∷ small) = elim (cases_lt b a) [
+  | inl h ↦ omega (arith, grown-here a b large small h)
+  | inr h ↦ omega (arith, grown-below a b large small h, grown-within large small)
+]
+
+-- the step goes to the end of the row that is longer in p
+pub end-step :
+    (k : ℕ) (p q : List (List ℕ)) → HasOneMore (shape_of p) (shape_of q) → with_end (grown (shape_of p) (shape_of q)) k q ≡ with_step k p q
+end-step k [] q h = absurd h
+end-step k (row ∷ p) [] h = refl
+end-step k (row ∷ p) (steps ∷ q) h = by h (λ m. end-step k p q m)
+  where
+    by : ((length row ≡ length steps + 1) × (shape_of p ≡ shape_of q)) ⊎ ((length row ≡ length steps) × HasOneMore (shape_of p) (shape_of q))
+        → (HasOneMore (shape_of p) (shape_of q) → with_end (grown (shape_of p) (shape_of q)) k q ≡ with_step k p q)
+        → with_end (grown (length row ∷ shape_of p) (length steps ∷ shape_of q)) k (steps ∷ q) ≡ with_step k (row ∷ p) (steps ∷ q)
+    by (inl m) rec =
+        ap (λ i. with_end i k (steps ∷ q)) (grown-here (length row) (length steps) (shape_of p) (shape_of q) (omega (arith, m.0)))
+        ∙ sym (step-here k row steps p q (omega (arith, m.0)))
+    by (inr m) rec =
+        ap (λ i. with_end i k (steps ∷ q)) (grown-below (length row) (length steps) (shape_of p) (shape_of q) (omega (arith, m.0)))
+        ∙ ap (λ (l : List (List ℕ)). steps ∷ l) (rec m.1) ∙ sym (step-below k row steps p q (omega (arith, m.0)))
 
 -- what is inserted is taken off again
 pub off_again :

@@ -9,7 +9,7 @@ use Rattle.sym_model.specs.StandardTableau.{IsStandard}
 use Rattle.sym_model.specs.Tableau.{IsStraightTableau, are_letters, shape_of}
 use Rattle.sym_model.specs.Growth.{grown}
 use Rattle.sym_model.proofs.Tableaux.{length-letters_of}
-use Rattle.insertion_laws.specs.Rows.{AreRows, RowsBelow, HasOneMore, HasCorner}
+use Rattle.insertion_laws.specs.Rows.{AreRows, AreFrom, RowsBelow, HasOneMore, HasCorner}
 use Rattle.insertion_laws.specs.Removal.{removed, row_ending, without_step, steps_back, word_back}
 use Rattle.insertion_laws.specs.Pairs.{IsPairAt}
 use Rattle.insertion_laws.proofs.InsertedRows.{keeps_rows, adds_cell}
@@ -50,11 +50,6 @@ pair_step m n a p q l h =
       ];
       cells = ap size shape ∙ size-more (shape_of next) (shape_of q) o ∙ ap (λ s. s + 1) h.cells;
     }
-
--- letters from m on
-abbrev AreFrom : ℕ → List ℕ → Type 0
-AreFrom m [] = Unit {0}
-AreFrom m (a ∷ w) = (m ≤ a) × AreFrom m w
 
 pub pair_run :
     (m n : ℕ) (w : List ℕ) (p q : List (List ℕ)) → AreFrom m w → IsPairAt m n p q

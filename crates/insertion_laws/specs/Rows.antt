@@ -28,6 +28,11 @@ abbrev pub AreRows : ℕ → List (List ℕ) → Type 0
 AreRows m [] = Unit {0}
 AreRows m (row ∷ rows) = IsRowOver m row rows × AreRows m rows
 
+-- no letter is smaller than m
+abbrev pub AreFrom : ℕ → List ℕ → Type 0
+AreFrom m [] = Unit {0}
+AreFrom m (a ∷ w) = (m ≤ a) × AreFrom m w
+
 -- each letter is smaller than k
 abbrev pub AreBelow : ℕ → List ℕ → Type 0
 AreBelow k [] = Unit {0}

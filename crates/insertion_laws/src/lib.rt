@@ -5,8 +5,12 @@
 //! the law.
 #![tactic(auto)]
 
+mod knuth_words;
+mod slides;
 mod sliding;
 mod words;
 
+pub use knuth_words::class_law;
+pub use slides::slide_class_law;
 pub use sliding::slide_law;
 pub use words::{insertion_law, pair_law};

@@ -1,5 +1,7 @@
 //! One slide, and slides until the inner partition is empty.
 ghost use Rattle.std.specs.Prelude.{◌≡◌};
+ghost use Rattle.sym_model.specs.Insertion.{reading_word};
+ghost use Rattle.sym_model.specs.Knuth.{AreKnuthEquivalent, IsOnlyTableauOf};
 ghost use Rattle.sym_model.specs.Slide.{HasInnerCorner, IsReached, slide};
 
 use crate::empty_cell::move_letters;
@@ -7,10 +9,11 @@ use skew_shapes::Tableau;
 
 /// The slide of a tableau from the inner corner in this row: the corner becomes an empty cell, the smaller of its right
 /// and its lower neighbour moves into it, on a tie the lower one, and so on with the cell that is then empty; the last
-/// empty cell leaves the shape. It takes no memory.
+/// empty cell leaves the shape. The reading word stays in its Knuth class. It takes no memory.
 pub fn slide(t: Tableau, row: u16) -> Tableau
     requires { HasInnerCorner row t.inner }
-    ensures { result ≡ slide row t }
+    ensures slide { result ≡ slide row t }
+    ensures class { AreKnuthEquivalent (reading_word t.rows) (reading_word result.rows) }
 {
     let column = t.shape().inner().part(row);
     let mut filled = t.into_filled();
@@ -23,9 +26,11 @@ pub fn slide(t: Tableau, row: u16) -> Tableau
     }
 }
 
-/// The tableau that slides lead to from this one when its inner partition has become empty. It takes no memory.
+/// The tableau that slides lead to from this one when its inner partition has become empty: the only straight tableau with
+/// its reading word in the Knuth class of this one's, whichever corners are chosen (Schützenberger). It takes no memory.
 pub fn rectify(t: Tableau) -> Tableau
-    ensures { IsReached t result }
+    ensures reached { IsReached t result }
+    ensures only { IsOnlyTableauOf (reading_word t.rows) result.rows }
 {
     let mut t = t;
     while t.shape().inner().rows() > 0 {

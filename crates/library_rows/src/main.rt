@@ -5,6 +5,7 @@
 mod expansion_rows;
 mod expressions;
 mod factors;
+mod growth_rows;
 mod hooks;
 mod kept;
 mod label_rows;
@@ -34,6 +35,7 @@ fn main(rt: HostRuntime) -> anyhow::Result<()> {
     lattices::print(&rt)?;
     made::print(&rt)?;
     reductions::print(&rt)?;
+    growth_rows::print(&rt)?;
     expressions::print(&rt)?;
     nesting::print(&rt)?;
     expansion_rows::print(&rt)?;

@@ -1,6 +1,6 @@
 -- A word inserted letter by letter, and taken out again step by step.
 use Rattle.std.proofs.Common.{◌≡◌, ◌⊎◌, ℕ, zero, suc, ◌+◌, ◌<◌, ◌≤◌, true, nat_le, List, [], ◌∷◌, ◌++◌, length, drop, get_or, reverse, Some, ◌∙◌, ap, ap₂, sym, refl, subst, inl, inr, arith, append-nil, append_assoc}
-use Rattle.std.proofs.lemmas.Bool.{cases_lt, leb-true, and_parts}
+use Rattle.std.proofs.lemmas.Bool.{leb-true, and_parts}
 use Rattle.std.proofs.lemmas.List.{reverse-append, length-map}
 use Rattle.sym_model.specs.Insertion.{inserted, with_step, inserted_from, insertion_pair}
 use Rattle.sym_model.specs.Partition.{size}
@@ -15,39 +15,12 @@ use Rattle.insertion_laws.specs.Removal.{removed, row_ending, without_step, step
 use Rattle.insertion_laws.specs.Pairs.{IsPairAt}
 use Rattle.insertion_laws.proofs.InsertedRows.{adds_cell}
 use Rattle.insertion_laws.proofs.LastSteps.{corner_found}
-use Rattle.insertion_laws.proofs.RecordedSteps.{step-here, step-below}
-use Rattle.insertion_laws.proofs.Removals.{grown-here, grown-below}
+use Rattle.insertion_laws.proofs.Removals.{grown-within, end-step}
 use Rattle.insertion_laws.proofs.TableauRows.{pair_from, standard_from}
 use Rattle.insertion_laws.proofs.WordsAndPairs.{pair_step, pair_before, pair_again, word_again}
 use Rattle.row_insertion.specs.Pairs.{HaveOneShape, IsTheWordOf}
 use Rattle.row_insertion.specs.RowLists.{without_end}
 use Rattle.row_insertion.proofs.ShrinkingRows.{without_ending}
-
--- ---- the row that has grown
-
-grown-within : (large small : List ℕ) → grown large small ≤ length small
-grown-within [] small = omega arith
-grown-within (a ∷ large) [] = omega arith
-grown-within (a ∷ large) (b ∷ small) = elim (cases_lt b a) [
-  | inl h ↦ omega (arith, grown-here a b large small h)
-  | inr h ↦ omega (arith, grown-below a b large small h, grown-within large small)
-]
-
-end-step :
-    (k : ℕ) (p q : List (List ℕ)) → HasOneMore (shape_of p) (shape_of q) → with_end (grown (shape_of p) (shape_of q)) k q ≡ with_step k p q
-end-step k [] q h = absurd h
-end-step k (row ∷ p) [] h = refl
-end-step k (row ∷ p) (steps ∷ q) h = by h (λ m. end-step k p q m)
-  where
-    by : ((length row ≡ length steps + 1) × (shape_of p ≡ shape_of q)) ⊎ ((length row ≡ length steps) × HasOneMore (shape_of p) (shape_of q))
-        → (HasOneMore (shape_of p) (shape_of q) → with_end (grown (shape_of p) (shape_of q)) k q ≡ with_step k p q)
-        → with_end (grown (length row ∷ shape_of p) (length steps ∷ shape_of q)) k (steps ∷ q) ≡ with_step k (row ∷ p) (steps ∷ q)
-    by (inl m) rec =
-        ap (λ i. with_end i k (steps ∷ q)) (grown-here (length row) (length steps) (shape_of p) (shape_of q) (omega (arith, m.0)))
-        ∙ sym (step-here k row steps p q (omega (arith, m.0)))
-    by (inr m) rec =
-        ap (λ i. with_end i k (steps ∷ q)) (grown-below (length row) (length steps) (shape_of p) (shape_of q) (omega (arith, m.0)))
-        ∙ ap (λ (l : List (List ℕ)). steps ∷ l) (rec m.1) ∙ sym (step-below k row steps p q (omega (arith, m.0)))
 
 -- ---- letter by letter
 

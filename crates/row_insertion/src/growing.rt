@@ -39,8 +39,9 @@ fn put_in(row: &mut Vec<u16>, letter: u16) -> Result<Option<u16>, AllocError>
     Ok(None)
 }
 
-/// Puts a number at the end of a row, counted from 0; behind the last row it begins a new one.
-pub(crate) fn push_at(rows: &mut Vec<Vec<u16>>, at: usize, number: u16) -> Result<(), AllocError>
+/// Puts a number at the end of a row, counted from 0; behind the last row it begins a new one. Want of memory is its only
+/// error.
+pub fn push_at(rows: &mut Vec<Vec<u16>>, at: usize, number: u16) -> Result<(), AllocError>
     requires { at ≤ length rows.old.items }
     ensures { IfOk result (λ done. rows_in rows.new.items ≡ with_end at number (rows_in rows.old.items)) }
 {

@@ -2,6 +2,7 @@
 ghost use Rattle.std.specs.Prelude.{◌≡◌, ◌≤◌, true, length, IfOk};
 ghost use Rattle.sym_model.specs.Insertion.{insertion_pair};
 ghost use Rattle.sym_model.specs.Tableau.{are_letters};
+ghost use Rattle.sym_model.specs.Knuth.{IsOnlyTableauOf};
 ghost use Rattle.row_insertion.specs.Pairs.{HaveOneShape};
 
 use crate::growing::{insert, push_at};
@@ -12,11 +13,13 @@ use std::alloc::Global;
 
 /// The insertion tableau and the recording tableau of a word with at most 512 letters, each at least 1 (Robinson,
 /// Schensted and Knuth): the letters are inserted one by one, and the second tableau says at which step each cell came.
+/// The first one is the only straight tableau with its reading word in the Knuth class of the word.
 /// Want of memory is its only error.
 pub fn insert_word(alloc: Global, letters: &[u16]) -> Result<(Tableau, Standard), NoMemory>
     requires few { length letters.now ≤ 512 }
     requires letters { are_letters letters.now ≡ true }
     ensures pair { IfOk result (λ pair. (pair.0.rows, pair.1.rows) ≡ insertion_pair letters.now) }
+    ensures only { IfOk result (λ pair. IsOnlyTableauOf letters.now pair.0.rows) }
     ensures one_shape { IfOk result (λ pair. HaveOneShape pair.0 pair.1) }
 {
     let mut insertion = Vec::new(alloc);

@@ -59,8 +59,8 @@ fn put_row(filled: &mut Filled, row: u16, numbers: &[u16])
     }
 }
 
-/// The standard tableau with these rows.
-pub(crate) fn standard_of(alloc: Global, rows: &[Vec<u16>]) -> Result<Standard, NoMemory>
+/// The standard tableau with these rows. Want of memory is its only error.
+pub fn standard_of(alloc: Global, rows: &[Vec<u16>]) -> Result<Standard, NoMemory>
     requires standard { IsStandard (rows_in rows.now) }
     requires tableau { AreRows 1 (rows_in rows.now) }
     requires few { size (shape_of (rows_in rows.now)) ≤ 512 }

@@ -1,11 +1,16 @@
 -- What slides reach from the tableau so far they reach from the first one; each slide makes the inner partition smaller.
 use Rattle.sym_model.specs.Partition.{size}
+use Rattle.sym_model.specs.Insertion.{reading_word}
+use Rattle.sym_model.specs.Knuth.{AreKnuthEquivalent}
 use Rattle.sym_model.specs.Slide.{IsReached}
 use Rattle.sym_model.specs.Tableau.{SkewFilling}
 use Rattle.jeu_de_taquin.proofs.sliding.rectify.Given as goal
 
 abbrev pub invariant-loop-t : goal.invariant-loop-t
-invariant-loop-t l = (s : SkewFilling) → IsReached l.t s → IsReached l.fn.t s
+invariant-loop-t l = record {
+  reached : (s : SkewFilling) → IsReached l.t s → IsReached l.fn.t s;
+  class : AreKnuthEquivalent (reading_word l.fn.t.rows) (reading_word l.t.rows)
+}
 
 abbrev pub decreases-loop-t : goal.decreases-loop-t
 decreases-loop-t l = size l.t.inner

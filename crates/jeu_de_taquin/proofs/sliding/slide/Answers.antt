@@ -1,7 +1,10 @@
 use Rattle.std.proofs.Common.{◌≡◌, ap, sym, subst, ◌∙◌, ℕ, List, true}
 use Rattle.std.proofs.lemmas.Bool.{false≢true}
 use Rattle.sym_model.specs.Partition.{IsCell, part}
+use Rattle.sym_model.specs.Insertion.{reading_word}
+use Rattle.sym_model.specs.Knuth.{AreKnuthEquivalent}
 use Rattle.sym_model.specs.Slide.{slide}
+use Rattle.insertion_laws.proofs.SlidWords.{slide_class}
 use Rattle.sym_model.specs.Tableau.{SkewFilling}
 use Rattle.skew_shapes.specs.CellFillings.{IsFilling, is_tableau, with_inner_cell}
 use Rattle.jeu_de_taquin.proofs.Neighbours.{IsFilling-with_inner_cell}
@@ -41,8 +44,8 @@ unreachable-requires c =
     (subst (λ (s : SkewFilling). is_tableau s ≡ true) (sym slid)
     (is_tableau-slide c.args.row c.args.t c.shape.ensures.tableau c.requires)))
 
-pub returns : goal.returns
-returns c =
+pub returns-clause-slide : goal.returns-clause-slide
+returns-clause-slide c =
     let opened : c.add_inner_cell.new.self ≡ with_inner_cell c.args.t c.args.row =
     c.add_inner_cell.ensures ∙ ap (λ (s : SkewFilling). with_inner_cell s c.args.row) c.into_filled-filled.ensures in
     let column : c.part-column.result ≡ part c.args.t.inner c.args.row =
@@ -52,3 +55,8 @@ returns c =
     ∙ whole c.args.t c.add_inner_cell.new.self c.move_letters-last.new.filled c.drop_outer_cell.new.self c.args.row c.part-column.result
     c.move_letters-last.result c.shape.ensures.tableau c.requires opened column m.outer m.inner m.filling m.corner m.cell m.rows
     c.drop_outer_cell.ensures
+
+pub returns-clause-class : goal.returns-clause-class
+returns-clause-class c =
+    subst (λ (s : SkewFilling). AreKnuthEquivalent (reading_word c.args.t.rows) (reading_word s.rows)) (sym (returns-clause-slide c))
+    (slide_class c.args.row c.args.t c.shape.ensures.tableau.tableau c.requires)

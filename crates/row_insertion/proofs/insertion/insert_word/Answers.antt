@@ -1,4 +1,8 @@
-use Rattle.std.proofs.Common.{◌<◌, length, get_or, ap, sym, refl, subst, arith}
+use Rattle.std.proofs.Common.{◌≡◌, ℕ, List, rules, ◌<◌, length, get_or, ap, sym, refl, subst, arith}
+use Rattle.std.proofs.lemmas.Grind.{common_steps}
+use Rattle.sym_model.specs.Insertion.{insertion_pair}
+use Rattle.sym_model.specs.Knuth.{IsOnlyTableauOf}
+use Rattle.insertion_laws.proofs.ReadingWords.{only_tableau_of}
 use Rattle.sym_model.specs.StandardTableau.{IsStandard}
 use Rattle.row_insertion.specs.RowLists.{rows_in}
 use Rattle.row_insertion.proofs.GrowingRows.{length-rows_in}
@@ -29,3 +33,9 @@ pub standard_of-requires-clause-standard : goal.standard_of-requires-clause-stan
 standard_of-requires-clause-standard c =
     subst IsStandard (ap rows_in (sym c.deref-2.ensures.value))
     (run_standard c.args.letters.now c.loop-at.at (rows_in c.loop-at.insertion.items) (rows_in c.loop-at.recording.items) c.loop-at.invariant)
+
+pub returns-clause-only : goal.returns-clause-only
+returns-clause-only c =
+    let w = c.args.letters.now in
+    let e : (c.in_ok-p.p.rows, c.in_ok-q.q.rows) ≡ insertion_pair c.args.letters.now = first_of (search rules, grind (arith, common_steps)) in
+    subst (IsOnlyTableauOf w) (sym (ap (λ (r : List (List ℕ) × List (List ℕ)). r.0) e)) (only_tableau_of w c.requires.letters)

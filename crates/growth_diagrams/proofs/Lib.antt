@@ -1,0 +1,5 @@
+pub mod Corners
+pub mod GridLimits
+pub mod GridLines
+pub mod StandardPairs
+pub mod Chains

@@ -1,0 +1,125 @@
+//! The growth shapes of a permutation.
+ghost use Rattle.std.specs.Prelude.{◌≡◌, ◌-◌, ◌≤◌, IfOk, length};
+ghost use Rattle.sym_model.specs.Growth.{growth_shape, tableau_of_chain};
+ghost use Rattle.sym_model.specs.Insertion.{insertion_pair};
+ghost use Rattle.perm_codes.specs.Limits.{IsWithinLimits};
+ghost use Rattle.growth_diagrams.specs.Grids.{grid_line, grid_lines, lines_in};
+
+use crate::corner::{first_longer, shape_at_corner};
+use calc_base::NoMemory;
+use partitions::Partition;
+use perm_codes::Perm;
+use row_insertion::{push_at, standard_of};
+use skew_shapes::Standard;
+use std::alloc::Global;
+use std::marker::Model;
+
+/// The growth shapes of a permutation of n letters, at (i, j) with i and j from 0 to n.
+#[derive(Drop)]
+pub struct Grid {
+    permutation: Perm,
+    lines: Vec<Vec<Partition>>,
+}
+
+impl Model for Grid {
+    ghost use Rattle.std.specs.Prelude.{◌≡◌, ℕ, List};
+    ghost use Rattle.growth_diagrams.specs.Grids.{grid_lines, lines_in};
+
+    ghost Value = { List ℕ };
+
+    ghost view = { λ g. g.permutation };
+
+    ghost invariant = { λ g. lines_in g.lines.items ≡ grid_lines g.permutation };
+}
+
+impl Grid {
+    /// The number of letters of the permutation.
+    pub fn side(&self) -> u16
+        ensures value { result ≡ length self.now }
+        ensures limits { IsWithinLimits self.now }
+    {
+        self.permutation.len()
+    }
+
+    /// The growth shape at (i, j).
+    pub fn shape_at(&self, i: u16, j: u16) -> &Partition
+        requires i { i ≤ length self.now }
+        requires j { j ≤ length self.now }
+        ensures { result.now ≡ growth_shape self.now i j }
+    {
+        &self.lines[usize::from(i)][usize::from(j)]
+    }
+
+    /// The insertion tableau and the recording tableau of the permutation, the first one read from the shapes at (n, 0), ..,
+    /// (n, n), the second one from those at (0, n), .., (n, n): a number stands in the cell that its shape has more than the
+    /// one before. Want of memory is the only error.
+    pub fn pair_of(&self, alloc: Global) -> Result<(Standard, Standard), NoMemory>
+        ensures insertion { IfOk result (λ pair. pair.0.rows
+            ≡ tableau_of_chain (λ j. growth_shape self.now (length self.now) j) (length self.now)) }
+        ensures recording { IfOk result (λ pair. pair.1.rows
+            ≡ tableau_of_chain (λ i. growth_shape self.now i (length self.now)) (length self.now)) }
+        ensures pair { IfOk result (λ pair. (pair.0.rows, pair.1.rows) ≡ insertion_pair self.now) }
+    {
+        let side = self.side();
+        let mut insertion = Vec::new(alloc);
+        let mut recording = Vec::new(alloc);
+        for at in 0..side {
+            let row = first_longer(self.shape_at(side, at + 1), self.shape_at(side, at));
+            push_at(&mut insertion, usize::from(row), at + 1)?;
+            let step = first_longer(self.shape_at(at + 1, side), self.shape_at(at, side));
+            push_at(&mut recording, usize::from(step), at + 1)?;
+        }
+        let p = standard_of(alloc, &insertion)?;
+        let q = standard_of(alloc, &recording)?;
+        Ok((p, q))
+    }
+}
+
+/// The growth shapes of a permutation. Want of memory is the only error.
+pub fn grow(alloc: Global, w: &Perm) -> Result<Grid, NoMemory>
+    ensures { IfOk result (λ grid. grid ≡ w.now) }
+{
+    let permutation = w.copy()?;
+    let mut lines = Vec::new(alloc);
+    lines.push(first_line(alloc, w)?)?;
+    for at in 0..w.len() {
+        let line = next_line(alloc, w, at + 1, &lines[usize::from(at)])?;
+        lines.push(line)?;
+    }
+    Ok(Grid { permutation, lines })
+}
+
+/// The shapes at (0, 0), .., (0, n), which are empty.
+fn first_line(alloc: Global, w: &Perm) -> Result<Vec<Partition>, NoMemory>
+    ensures { IfOk result (λ line. line.items ≡ grid_line w.now 0) }
+{
+    let mut line = Vec::new(alloc);
+    for _ in 0..w.len() + 1 {
+        line.push(Partition::from_valid_parts(alloc, &[])?)?;
+    }
+    Ok(line)
+}
+
+/// The shapes of a line, from those of the line before it.
+fn next_line(
+    alloc: Global,
+    w: &Perm,
+    number: u16,
+    line: &[Partition],
+) -> Result<Vec<Partition>, NoMemory>
+    requires first { 1 ≤ number }
+    requires last { number ≤ length w.now }
+    requires line { line.now ≡ grid_line w.now (number - 1) }
+    ensures { IfOk result (λ next. next.items ≡ grid_line w.now number) }
+{
+    let letter = w.letter(number);
+    let mut next = Vec::new(alloc);
+    next.push(Partition::from_valid_parts(alloc, &[])?)?;
+    for at in 0..w.len() {
+        let here = usize::from(at);
+        let marked = letter == at + 1;
+        let shape = shape_at_corner(alloc, marked, &line[here], &line[here + 1], &next[here])?;
+        next.push(shape)?;
+    }
+    Ok(next)
+}

@@ -1,0 +1,67 @@
+-- The letters of a word put into a row one by one: the row that comes, and the letters whose places they take.
+use Rattle.std.proofs.Common.{◌≡◌, ℕ, ◌<◌, ◌≤◌, List, [], ◌∷◌, ◌++◌, Option, Some, None, ◌∙◌, ap, ap₂, refl}
+use Rattle.sym_model.specs.Insertion.{row_with, bumped, inserted}
+use Rattle.insertion_laws.specs.Rows.{AreFrom}
+use Rattle.insertion_laws.proofs.InsertedRows.{with-less, with-more, bumped-less, bumped-more, inserted-none}
+use Rattle.insertion_laws.proofs.InsertedWords.{inserted_word}
+
+-- the letter that leaves, as a word
+abbrev pub listed : Option ℕ → List ℕ
+listed None = []
+listed (Some b) = b ∷ []
+
+-- the row after the letters of a word are put into it
+abbrev pub row_after : List ℕ → List ℕ → List ℕ
+row_after row [] = row
+row_after row (a ∷ w) = row_after (row_with a row) w
+
+-- the letters whose places they take, in that order
+abbrev pub letters_out : List ℕ → List ℕ → List ℕ
+letters_out row [] = []
+letters_out row (a ∷ w) = listed (bumped a row) ++ letters_out (row_with a row) w
+
+-- the row and the letters that leave it, after the letters of w are put into it
+pub record IsRun (row w new out : List ℕ) : Type 0 where
+  pub row_is : row_after row w ≡ new
+  pub out_is : letters_out row w ≡ out
+
+pub run_none : (row : List ℕ) → IsRun row [] row []
+run_none row = record { row_is = refl; out_is = refl }
+
+pub run_less : (a b : ℕ) {row w new out : List ℕ} → a < b → IsRun (a ∷ row) w new out → IsRun (b ∷ row) (a ∷ w) new (b ∷ out)
+run_less a b {row} {w} l h =
+    record {
+      row_is = ap (λ v. row_after v w) (with-less a b row l) ∙ h.row_is;
+      out_is = ap₂ (λ o v. listed o ++ letters_out v w) (bumped-less a b row l) (with-less a b row l) ∙ ap (λ v. b ∷ v) h.out_is;
+    }
+
+pub run_more :
+    (a b : ℕ) {row w new out : List ℕ} → b ≤ a → IsRun (b ∷ row_with a row) w new out
+    → IsRun (b ∷ row) (a ∷ w) new (listed (bumped a row) ++ out)
+run_more a b {row} {w} l h =
+    record {
+      row_is = ap (λ v. row_after v w) (with-more a b row l) ∙ h.row_is;
+      out_is = ap₂ (λ o v. listed o ++ letters_out v w) (bumped-more a b row l) (with-more a b row l)
+          ∙ ap (λ v. listed (bumped a row) ++ v) h.out_is;
+    }
+
+pub run_past : (b : ℕ) (row w : List ℕ) → AreFrom b w → IsRun (b ∷ row) w (b ∷ row_after row w) (letters_out row w)
+run_past b row [] f = run_none (b ∷ row)
+run_past b row (a ∷ w) f = run_more a b f.0 (run_past b (row_with a row) w f.1)
+
+-- ---- the first row, and those below it
+
+pub word-rows :
+    (row : List ℕ) (rows : List (List ℕ)) (w : List ℕ)
+    → inserted_word (row ∷ rows) w ≡ row_after row w ∷ inserted_word rows (letters_out row w)
+word-rows row rows [] = refl
+word-rows row rows (a ∷ w) = by (bumped a row) (word-rows (row_with a row) (inserted rows (bumped a row)) w)
+  where
+    by : (o : Option ℕ)
+        → inserted_word (row_with a row ∷ inserted rows o) w
+        ≡ row_after (row_with a row) w ∷ inserted_word (inserted rows o) (letters_out (row_with a row) w)
+        → inserted_word (row_with a row ∷ inserted rows o) w
+        ≡ row_after (row_with a row) w ∷ inserted_word rows (listed o ++ letters_out (row_with a row) w)
+    by None e =
+        e ∙ ap (λ (r : List (List ℕ)). row_after (row_with a row) w ∷ inserted_word r (letters_out (row_with a row) w)) (inserted-none rows)
+    by (Some b) e = e
