@@ -21,8 +21,6 @@ pub use classical::classical_product_law;
 pub use stembridge::{counted_answers_law, littlewood_richardson_law, stembridge_law};
 pub use straightening::straighten_law;
 
-
-
 /// Exchanging two exponents of β changes the sign of the alternant a_β, and an alternant with two
 /// equal exponents is 0 (Macdonald, I.3).
 ///

@@ -15,8 +15,8 @@ use crate::cleared::Cleared;
 use crate::schur::schur;
 use crate::whole::{Whole, complete, elementary, is_whole, power_sum, single};
 use calc_base::{Basis, SumFault};
-use sparse_polys::times_whole_in_m;
 use partitions::Partition;
+use sparse_polys::times_whole_in_m;
 use std::alloc::Global;
 
 /// A family whose polynomials are multiplied over the parts of a partition.

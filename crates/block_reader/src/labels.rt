@@ -10,10 +10,9 @@ use crate::cutting::{after_first, after_first_two, cut};
 use crate::lists::list_of;
 use crate::numbers::number_of;
 use calc_base::NoMemory;
-use sparse_polys::{MonoFault, Monomial};
 use partitions::{PartFault, Partition};
 use perm_codes::{Perm, PermFault};
-use sparse_polys::{Label, Pair, Power};
+use sparse_polys::{Label, MonoFault, Monomial, Pair, Power};
 use std::alloc::Global;
 
 /// Labels that can be read back.

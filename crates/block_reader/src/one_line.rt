@@ -10,8 +10,7 @@ ghost use Rattle.block_reader.specs.Lines.{HasAtoms};
 use crate::rewriting::as_block;
 use crate::{ReadBackFault, read_back};
 use calc_base::{Basis, CountSink, MemSink, NoMemory};
-use expansion_printer::{Answer, Kind};
-use expansion_printer::print_one_line;
+use expansion_printer::{Answer, Kind, print_one_line};
 use std::alloc::Global;
 
 /// The answer of this kind, an expansion or a product, whose one-line form with the atoms of the basis the text is.

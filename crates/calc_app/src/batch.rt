@@ -10,8 +10,7 @@ ghost use Rattle.calc_app.specs.Batch.{ComesOfLine, TakesTurn, CutsTurn, CountsT
 ghost use Rattle.calc_language.specs.Reading.{IsWithinItsLimits, command_of};
 ghost use Rattle.calc_replies.specs.Computed.{IsReplyTo, RunsNoOther, text_of, HasText, HasBlock, status_for};
 
-use batch_lines::{Progress, at_end, finished, put_separator};
-use batch_lines::{LineFault, LineReader, Next};
+use batch_lines::{LineFault, LineReader, Next, Progress, at_end, finished, put_separator};
 use calc_base::{NoMemory, Place, Sink, Source, Status, WordsFault};
 use calc_language::{Command, read_line};
 use calc_replies::{Outcome, put_text, reply_by, status_if_put, tell_block};

@@ -6,6 +6,6 @@ mod batch;
 mod top;
 mod workload;
 
-pub use top::run;
 pub use batch_lines::{LineBuf, work_line};
+pub use top::run;
 pub use workload::work;

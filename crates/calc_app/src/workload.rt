@@ -7,12 +7,11 @@ ghost use Rattle.calc_replies.specs.Computed.{text_of, HasText, HasBlock};
 ghost use Rattle.calc_app.specs.Work.{AddsLine, AreSumsOf, PutsSums, EndsWork};
 
 use crate::batch::{line_outcome, new_memo};
-use batch_lines::status_if;
+use batch_lines::{BlockText, LineBuf, Sums, put_summary, status_if, work_line};
 use calc_base::{NoMemory, Sink, Status, finish_if};
 use calc_replies::{Outcome, put_text};
 use schubert_transition::Memo;
 use std::alloc::Global;
-use batch_lines::{BlockText, LineBuf, Sums, put_summary, work_line};
 
 /// Runs so many lines of the generator from the seed on, and puts the sums over their blocks.
 ///

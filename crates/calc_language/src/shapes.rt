@@ -6,8 +6,7 @@ ghost use Rattle.calc_language.specs.Reading.{command_of};
 
 use crate::Command;
 use calc_base::WordsFault;
-use calc_words::{read_coef, read_coprod, read_skew};
-use calc_words::{read_fusion, read_mult, read_quantum};
+use calc_words::{read_coef, read_coprod, read_fusion, read_mult, read_quantum, read_skew};
 use std::alloc::Global;
 use tableau_words::read_tab;
 

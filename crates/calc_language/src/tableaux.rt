@@ -3,10 +3,10 @@ ghost use Rattle.std.specs.Prelude.{◌≡◌, IfOk, map};
 ghost use Rattle.sym_model.specs.Tableau.{IsTableau};
 
 use calc_base::NoMemory;
-use tableau_iter::reading_of_rows;
 use partitions::Partition;
 use skew_shapes::{Skew, Tableau, TableauFault};
 use std::alloc::Global;
+use tableau_iter::reading_of_rows;
 
 /// The tableau of two shapes with these rows.
 pub(crate) fn tableau_of(

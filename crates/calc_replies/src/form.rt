@@ -8,8 +8,7 @@ ghost use Rattle.sym_model.specs.PrintedForm.{answer_text_in};
 ghost use Rattle.calc_replies.specs.Forms.{plain_form, form_asked};
 
 use calc_base::{Basis, Sink};
-use expansion_printer::{Answer, print};
-use expansion_printer::print_one_line;
+use expansion_printer::{Answer, print, print_one_line};
 
 /// How an answer is printed.
 #[derive(Clone, Copy, Debug)]

@@ -7,8 +7,7 @@ use crate::outcome::{Outcome, as_block};
 use calc_base::{NoMemory, SumFault};
 use expansion_printer::Answer;
 use perm_codes::Perm;
-use schubert_transition::Memo;
-use schubert_transition::schubert_terms;
+use schubert_transition::{Memo, schubert_terms};
 use std::alloc::Global;
 
 /// The Schubert polynomial of a permutation.

@@ -10,9 +10,8 @@ use crate::outcome::{Outcome, as_block};
 use calc_base::{Basis, NoMemory, SumFault};
 use coeff_rings::Int;
 use expansion_printer::Answer;
-use partitions::Factors;
 use lr_product::mult_all;
-use partitions::Partition;
+use partitions::{Factors, Partition};
 use sparse_polys::Terms;
 use std::alloc::Global;
 

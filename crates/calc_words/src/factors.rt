@@ -9,10 +9,9 @@ ghost use Rattle.calc_words.specs.WrittenLimits.{IsWritten};
 ghost use Rattle.calc_words.specs.FactorWords.{next_text};
 ghost use Rattle.calc_words.specs.ReadProducts.{ninth_offences};
 
-use calc_base::{Place, WordsFault};
 use crate::{TwoShapes, behind, numbers_first, read_partition, read_two};
-use partitions::{Factors, FactorsFault};
-use partitions::Partition;
+use calc_base::{Place, WordsFault};
+use partitions::{Factors, FactorsFault, Partition};
 use std::alloc::Global;
 
 /// The most factors.

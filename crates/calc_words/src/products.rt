@@ -15,8 +15,8 @@ ghost use Rattle.calc_words.specs.ReadProducts.{IsProduct, product_of};
 
 use crate::factors::read_factors;
 use crate::lists::factor_lists;
-use calc_base::WordsFault;
 use crate::{Options, behind, options_first, row_limit, syntax};
+use calc_base::WordsFault;
 use partitions::Factors;
 use std::alloc::Global;
 

@@ -14,8 +14,8 @@ ghost use Rattle.calc_words.specs.ReadProducts.{IsReduction, reduction_entry, qu
 
 use crate::factors::read_factors;
 use crate::lists::factor_lists;
-use calc_base::WordsFault;
 use crate::{behind, first_number, rows_number, syntax, value_of};
+use calc_base::WordsFault;
 use partitions::Factors;
 use std::alloc::Global;
 

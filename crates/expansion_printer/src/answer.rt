@@ -3,10 +3,9 @@ ghost use Rattle.std.specs.Prelude.{◌≡◌};
 ghost use Rattle.expansion_printer.specs.Answers.{kind_of, kind_of_answer};
 
 use coeff_rings::{Frac, Int};
-use sparse_polys::Monomial;
 use partitions::Partition;
 use perm_codes::Perm;
-use sparse_polys::{Pair, Power, Terms};
+use sparse_polys::{Monomial, Pair, Power, Terms};
 
 /// The kinds of answers.
 #[derive(Clone, Copy, Debug, PartialEq, Eq, Hash)]

@@ -14,8 +14,8 @@ ghost use Rattle.sym_model.specs.PrintedOrder.{printed_order};
 
 use crate::atoms::put_atom;
 use crate::coefficients::{Ratio, put_coefficient, put_sign};
-use calc_base::{Basis, Sink, SinkFault, put_if, put_result};
 use crate::{Answer, print};
+use calc_base::{Basis, Sink, SinkFault, put_if, put_result};
 use partitions::Partition;
 use sparse_polys::Terms;
 

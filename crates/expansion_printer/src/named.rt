@@ -5,10 +5,9 @@ ghost use Rattle.sym_model.specs.Kind.{LabelRules, label_rules, expansion, pairs
 
 use crate::numbers::{put_label, put_number};
 use calc_base::{Sink, put_if};
-use sparse_polys::Monomial;
 use partitions::Partition;
 use perm_codes::Perm;
-use sparse_polys::{Label, Pair, Power};
+use sparse_polys::{Label, Monomial, Pair, Power};
 
 /// Labels that stand on a line behind its coefficient.
 pub(crate) trait Named: Label {

@@ -1,7 +1,6 @@
 //! Rows of lists of factors.
 use anyhow::Result;
-use partitions::{Factors, FactorsFault};
-use partitions::Partition;
+use partitions::{Factors, FactorsFault, Partition};
 use row_texts::{line, said};
 use std::alloc::Global;
 

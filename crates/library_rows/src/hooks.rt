@@ -1,9 +1,9 @@
 //! Rows of lists of rim hooks.
 use anyhow::Result;
 use calc_base::Lister;
-use skew_shapes::{HooksAdded, HooksRemoved};
 use partitions::Partition;
 use row_texts::{end, start, term};
+use skew_shapes::{HooksAdded, HooksRemoved};
 use std::alloc::Global;
 
 /// Prints the rows of the crate `hook_lists`.

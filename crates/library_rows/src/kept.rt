@@ -2,10 +2,10 @@
 use crate::printing::polynomial;
 use anyhow::Result;
 use coeff_rings::Int;
-use sparse_polys::Poly;
 use perm_codes::Perm;
 use row_texts::said;
 use schubert_transition::Memo;
+use sparse_polys::Poly;
 use std::alloc::Global;
 
 /// Prints the rows of the crate `schubert_memo`.

@@ -10,8 +10,16 @@ use std::alloc::{AllocError, Global};
 /// Prints the rows of the kinds of labels.
 pub fn print(rt: &(impl Print + Alloc<A = Global>)) -> Result<()> {
     copied(rt, "the partition (1)", one_cell(rt.alloc())?)?;
-    copied(rt, "the permutation (2,1)", Perm::from_letters(rt.alloc(), &[2, 1])?)?;
-    copied(rt, "the monomial x_1", Monomial::from_exponents(rt.alloc(), &[1, 0])?)?;
+    copied(
+        rt,
+        "the permutation (2,1)",
+        Perm::from_letters(rt.alloc(), &[2, 1])?,
+    )?;
+    copied(
+        rt,
+        "the monomial x_1",
+        Monomial::from_exponents(rt.alloc(), &[1, 0])?,
+    )?;
     copied(rt, "the pair (1) ()", pair(rt.alloc())?)?;
     copied(rt, "q^1 (1)", power(rt.alloc())?)
 }

@@ -6,9 +6,8 @@ ghost use Rattle.sym_model.specs.Sum.{Among};
 use crate::printing::{polynomial, schubert_sum};
 use anyhow::Result;
 use coeff_rings::Int;
-use sparse_polys::{Monomial, Poly, times, times_var};
 use perm_codes::Perm;
-use sparse_polys::Lin;
+use sparse_polys::{Lin, Monomial, Poly, times, times_var};
 use std::alloc::Global;
 
 /// Prints the rows of the products of `monomial_polys` and `monk_product`.

@@ -14,12 +14,11 @@ ghost use Rattle.product_laws.specs.CountedProducts.{IsShownIn, Reaches};
 ghost use Rattle.lr_product.specs.ProductOfFactors.{AreSmallCounts};
 
 use crate::counts::no_terms;
+use crate::mult;
 use crate::next_factor::{is_canonical, times_factor};
 use calc_base::{NoMemory, SumFault};
 use coeff_rings::Int;
-use partitions::Factors;
-use crate::mult;
-use partitions::Partition;
+use partitions::{Factors, Partition};
 use sparse_polys::Terms;
 use std::alloc::Global;
 

@@ -12,9 +12,9 @@ ghost use Rattle.product_laws.specs.CountedProducts.{AreCounts, Reaches};
 ghost use Rattle.lr_product.specs.ProductOfFactors.{AreSmallCounts, HaveRows, AllMayMeet};
 ghost use Rattle.lr_product.specs.Tables.{IsTable};
 
+use crate::mult;
 use calc_base::SumFault;
 use coeff_rings::{Int, Ring};
-use crate::mult;
 use partitions::Partition;
 use sparse_polys::{Lin, Terms};
 use std::alloc::Global;

@@ -5,8 +5,7 @@ ghost use Rattle.monk_product.specs.Pending.{value_of, growth, steps, ArePending
 
 use crate::monk::Sum;
 use calc_base::NoMemory;
-use sparse_polys::Monomial;
-use sparse_polys::Lin;
+use sparse_polys::{Lin, Monomial};
 use std::alloc::Global;
 use std::cmp::Ordering;
 

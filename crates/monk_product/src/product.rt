@@ -22,10 +22,9 @@ use crate::monk::{Sum, add_list, add_single, add_times_var, is_whole};
 use crate::pending::{Pending, index_of};
 use calc_base::{NoMemory, SumFault};
 use coeff_rings::Int;
-use sparse_polys::{Monomial, Poly};
 use perm_codes::Perm;
 use schubert_transition::schubert;
-use sparse_polys::{Lin, Terms};
+use sparse_polys::{Lin, Monomial, Poly, Terms};
 use std::alloc::Global;
 
 /// The product of the Schubert polynomials of two permutations, as a sum of Schubert polynomials in the printed order of

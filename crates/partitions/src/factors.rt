@@ -2,9 +2,8 @@
 ghost use Rattle.std.specs.Prelude.{◌≡◌, ◌≤◌, ◌<◌, ◌↔◌, ◌++◌, ◌∷◌, [], length, slice_get, Some, IfOk, OnOk, OnErr, IsErrOf, IsTrue, MatchOption, ◌⊎◌};
 ghost use Rattle.partitions.specs.FactorList.{AreFactors, AreTooBig, rows_of};
 
-use crate::FactorsFault;
+use crate::{FactorsFault, Partition};
 use calc_base::NoMemory;
-use crate::Partition;
 use std::alloc::Global;
 use std::marker::Model;
 

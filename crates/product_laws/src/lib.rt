@@ -13,4 +13,6 @@ mod strip_products;
 pub use positive_products::positive_products_law;
 pub use products::several_products_law;
 pub use reductions::reductions_law;
-pub use strip_products::{list_growth_law, list_product_law, murnaghan_nakayama_law, pieri_law, strip_count_law};
+pub use strip_products::{
+    list_growth_law, list_product_law, murnaghan_nakayama_law, pieri_law, strip_count_law,
+};

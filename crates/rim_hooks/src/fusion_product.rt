@@ -15,8 +15,7 @@ use crate::fusion_step::{add_product, times_factor};
 use crate::long_factors::has_long;
 use calc_base::SumFault;
 use coeff_rings::Int;
-use partitions::Factors;
-use partitions::Partition;
+use partitions::{Factors, Partition};
 use sparse_polys::{Lin, Terms};
 use std::alloc::Global;
 

@@ -14,12 +14,12 @@ ghost use Rattle.rim_hooks.specs.Collected.{Collects};
 ghost use Rattle.rim_hooks.specs.FactorRows.{HaveShapeRoom};
 ghost use Rattle.rim_hooks.specs.ReducedLists.{HaveRows};
 
+use crate::alcove_of;
 use crate::collecting::add_signed;
 use calc_base::SumFault;
 use coeff_rings::{Int, Ring};
 use lr_product::mult;
 use partitions::Partition;
-use crate::alcove_of;
 use sparse_polys::{Lin, Terms};
 use std::alloc::Global;
 

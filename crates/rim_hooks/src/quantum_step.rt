@@ -13,11 +13,11 @@ ghost use Rattle.rim_hooks.specs.FactorRows.{HaveRoom};
 ghost use Rattle.rim_hooks.specs.ReducedLists.{HaveRows, PowerTerms, reduced_list, same_power_label};
 
 use crate::collecting::add_signed;
+use crate::core_of;
 use calc_base::SumFault;
 use coeff_rings::{Int, Ring};
 use lr_product::mult;
 use partitions::Partition;
-use crate::core_of;
 use sparse_polys::{Lin, Power, Terms};
 use std::alloc::Global;
 

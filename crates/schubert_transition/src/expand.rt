@@ -14,8 +14,8 @@ use crate::sums::{add_all, add_times_var};
 use crate::todo::{Waiting, index_of};
 use calc_base::SumFault;
 use coeff_rings::Int;
-use sparse_polys::Poly;
 use perm_codes::Perm;
+use sparse_polys::Poly;
 use std::alloc::Global;
 
 /// Adds a polynomial to the one that waits with a permutation.

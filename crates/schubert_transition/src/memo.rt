@@ -10,13 +10,12 @@ ghost use Rattle.sym_model.specs.Target.{Meets};
 ghost use Rattle.lru.specs.LruCache.{lru_cache};
 ghost use Rattle.schubert_transition.specs.Kept.{IsSchubertOf, IsSchubertStore};
 
+use crate::schubert;
 use calc_base::{NoMemory, SumFault};
 use coeff_rings::Int;
 use lru::LruCache;
-use sparse_polys::{Monomial, Poly};
 use perm_codes::Perm;
-use crate::schubert;
-use sparse_polys::Terms;
+use sparse_polys::{Monomial, Poly, Terms};
 use std::alloc::Global;
 use std::marker::Model;
 use std::num::NonZeroUsize;

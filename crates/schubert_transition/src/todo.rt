@@ -6,9 +6,8 @@ ghost use Rattle.schubert_transition.specs.Todo.{value_of, load, AreWaiting, Has
 
 use calc_base::NoMemory;
 use coeff_rings::Int;
-use sparse_polys::Poly;
 use perm_codes::Perm;
-use sparse_polys::Lin;
+use sparse_polys::{Lin, Poly};
 use std::alloc::Global;
 use std::cmp::Ordering;
 

@@ -21,9 +21,8 @@ use crate::sums::{add_all, is_whole};
 use crate::todo::Waiting;
 use calc_base::SumFault;
 use coeff_rings::{Int, Scalar};
-use sparse_polys::{Monomial, Poly};
 use perm_codes::Perm;
-use sparse_polys::{Lin, Terms};
+use sparse_polys::{Lin, Monomial, Poly, Terms};
 use std::alloc::Global;
 
 /// The Schubert polynomial of a permutation.

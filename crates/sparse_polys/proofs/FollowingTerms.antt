@@ -59,7 +59,6 @@ pairs-from value pairs at p below is =
 module _ {L R : Type 0} (order : L → L → Ordering) (is_label : L → Bool) (value : R → Fraction) (pairs : List (L × R)) (at : ℕ)
     (previous : Option L)
     (so_far : each_follows order is_label None (terms_of value pairs) ≡ each_follows order is_label previous (terms_of value (drop at pairs))) where
-
   -- a pair that does not
   pub follows-not : (p : L × R) → at < length pairs → p ≡ get_or pairs at p → is_next order is_label previous (p.0, value p.1) ≡ false
       → false ≡ is_canonical_list order is_label (terms_of value pairs)

@@ -17,12 +17,12 @@ ghost use Rattle.monomial_laws.specs.MonomialProduct.{arrangements, product_coef
 ghost use Rattle.monomial_laws.specs.ExpressionTerms.{over, absolute};
 ghost use Rattle.sparse_polys.specs.MonomialProducts.{coefficient_at, greatest_size, row, absolute_row, count_of, IsCommonDenominator, AreDenominators, AreCleared, AreSums, IsTooLarge, Adds, Overflows};
 
+use crate::Lin;
 use crate::counts::exact_product;
 use crate::search::Counted;
 use calc_base::SumFault;
 use coeff_rings::{Int, Ring};
 use partitions::Partition;
-use crate::Lin;
 use std::alloc::Global;
 
 /// The product of two scalars and a count, or `None` where it is too large.

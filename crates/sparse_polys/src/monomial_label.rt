@@ -3,9 +3,8 @@ ghost use Rattle.std.specs.Prelude.{length, nat_le};
 ghost use Rattle.sym_model.specs.LabelLimits.{is_monomial_label};
 ghost use Rattle.sym_model.specs.PrintedOrder.{printed_order};
 
-use crate::Monomial;
+use crate::{Label, Monomial};
 use calc_base::NoMemory;
-use crate::Label;
 use std::cmp::Ordering;
 
 impl Label for Monomial {

@@ -1,6 +1,5 @@
 //! Polynomials as tables of terms.
-use crate::Monomial;
-use crate::Lin;
+use crate::{Lin, Monomial};
 
 /// A polynomial: a table from monomials to coefficients.
 pub type Poly<R> = Lin<Monomial, R>;

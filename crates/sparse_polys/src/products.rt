@@ -14,11 +14,10 @@ ghost use Rattle.sparse_polys.specs.Combination.{HasMoreAt, IsCombination};
 ghost use Rattle.sparse_polys.specs.Limits.{IsWithinLimits};
 ghost use Rattle.sparse_polys.specs.Products.{value_in, coefficient_at, FitTogether, HasRoom, AreCleared, IsCommonDenominator, AreDenominators, cleared_sum, Adds};
 
-use crate::Monomial;
 use crate::poly::Poly;
+use crate::{Lin, Monomial};
 use calc_base::{NoMemory, SumFault};
 use coeff_rings::Ring;
-use crate::Lin;
 use std::alloc::Global;
 
 /// Adds the product of two terms.

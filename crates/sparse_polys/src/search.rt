@@ -5,9 +5,9 @@ ghost use Rattle.monomial_laws.specs.MonomialProduct.{arrangements};
 ghost use Rattle.sparse_polys.specs.Ways.{capped, ways, AreStates};
 ghost use Rattle.sparse_polys.specs.Search.{count_at, found, AreCounted, IsChosen, Counts, HaveCounts};
 
+use crate::part_steps::step;
 use crate::parts::size_of;
 use crate::states::State;
-use crate::part_steps::step;
 use std::alloc::{AllocError, Global};
 
 /// A partition with a number of ways, which stands at 2^128 - 1 where there are more.
@@ -86,7 +86,11 @@ fn extend(
 /// The partitions in the product of two monomial symmetric polynomials, each with the number of ways
 /// in which it is an arrangement of the one label plus an arrangement of the other. A partition that
 /// is not there has no way.
-pub(crate) fn label_product(alloc: Global, left: &[u16], right: &[u16]) -> Result<Vec<Counted>, AllocError>
+pub(crate) fn label_product(
+    alloc: Global,
+    left: &[u16],
+    right: &[u16],
+) -> Result<Vec<Counted>, AllocError>
     requires left { IsPartition left.now }
     requires right { IsPartition right.now }
     requires sizes { size left.now + size right.now < 2 ^ 16 }

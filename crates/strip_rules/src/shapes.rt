@@ -15,12 +15,10 @@ ghost use Rattle.strip_rules.specs.Adding.{IsDenominator, AreSmall, AddsShapes, 
 
 use calc_base::{Lister, SumFault};
 use coeff_rings::Ring;
-use skew_shapes::HooksAdded;
 use partitions::Partition;
-use skew_shapes::HorizontalStrips;
+use skew_shapes::{HooksAdded, HorizontalStrips, VerticalStrips};
 use sparse_polys::Lin;
 use std::alloc::Global;
-use skew_shapes::VerticalStrips;
 
 /// Adds a coefficient at each of the shapes that are still to come.
 fn add_each<R: Ring, L: Lister>(

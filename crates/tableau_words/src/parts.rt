@@ -5,9 +5,9 @@ ghost use Rattle.sym_model.specs.WordForms.{the, optional, partition_words, from
 ghost use Rattle.tableau_words.specs.TabWords.{AreFrom, IsListAndFrom, AreTabWords};
 ghost use Rattle.tableau_words.specs.WordRows.{IsWrongFor};
 
+use crate::{RowsFault, last_rows};
 use calc_words::{behind, numbers_first as numbers};
 use std::alloc::Global;
-use crate::{RowsFault, last_rows};
 
 /// The rows of a tableau behind `-from`; none where there is no word.
 fn rows_from(alloc: Global, words: &[String]) -> Result<Vec<&[String]>, RowsFault>

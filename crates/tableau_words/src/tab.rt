@@ -12,12 +12,12 @@ ghost use Rattle.calc_words.specs.Reading.{IsRead, IsJudged, Accepts, Refuses, G
 ghost use Rattle.tableau_words.specs.TabWords.{AreShapesAndLast, last_of, from_offences, all_tab_offences, tableaux_of};
 
 use crate::parts::tab_parts;
+use crate::{rows_of_shape, rows_refusal};
 use calc_base::{NoMemory, Word, WordsFault};
 use calc_words::{Kind, behind, read_two, refused, syntax};
-use tableau_iter::lattice_reading;
 use partitions::Partition;
 use std::alloc::Global;
-use crate::{rows_of_shape, rows_refusal};
+use tableau_iter::lattice_reading;
 
 /// Two shapes, and the column reading of the tableau behind which a list goes on, where one is given.
 #[derive(Debug, Drop)]

@@ -1,5 +1,4 @@
 use Rattle.sym_model.proofs.Parts.{positive-at}
-
 use Rattle.basis_change.proofs.parts.insert_parts.Goals as goal
 
 pub insert_part-requires : goal.insert_part-requires

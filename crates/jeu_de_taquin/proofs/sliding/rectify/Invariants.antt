@@ -9,7 +9,7 @@ use Rattle.jeu_de_taquin.proofs.sliding.rectify.Given as goal
 abbrev pub invariant-loop-t : goal.invariant-loop-t
 invariant-loop-t l = record {
   reached : (s : SkewFilling) → IsReached l.t s → IsReached l.fn.t s;
-  class : AreKnuthEquivalent (reading_word l.fn.t.rows) (reading_word l.t.rows)
+  class : AreKnuthEquivalent (reading_word l.fn.t.rows) (reading_word l.t.rows);
 }
 
 abbrev pub decreases-loop-t : goal.decreases-loop-t
