@@ -143,6 +143,14 @@ def as_batch(path, cases):
     )
 
 
+def fronts(case):
+    """What a command may have put where memory is refused: nothing, or of a batch the text of its first lines."""
+    if case.words != [b"batch"]:
+        return [b""]
+    blocks = case.written.split(b"--\n")
+    return [b""] + [b"--\n".join(blocks[:count]) + end for count in range(1, len(blocks)) for end in (b"", b"--\n")]
+
+
 def outcome(case):
     """What is wrong with a run of the case: nothing is, where this is empty."""
     command = [program(), *case.words]
