@@ -23,6 +23,7 @@ mod poly;
 mod power;
 mod products;
 mod search;
+mod shifted;
 mod states;
 mod terms;
 
@@ -36,4 +37,5 @@ pub use poly::Poly;
 pub use power::Power;
 pub use products::{times, times_var};
 pub use search::{Counted, label_product};
+pub use shifted::Shifted;
 pub use terms::Terms;
