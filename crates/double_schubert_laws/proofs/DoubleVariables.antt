@@ -1,14 +1,14 @@
 -- Monk's rule and the transition rule for double Schubert polynomials in every number of variables.
-use Rattle.std.proofs.Common.{◌≡◌, ℕ, zero, suc, ◌+◌, ◌-◌, ◌<◌, ◌≤◌, max, List, [], ◌∷◌, ◌++◌, ◌==◌, ◌&&◌, map, length, replicate, refl, sym, ◌∙◌, ap, ap₂, subst, arith, cond, Bool, true, false, ℤ, pos, ◌-ℤ◌, length-append}
+use Rattle.std.proofs.Common.{◌≡◌, ℕ, zero, suc, ◌+◌, ◌-◌, ◌<◌, ◌≤◌, max, List, [], ◌∷◌, ◌++◌, ◌==◌, ◌&&◌, map, length, replicate, refl, sym, ◌∙◌, ap, ap₂, subst, arith, cond, Bool, true, false, None, ℤ, pos, ◌-ℤ◌, length-append}
 use Rattle.std.proofs.lemmas.Int.{ints}
 use Rattle.std.specs.List.{swap}
 use Rattle.std.proofs.lemmas.List.Edits.{length-swap}
-use Rattle.std.proofs.lemmas.List.{take_at, drop_at, length-replicate}
+use Rattle.std.proofs.lemmas.List.{replicate-append-replicate, take_at, drop_at, length-replicate}
 use Rattle.sym_model.specs.Sum.{total, Among}
 use Rattle.sym_model.specs.Polynomial.{Same, coefficient, one, plus, negate, times, pair, resize, fits_in}
-use Rattle.sym_model.specs.Partition.{after}
+use Rattle.sym_model.specs.Partition.{after, Falls}
 use Rattle.sym_model.specs.PlaceOrders.{inversions}
-use Rattle.sym_model.specs.Permutation.{IsOneLine, IsTransition, IsDescent, exchanged, letter, with_fixed, kept, times_swap, covers_up, covers_down}
+use Rattle.sym_model.specs.Permutation.{IsOneLine, IsTransition, IsDescent, exchanged, last_descent, letter, with_fixed, kept, times_swap, covers_up, covers_down}
 use Rattle.sym_model.specs.DividedDifference.{divided_difference, variable, variable_in}
 use Rattle.sym_model.specs.Schubert.{schubert_over}
 use Rattle.sym_model.specs.Expansion.{beside}
@@ -16,14 +16,18 @@ use Rattle.sym_model.proofs.Sums.{total_among, Among_from_map, Among_from_select
 use Rattle.sym_model.proofs.AfterLists.{length_after, after_among}
 use Rattle.sym_model.proofs.Exponents.{length-resize, resize-nil, resize_zeros, fits_in_zeros}
 use Rattle.sym_model.proofs.Polynomials.{pair_beside, pair_one, pair_plus, pair_negate, pair_each, pair_restrict, pair_determined, same_from_pair, Same_sym, times_respects}
+use Rattle.sym_model.proofs.Parts.{Falls-zeros}
 use Rattle.schubert_laws.proofs.Dominant.{pair_x_to}
+use Rattle.schubert_laws.proofs.Transition.{last_descent_is}
+use Rattle.schubert_laws.proofs.LowerPermutations.{code_never_falls}
 use Rattle.schubert_laws.proofs.FixedTails.{kept_tail, one_line_kept}
 use Rattle.schubert_laws.proofs.Paths.{any_descent}
 use Rattle.schubert_laws.proofs.Swaps.{swap_at}
 use Rattle.schubert_laws.proofs.MonkFromOne.{one_line_swap}
 use Rattle.schubert_laws.proofs.TransitionFromOne.{step_of, kept_swap}
 use Rattle.sym_model.specs.DoubleSchubert.{difference_in, difference_product, double_schubert, restrict_both, double_schubert_in, double_schuberts_in}
-use Rattle.double_schubert_laws.proofs.DoubleDominant.{unit, pair_difference_in, In_difference_in, In_double, length-unit}
+use Rattle.double_schubert_laws.proofs.DoubleDominant.{double_dominant, unit, pair_difference_in, In_difference_in, In_double, length-unit}
+use Rattle.double_schubert_laws.proofs.DiagramProducts.{diagram}
 use Rattle.double_schubert_laws.proofs.BothRestrictions.{both, pair_restrict_both, in_any, restrict_both-times}
 use Rattle.double_schubert_laws.proofs.DoubleFromOne.{paired, pair_double_monk, letter_counts, letter_small, double_kept, double_transition, doubles, pair_doubles}
 
@@ -233,3 +237,25 @@ kept_in w n o =
     sym (in_variables (length w) n (kept w) φ (omega arith))
     ∙ pair_determined (double_schubert (kept w) (length w)) (double_schubert w (length w)) (both (length w) n φ) (double_kept (length w) w o (omega arith))
     ∙ in_variables (length w) n w φ (omega arith))
+
+-- ---- the identity
+
+diagram_nothing : (s r k : ℕ) (φ : List ℕ → ℤ) (α : List ℕ) → diagram s r (replicate k 0) φ α ≡ φ α
+diagram_nothing s r zero φ α = refl
+diagram_nothing s r (suc k) φ α = diagram_nothing s (suc r) k φ α
+
+pub identity_double : (w : List ℕ) (n : ℕ) → IsOneLine w → last_descent w ≡ None → Same (double_schubert_in w n) (one (n + n))
+identity_double w n o e =
+    let c = code_never_falls w (last_descent_is w None e) in
+    same_from_pair (double_schubert_in w n) (one (n + n)) (λ φ.
+    let m : ℕ = length w in
+    let z = length-replicate {A = ℕ} (length w) 0 in
+    pair_restrict_both (length w) n (double_schubert w (length w)) φ
+    ∙ double_dominant (length w) w (both (length w) n φ) (omega arith) o.once (subst Falls (sym c) (Falls-zeros (length w)))
+    ∙ ap (λ cs. diagram (length w) 0 cs (both (length w) n φ) (replicate (length w + length w) 0)) c
+    ∙ diagram_nothing (length w) 0 (length w) (both (length w) n φ) (replicate (length w + length w) 0)
+    ∙ ap (both (length w) n φ) (sym (replicate-append-replicate (length w) (length w) 0))
+    ∙ both_parts (length w) n φ (replicate (length w) 0) (replicate (length w) 0) z
+    ∙ ap₂ (λ b α. cond (b && b) (φ (α ++ α)) (pos 0)) (fits_in_zeros n (length w)) (resize_zeros n (length w))
+    ∙ ap φ (replicate-append-replicate n n 0)
+    ∙ sym (pair_one (n + n) φ))

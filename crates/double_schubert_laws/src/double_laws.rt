@@ -1,10 +1,10 @@
 //! Double Schubert polynomials do not depend on the path of divided differences, nor on fixed letters.
 
-ghost use Rattle.std.specs.Prelude.{◌≡◌, ℕ, ◌+◌, ◌≤◌, List, [], map, length};
+ghost use Rattle.std.specs.Prelude.{◌≡◌, ℕ, ◌+◌, ◌≤◌, List, [], None, map, length};
 ghost use Rattle.sym_model.specs.Sum.{Once};
-ghost use Rattle.sym_model.specs.Polynomial.{Same, In};
+ghost use Rattle.sym_model.specs.Polynomial.{Same, In, one};
 ghost use Rattle.sym_model.specs.Partition.{Falls, cells};
-ghost use Rattle.sym_model.specs.Permutation.{IsOneLine, IsDescent, exchanged, kept, code};
+ghost use Rattle.sym_model.specs.Permutation.{IsOneLine, IsDescent, exchanged, last_descent, kept, code};
 ghost use Rattle.sym_model.specs.DividedDifference.{divided_difference};
 ghost use Rattle.sym_model.specs.DoubleSchubert.{product_of, difference_in, double_schubert, double_schubert_in, restrict_both};
 
@@ -12,7 +12,7 @@ ghost use Rattle.sym_model.specs.DoubleSchubert.{product_of, difference_in, doub
 /// each descent i of a list w. S(w; x, y) in m variables of each is a polynomial in 2m variables.
 /// Where the code of w falls, it is the product of the x_i - y_j over the cells (i, j) of the diagram
 /// of the code. However many variables it is made with, and however many fixed letters end w, it is
-/// the same polynomial in n variables of each.
+/// the same polynomial in n variables of each; of the identity it is 1.
 ///
 /// Example: ∂_2 takes (x_1 - y_1)(x_1 - y_2)(x_2 - y_1) = S(3,2,1; x, y) to (x_1 - y_1)(x_1 - y_2) =
 /// S(3,1,2; x, y).
@@ -25,5 +25,7 @@ pub fn double_schubert_law()
         (product_of (m + m) (map (λ cell. difference_in cell.0 cell.1 m) (cells (code w) []))) }
     ensures any_places { (w : List ℕ) (m n : ℕ) → length w ≤ m
         → Same (restrict_both m n (double_schubert w m)) (double_schubert_in w n) }
+    ensures identity { (w : List ℕ) (n : ℕ) → IsOneLine w → last_descent w ≡ None
+        → Same (double_schubert_in w n) (one (n + n)) }
     ensures kept { (w : List ℕ) (n : ℕ) → IsOneLine w → Same (double_schubert_in (kept w) n) (double_schubert_in w n) }
 {}

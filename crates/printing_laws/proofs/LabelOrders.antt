@@ -9,8 +9,8 @@ use Rattle.std.proofs.lemmas.Bool.{and_parts, eq-eqb, cond-true}
 use Rattle.sym_model.specs.Partition.{size, without_last_zeros, in_front}
 use Rattle.sym_model.specs.PlaceOrders.{inversions}
 use Rattle.sym_model.specs.Permutation.{kept, without_fixed_from, in_front_unless_fixed}
-use Rattle.sym_model.specs.PrintedOrder.{falling_lexicographic, printed_order, pair_order, power_order, rising_letters, permutation_order}
-use Rattle.sym_model.specs.LabelLimits.{is_label, is_pair_label, is_power_label, is_permutation_label, is_monomial_label}
+use Rattle.sym_model.specs.PrintedOrder.{falling_lexicographic, printed_order, pair_order, power_order, rising_letters, permutation_order, shifted_order}
+use Rattle.sym_model.specs.LabelLimits.{is_label, is_pair_label, is_power_label, is_permutation_label, is_monomial_label, is_shifted_label}
 use Rattle.sym_model.specs.Kind.{Kind, number, expansion, product, pairs, powers, permutations, polynomial, Label, label_rules}
 use Rattle.sym_model.proofs.Orders.{printed_order-total, printed_order-equal, nat_cmp-equal, is_partition-tells, then-equal}
 use Rattle.sym_model.proofs.Exponents.{same_true}
@@ -67,6 +67,10 @@ label_order-total pairs = then_total (on_total (λ (p : List ℕ × List ℕ). p
 label_order-total powers = then_total (on_total (λ (p : ℕ × List ℕ). p.0) nat_cmp_total) (on_total (λ (p : ℕ × List ℕ). p.1) printed_order-total)
 label_order-total permutations = then_total (on_total inversions nat_cmp_total) (rising_letters-total 0)
 label_order-total polynomial = printed_order-total
+
+pub shifted_order-total : IsTotalOrder shifted_order
+shifted_order-total =
+    then_total (on_total (λ (p : List ℕ × List ℕ). p.0) (label_order-total permutations)) (on_total (λ (p : List ℕ × List ℕ). p.1) printed_order-total)
 
 -- ---- labels that tie are the same
 
@@ -137,6 +141,13 @@ powers-tie : (x y : ℕ × List ℕ) → is_power_label x ≡ true → is_power_
 powers-tie x y h k e =
     let p = then-equal (nat_cmp x.0 y.0) (printed_order x.1 y.1) e in
     ap₂ (λ a b. (a, b)) (nat_cmp-equal x.0 y.0 p.0) (partitions-tie x.1 y.1 (and_parts _ _ h).1 (and_parts _ _ k).1 p.1)
+
+pub shifted-tie : (x y : List ℕ × List ℕ) → is_shifted_label x ≡ true → is_shifted_label y ≡ true → shifted_order x y ≡ Equal → x ≡ y
+shifted-tie x y h k e =
+    let p = then-ties (permutation_order x.0 y.0) (printed_order x.1 y.1) e in
+    let first = permutations-tie x.0 y.0 (and_parts _ _ h).0 (and_parts _ _ k).0 p.0 in
+    let second = monomials-tie x.1 y.1 (and_parts _ _ h).1 (and_parts _ _ k).1 p.1 in
+    ap₂ (λ a b. (a, b)) first second
 
 pub label_order-ties : (kind : Kind) (x y : Label kind) → (label_rules kind).is_within_limits x ≡ true → (label_rules kind).is_within_limits y ≡ true → (label_rules kind).order x y ≡ Equal → x ≡ y
 label_order-ties number x y h k e = refl

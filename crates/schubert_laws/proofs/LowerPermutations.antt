@@ -312,7 +312,7 @@ first_least a (c ∷ w) n b m = by m (first_least c w (λ i h. n (suc i) (omega 
     by (inl e) rest = let l = n 0 (omega arith) in omega arith
     by (inr k) rest = let l = n 0 (omega arith) in let r = rest b k in omega arith
 
-code_never_falls : (w : List ℕ) → NeverFalls w → code w ≡ replicate (length w) 0
+pub code_never_falls : (w : List ℕ) → NeverFalls w → code w ≡ replicate (length w) 0
 code_never_falls [] n = refl
 code_never_falls (a ∷ w) n = ap₂ ◌∷◌ (smaller_of_none a w (first_least a w n)) (code_never_falls w (λ i h. n (suc i) (omega arith)))
 

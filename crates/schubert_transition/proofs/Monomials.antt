@@ -23,7 +23,7 @@ use lib.IntN.{+ℤ_idr}
 abbrev pub unit : ℕ → List ℕ
 unit r = replicate (r - 1) 0 ++ (1 ∷ [])
 
-length-unit : (r : ℕ) → 1 ≤ r → length (unit r) ≡ r
+pub length-unit : (r : ℕ) → 1 ≤ r → length (unit r) ≡ r
 length-unit r h =
     let zeros : List ℕ = replicate (r - 1) 0 in
     let z : ℕ = 0 in

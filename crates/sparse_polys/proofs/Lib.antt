@@ -3,6 +3,7 @@ pub mod Tables
 pub mod Steps
 pub mod Sorted
 pub mod Totals
+pub mod WholeTables
 pub mod Multiples
 pub mod Places
 pub mod Values

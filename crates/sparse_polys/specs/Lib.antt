@@ -1,4 +1,5 @@
 pub mod Combination
+pub mod WholeTables
 pub mod Refusal
 pub mod Labels
 pub mod Following

@@ -23,6 +23,7 @@ mod poly;
 mod power;
 mod products;
 mod search;
+mod shifted;
 mod states;
 mod terms;
 
@@ -35,4 +36,5 @@ pub use pair::Pair;
 pub use poly::Poly;
 pub use power::Power;
 pub use products::{times, times_var};
+pub use shifted::Shifted;
 pub use terms::Terms;

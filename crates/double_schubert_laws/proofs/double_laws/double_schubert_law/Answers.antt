@@ -1,5 +1,5 @@
 use Rattle.double_schubert_laws.proofs.DoubleDominant.{In_double, dominant_product}
-use Rattle.double_schubert_laws.proofs.DoubleVariables.{any_descent_double, any_places, kept_in}
+use Rattle.double_schubert_laws.proofs.DoubleVariables.{any_descent_double, any_places, identity_double, kept_in}
 use Rattle.double_schubert_laws.proofs.double_laws.double_schubert_law.Goals as goal
 
 pub returns-clause-descent : goal.returns-clause-descent
@@ -16,3 +16,6 @@ returns-clause-any_places c = any_places
 
 pub returns-clause-kept : goal.returns-clause-kept
 returns-clause-kept c = kept_in
+
+pub returns-clause-identity : goal.returns-clause-identity
+returns-clause-identity c = identity_double
