@@ -57,7 +57,7 @@ restrict_pair n f φ i =
 pub coefficient_is : (w α : List ℕ) → coefficient_of (polynomials.schubert w) α ≡ pair (schubert_in w (length w)) (only α)
 coefficient_is w α = coefficient_pair (polynomials.schubert w) α ∙ sym (restrict_pair (length w) (polynomials.schubert w) (only α) (In_schubert w))
 
-past : (z : ℤ) → pos (2 ^ 127) ≤ℤ z → is_past z ≡ true
+pub past : (z : ℤ) → pos (2 ^ 127) ≤ℤ z → is_past z ≡ true
 past (pos n) h = le-leb (2 ^ 127) n (omega (arith, ints))
 past (negsuc n) h = absurd (omega (arith, ints))
 

@@ -6,7 +6,7 @@ use Rattle.sym_model.proofs.Exponents.{fits_in_length}
 use Rattle.schubert_transition.specs.declared.todo.Waiting.{Waiting}
 use Rattle.schubert_transition.specs.TermLists.{over, only}
 use Rattle.schubert_transition.specs.Transitions.{acted, shown}
-use Rattle.schubert_transition.proofs.Members.{fewer_inversions}
+use Rattle.schubert_laws.proofs.Members.{fewer_inversions}
 use Rattle.schubert_transition.proofs.Ranks.{weight_positive}
 use Rattle.schubert_transition.proofs.TermSums.{over_natural, over_within, at_only_natural}
 use Rattle.schubert_transition.proofs.Acted.{shown_natural}
