@@ -9,7 +9,7 @@ use Rattle.sym_model.proofs.AfterLists.{length_after, after_among}
 use Rattle.sym_model.proofs.Sums.{Among_from_map, Among_from_select}
 use Rattle.schubert_laws.proofs.MonkFromOne.{swap_is}
 use Rattle.schubert_laws.proofs.Swaps.{swap_at, length-swap_at}
-use Rattle.perm_codes.proofs.WithinLimits.{fewer_kept}
+use Rattle.schubert_laws.proofs.Members.{fewer_kept}
 
 length_select : {A : Type 0} (test : A → Bool) (xs : List A) → length (select test xs) ≤ length xs
 length_select test [] = omega arith

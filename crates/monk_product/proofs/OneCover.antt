@@ -18,7 +18,7 @@ use Rattle.schubert_laws.proofs.MonkFromOne.{swap_is}
 use Rattle.schubert_laws.proofs.TransitionFromOne.{get_past}
 use Rattle.schubert_laws.proofs.Swaps.{get_swap_left, get_swap_right, among_get}
 use Rattle.schubert_transition.specs.TermLists.{only}
-use Rattle.schubert_transition.proofs.Ranks.{letter_within}
+use Rattle.schubert_laws.proofs.Ranks.{letter_within}
 use Rattle.monk_product.specs.Monk.{count_of}
 
 -- ---- the letters at the places that are exchanged

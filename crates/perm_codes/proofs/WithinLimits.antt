@@ -10,6 +10,7 @@ use Rattle.schubert_laws.proofs.FixedTails.{kept_added, one_line_added, one_line
 use Rattle.schubert_laws.proofs.LowerPermutations.{kept_whole}
 use Rattle.schubert_laws.proofs.MonkFromOne.{one_line_swap, swap_is}
 use Rattle.schubert_laws.proofs.Swaps.{length-swap_at}
+use Rattle.schubert_laws.proofs.Members.{fewer_kept}
 use Rattle.perm_codes.specs.Limits.{IsShortPermutation, IsWithinLimits}
 
 some_kept : (w : List ℕ) → 0 < length w → 0 < length (kept w)
@@ -18,9 +19,6 @@ some_kept (a ∷ w) h = omega arith
 
 kept_kept : (w : List ℕ) → 0 < length w → kept (kept w) ≡ kept w
 kept_kept w h = let t = kept_whole w in sym (kept_added (kept w) t.0 (some_kept w h)) ∙ ap kept (sym t.1)
-
-pub fewer_kept : (w : List ℕ) → length (kept w) ≤ length w
-fewer_kept w = let t = kept_whole w in omega (arith, ap length t.1, length-append (kept w) (after (length (kept w)) t.0))
 
 pub kept_limits : (w : List ℕ) → IsShortPermutation w → IsWithinLimits (kept w)
 kept_limits w s = record {

@@ -18,3 +18,5 @@ pub mod Transition
 pub mod TransitionFromOne
 pub mod LowerPermutations
 pub mod Codes
+pub mod Ranks
+pub mod Members

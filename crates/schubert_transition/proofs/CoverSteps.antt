@@ -12,7 +12,7 @@ use Rattle.schubert_transition.specs.TermLists.{over, only}
 use Rattle.schubert_transition.specs.Transitions.{IsShort, acted}
 use Rattle.schubert_transition.specs.Todo.{HasLargeValue}
 use Rattle.schubert_transition.proofs.TermSums.{AreNatural, over_natural}
-use Rattle.schubert_transition.proofs.Members.{short_cover}
+use Rattle.schubert_laws.proofs.Members.{short_cover}
 use Rattle.schubert_transition.proofs.Monomials.{schubert_monomials}
 use Rattle.schubert_transition.proofs.Acted.{acted_natural, acted_step, at_only_natural}
 use Rattle.schubert_transition.proofs.CoverSums.{covers_before, covers_from, covers_all, covers_take}

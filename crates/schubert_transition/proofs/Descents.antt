@@ -4,7 +4,7 @@ use Rattle.sym_model.specs.Permutation.{IsOneLine, letter, last_descent}
 use Rattle.sym_model.proofs.Lists.{get_or-any}
 use Rattle.schubert_laws.proofs.Transition.{last_descent_is}
 use Rattle.schubert_laws.proofs.TransitionFromOne.{get_past}
-use Rattle.schubert_transition.proofs.Ranks.{letter_within}
+use Rattle.schubert_laws.proofs.Ranks.{letter_within}
 
 pub descent_facts : (w : List ℕ) (r : ℕ) → last_descent w ≡ Some r → (1 ≤ r) × (r + 1 ≤ length w) × (letter w (suc r) < letter w r)
 descent_facts w r e =

@@ -15,8 +15,8 @@ use Rattle.schubert_laws.proofs.LowerPermutations.{transition_lowers, transition
 use Rattle.schubert_laws.proofs.TransitionFromOne.{transition}
 use Rattle.schubert_laws.proofs.Dominant.{pair_x_to}
 use Rattle.schubert_transition.specs.Transitions.{IsShort, rank}
-use Rattle.schubert_transition.proofs.Ranks.{rank_lower}
-use Rattle.schubert_transition.proofs.Members.{short_transition, short_cover, place_within}
+use Rattle.schubert_laws.proofs.Ranks.{rank_lower}
+use Rattle.schubert_laws.proofs.Members.{short_transition, short_cover, place_within}
 use lib.IntN.{+ℤ_idr}
 
 -- the exponents of the variable x_r

@@ -1,19 +1,8 @@
 -- What the transition rule works on: polynomials that wait to be multiplied by Schubert polynomials.
-use Rattle.std.specs.Prelude.{ℕ, ◌+◌, ◌*◌, ◌^◌, ◌≤◌, cond, ℤ, pos, List, length}
+use Rattle.std.specs.Prelude.{ℕ, ◌^◌, cond, ℤ, pos, List}
 use Rattle.sym_model.specs.Polynomial.{join, pair, resize, fits_in}
-use Rattle.sym_model.specs.PlaceOrders.{inversions}
-use Rattle.sym_model.specs.Permutation.{IsOneLine, letter, last_descent_place}
 use Rattle.sym_model.specs.Schubert.{schubert_in}
-
--- a permutation of at most n letters
-pub record IsShort (n : ℕ) (w : List ℕ) : Type 0 where
-  pub one_line : IsOneLine w
-  pub few : length w ≤ n
-
--- the order that the rule lowers as a number to a base above the number of letters: by inversions, then by the last descent,
--- then by the letter there
-abbrev pub rank : ℕ → List ℕ → ℕ
-rank base w = (inversions w * base + last_descent_place w) * base + letter w (last_descent_place w)
+pub use Rattle.schubert_laws.specs.TransitionOrder.{IsShort, rank}
 
 -- a weight by which a permutation outweighs all those that one step of the rule makes of it
 abbrev pub weight : List ℕ → ℕ

@@ -10,5 +10,5 @@ abbrev pub behind : ℕ → List ℕ → List ℕ
 behind m w = after 0 m ++ map (λ a. a + m) w
 
 -- the Stanley polynomial of w in m variables: the Schubert polynomial of w behind m fixed letters, in these variables alone
-abbrev pub stanley : List ℕ → ℕ → Poly
-stanley w m = schubert_in (behind m w) m
+abbrev pub stanley_in : List ℕ → ℕ → Poly
+stanley_in w m = schubert_in (behind m w) m

@@ -1,6 +1,6 @@
 use Rattle.std.proofs.Common.{ap, ◌∙◌, length, arith}
 use Rattle.sym_model.specs.LabelLimits.{is_permutation_label}
-use Rattle.perm_codes.proofs.WithinLimits.{fewer_kept}
+use Rattle.schubert_laws.proofs.Members.{fewer_kept}
 use Rattle.library_rows.proofs.Labels.{only_label}
 use Rattle.library_rows.proofs.products.monk.Goals as goal
 

@@ -9,7 +9,7 @@ use Rattle.sparse_polys.proofs.Steps.{error_is}
 use Rattle.schubert_transition.specs.TermLists.{over, AreTerms}
 use Rattle.schubert_transition.specs.Transitions.{IsShort, acted, weight}
 use Rattle.schubert_transition.specs.Todo.{value_of, load}
-use Rattle.schubert_transition.proofs.Members.{short_swap}
+use Rattle.schubert_laws.proofs.Members.{short_swap}
 use Rattle.schubert_transition.proofs.Ranks.{more_load}
 use Rattle.schubert_transition.proofs.CoverSums.{covers_before, covers_skip, covers_take}
 use Rattle.schubert_transition.proofs.CoverSteps.{all_of, all_of-push, covers_large}

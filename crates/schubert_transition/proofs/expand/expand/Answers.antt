@@ -12,8 +12,9 @@ use Rattle.sparse_polys.proofs.ClearedSums.{on_ok}
 use Rattle.schubert_transition.specs.TermLists.{over, AreTerms}
 use Rattle.schubert_transition.specs.Transitions.{IsShort, acted, rank, weight}
 use Rattle.schubert_transition.specs.Todo.{value_of}
-use Rattle.schubert_transition.proofs.Members.{short_transition, short_cover, place_within, fewer_inversions}
-use Rattle.schubert_transition.proofs.Ranks.{rank_lower, pow_below, weights_less}
+use Rattle.schubert_laws.proofs.Members.{short_transition, short_cover, place_within, fewer_inversions}
+use Rattle.schubert_laws.proofs.Ranks.{rank_lower}
+use Rattle.schubert_transition.proofs.Ranks.{pow_below, weights_less}
 use Rattle.schubert_transition.proofs.CoverSteps.{all_of, over_step, step_large}
 use Rattle.schubert_transition.proofs.WaitingSums.{large_as, terms_weaker}
 use Rattle.schubert_transition.proofs.expand.expand.Goals as goal

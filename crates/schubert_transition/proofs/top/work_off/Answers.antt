@@ -7,7 +7,7 @@ use Rattle.sparse_polys.proofs.ClearedSums.{on_ok}
 use Rattle.schubert_transition.specs.declared.todo.Waiting.{Waiting}
 use Rattle.schubert_transition.specs.TermLists.{over, only}
 use Rattle.schubert_transition.specs.Transitions.{acted, shown}
-use Rattle.schubert_transition.proofs.Members.{fewer_inversions}
+use Rattle.schubert_laws.proofs.Members.{fewer_inversions}
 use Rattle.schubert_transition.proofs.Ranks.{weight_positive}
 use Rattle.schubert_transition.proofs.TermSums.{over_natural, over_within}
 use Rattle.schubert_transition.proofs.Acted.{shown_natural, at_only_natural}

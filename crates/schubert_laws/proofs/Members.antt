@@ -1,0 +1,82 @@
+-- The permutations on the right side of the transition rule: they are permutations, of not more letters.
+use Rattle.std.proofs.Common.{◌≡◌, ℕ, ◌+◌, ◌-◌, ◌<◌, ◌≤◌, List, ◌==◌, map, length, sym, ap, ap₂, ◌∙◌, subst, arith, length-append, eqb-true}
+use Rattle.sym_model.specs.Sum.{Among}
+use Rattle.sym_model.specs.Partition.{after}
+use Rattle.sym_model.specs.PlaceOrders.{inversions}
+use Rattle.sym_model.specs.Permutation.{IsOneLine, IsTransition, with_fixed, kept, times_swap, covers_down}
+use Rattle.sym_model.proofs.AfterLists.{length_after, after_among}
+use Rattle.sym_model.proofs.Sums.{Among_from_map, Among_from_select}
+use Rattle.schubert_laws.proofs.FixedTails.{one_line_added, one_line_kept}
+use Rattle.schubert_laws.proofs.LowerPermutations.{kept_whole}
+use Rattle.schubert_laws.proofs.MonkFromOne.{one_line_swap, swap_is}
+use Rattle.schubert_laws.proofs.Swaps.{swap_at, length-swap_at}
+use Rattle.schubert_laws.proofs.TransitionFromOne.{step_of, kept_swap}
+use Rattle.schubert_laws.proofs.FixedTails.{inversions_kept, one_more_inversion}
+use Rattle.schubert_laws.proofs.Transition.{raises_by_one, strict_get, rises_chain}
+use Rattle.schubert_laws.specs.TransitionOrder.{IsShort}
+
+pub fewer_kept : (w : List ℕ) → length (kept w) ≤ length w
+fewer_kept w = let t = kept_whole w in omega (arith, ap length t.1, length-append (kept w) (after (length (kept w)) t.0))
+
+pub short_swap : (n : ℕ) (w : List ℕ) (i j : ℕ) → IsShort n w → 1 ≤ i → i < j → j ≤ n → IsShort n (times_swap i j w)
+short_swap n w i j s h l m =
+    let few = s.few in
+    let long : List ℕ = with_fixed j w in
+    let e = length-append w (after (length w) (j - length w)) in
+    let f = length_after (length w) (j - length w) in
+    let a : i - 1 < length (with_fixed j w) = omega arith in
+    let b : j - 1 < length (with_fixed j w) = omega arith in
+    let o = one_line_swap (i - 1) (j - 1) (with_fixed j w) a b (one_line_added (j - length w) w s.one_line) in
+    let is = swap_is (with_fixed j w) (i - 1) (j - 1) a b in
+    let k = fewer_kept (swap_at (i - 1) (j - 1) (with_fixed j w)) in
+    let d = length-swap_at (i - 1) (j - 1) (with_fixed j w) in
+    subst (λ x. IsShort n (kept x)) (sym is) (record { one_line = one_line_kept (swap_at (i - 1) (j - 1) (with_fixed j w)) o; few = omega arith })
+
+pub short_transition : (n : ℕ) (w : List ℕ) (r s : ℕ) → IsShort n w → IsTransition w r s → IsShort n (times_swap r s w)
+short_transition n w r s h t =
+    let p = step_of w r s h.one_line t in
+    let a = p.2 in
+    let b = p.3 in
+    let c = p.4.order in
+    let d = p.4.inside in
+    let few = h.few in
+    short_swap n w r s h (omega arith) (omega arith) (omega arith)
+
+pub place_within : (w : List ℕ) (r s : ℕ) → IsOneLine w → IsTransition w r s → (1 ≤ r) × (r < length w) × (r < s) × (s ≤ length w)
+place_within w r s o t =
+    let p = step_of w r s o t in
+    let a = p.2 in
+    let b = p.3 in
+    let c = p.4.order in
+    let d = p.4.inside in
+    (omega arith, omega arith, omega arith, omega arith)
+
+pub short_cover : (n r : ℕ) (u x : List ℕ) → IsShort n u → r ≤ n → Among x (covers_down r u) → IsShort n x
+short_cover n r u x s h m =
+    let a = Among_from_select (λ (v : List ℕ). inversions v == inversions u + 1) x (map (λ i. times_swap i r u) (after 0 (r - 1))) m in
+    let c = Among_from_map (λ i. times_swap i r u) x (after 0 (r - 1)) a.0 in
+    let g = after_among 0 (r - 1) c.0 c.1 in
+    let g0 = g.0 in
+    let g1 = g.1 in
+    subst (IsShort n) (sym c.2) (short_swap n u c.0 r s (omega arith) (omega arith) h)
+
+-- the first permutation of the rule has fewer inversions
+pub fewer_inversions : (w : List ℕ) (r s : ℕ) → IsOneLine w → IsTransition w r s → inversions (times_swap r s w) < inversions w
+fewer_inversions w r s o t =
+    let p = step_of w r s o t in
+    let g = p.4 in
+    let order = g.order in
+    let inside = g.inside in
+    let ou = one_line_swap p.0 p.1 w (omega arith) inside o in
+    let e = one_more_inversion (swap_at p.0 p.1 w) w ou.once o.once (sym (length-swap_at p.0 p.1 w))
+    (raises_by_one p.0 p.1 0 w order inside g.falls (λ c h l. strict_get w c p.1 o.once (omega arith) inside (λ z. omega arith) (rises_chain p.0 c p.1 w g.rises h (omega arith) inside))) in
+    let k = inversions_kept (swap_at p.0 p.1 w) ou in
+    let is : times_swap r s w ≡ kept (swap_at p.0 p.1 w) = ap₂ (λ i j. times_swap i j w) p.2 p.3 ∙ kept_swap w p.0 p.1 g.order g.inside in
+    let same = ap inversions is in
+    omega arith
+
+-- and the others have as many
+pub cover_inversions : (r : ℕ) (u x : List ℕ) → Among x (covers_down r u) → inversions x ≡ inversions u + 1
+cover_inversions r u x m =
+    let a = Among_from_select (λ (v : List ℕ). inversions v == inversions u + 1) x (map (λ i. times_swap i r u) (after 0 (r - 1))) m in
+    eqb-true (inversions x) (inversions u + 1) a.1

@@ -1,0 +1,5 @@
+pub mod SortingPaths
+pub mod Grassmannian
+pub mod FirstPlaces
+pub mod Behind
+pub mod SchurPositive

@@ -1,0 +1,2 @@
+pub mod Grassmannian
+pub mod SchurPositive
