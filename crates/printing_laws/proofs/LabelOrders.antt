@@ -144,7 +144,7 @@ powers-tie x y h k e =
 
 pub shifted-tie : (x y : List ℕ × List ℕ) → is_shifted_label x ≡ true → is_shifted_label y ≡ true → shifted_order x y ≡ Equal → x ≡ y
 shifted-tie x y h k e =
-    let p = then-ties (permutation_order x.0 y.0) (printed_order x.1 y.1) e in
+    let p = then-equal (permutation_order x.0 y.0) (printed_order x.1 y.1) e in
     let first = permutations-tie x.0 y.0 (and_parts _ _ h).0 (and_parts _ _ k).0 p.0 in
     let second = monomials-tie x.1 y.1 (and_parts _ _ h).1 (and_parts _ _ k).1 p.1 in
     ap₂ (λ a b. (a, b)) first second
