@@ -23,20 +23,10 @@ get-union (a ∷ s) [] k = omega arith
 get-union (a ∷ s) (b ∷ t) zero = refl
 get-union (a ∷ s) (b ∷ t) (suc k) = get-union s t k
 
-pub cell-set : (i : ℕ) (s : List ℕ) → i < length s → with_cell i s ≡ set s i (get_or s i 0 + 1)
-cell-set i [] h = absurd (omega arith)
-cell-set zero (a ∷ s) h = refl
-cell-set (suc i) (a ∷ s) h = ap (λ (t : List ℕ). a ∷ t) (cell-set i s (omega arith))
-
 pub cell-pushed : (i : ℕ) (s : List ℕ) → length s ≤ i → with_cell i s ≡ s ++ 1 ∷ []
 cell-pushed i [] h = refl
 cell-pushed zero (a ∷ s) h = absurd (omega arith)
 cell-pushed (suc i) (a ∷ s) h = ap (λ (t : List ℕ). a ∷ t) (cell-pushed i s (omega arith))
-
-pub cell_small : (i : ℕ) (s : List ℕ) → i < length s → get_or s i 0 + 1 ≤ size (with_cell i s)
-cell_small i [] h = absurd (omega arith)
-cell_small zero (a ∷ s) h = omega arith
-cell_small (suc i) (a ∷ s) h = omega (arith, cell_small i s (omega arith))
 
 pub grown-at :
     (i : ℕ) (large small : List ℕ) → i < length large → ((k : ℕ) → k < i → get_or large k 0 ≤ get_or small k 0)

@@ -64,12 +64,6 @@ corner_next w (suc i) k a lower left right f l m e p q r =
     ∙ ap (at_corner (letter w (suc i) == suc k) (growth_shape w i k) (growth_shape w i (suc k))) r
     ∙ ap (growth_shape w (suc i)) (sym s)
 
--- an element, whatever the default
-pub any_default : {X : Type 0} (xs : List X) (k : ℕ) (d e : X) → k < length xs → get_or xs k d ≡ get_or xs k e
-any_default [] k d e l = absurd (omega arith)
-any_default (x ∷ xs) zero d e l = refl
-any_default (x ∷ xs) (suc k) d e l = any_default xs k d e (omega arith)
-
 -- the shape that stands at a place of a line
 pub shape_in : (w : List ℕ) (line : List (List ℕ)) (i k here : ℕ) (x : List ℕ) → line ≡ grid_line w i → here ≡ k → k ≤ length w
     → x ≡ get_or line here x → x ≡ growth_shape w i k

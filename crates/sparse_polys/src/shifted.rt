@@ -3,10 +3,9 @@ ghost use Rattle.std.specs.Prelude.{length, nat_le, ◌&&◌};
 ghost use Rattle.sym_model.specs.LabelLimits.{is_shifted_label};
 ghost use Rattle.sym_model.specs.PrintedOrder.{shifted_order};
 
-use crate::Monomial;
+use crate::{Label, Monomial};
 use calc_base::NoMemory;
 use perm_codes::Perm;
-use crate::Label;
 use std::cmp::Ordering;
 use std::marker::Model;
 
