@@ -1,16 +1,13 @@
 //! The growth shapes of a permutation.
 ghost use Rattle.std.specs.Prelude.{◌≡◌, ◌-◌, ◌≤◌, IfOk, length};
-ghost use Rattle.sym_model.specs.Growth.{growth_shape, tableau_of_chain};
-ghost use Rattle.sym_model.specs.Insertion.{insertion_pair};
+ghost use Rattle.sym_model.specs.Growth.{growth_shape};
 ghost use Rattle.perm_codes.specs.Limits.{IsWithinLimits};
 ghost use Rattle.growth_diagrams.specs.Grids.{grid_line, grid_lines, lines_in};
 
-use crate::corner::{first_longer, shape_at_corner};
+use crate::corner::shape_at_corner;
 use calc_base::NoMemory;
 use partitions::Partition;
 use perm_codes::Perm;
-use row_insertion::{push_at, standard_of};
-use skew_shapes::Standard;
 use std::alloc::Global;
 use std::marker::Model;
 
@@ -48,30 +45,6 @@ impl Grid {
         ensures { result.now ≡ growth_shape self.now i j }
     {
         &self.lines[usize::from(i)][usize::from(j)]
-    }
-
-    /// The insertion tableau and the recording tableau of the permutation, the first one read from the shapes at (n, 0), ..,
-    /// (n, n), the second one from those at (0, n), .., (n, n): a number stands in the cell that its shape has more than the
-    /// one before. Want of memory is the only error.
-    pub fn pair_of(&self, alloc: Global) -> Result<(Standard, Standard), NoMemory>
-        ensures insertion { IfOk result (λ pair. pair.0.rows
-            ≡ tableau_of_chain (λ j. growth_shape self.now (length self.now) j) (length self.now)) }
-        ensures recording { IfOk result (λ pair. pair.1.rows
-            ≡ tableau_of_chain (λ i. growth_shape self.now i (length self.now)) (length self.now)) }
-        ensures pair { IfOk result (λ pair. (pair.0.rows, pair.1.rows) ≡ insertion_pair self.now) }
-    {
-        let side = self.side();
-        let mut insertion = Vec::new(alloc);
-        let mut recording = Vec::new(alloc);
-        for at in 0..side {
-            let row = first_longer(self.shape_at(side, at + 1), self.shape_at(side, at));
-            push_at(&mut insertion, usize::from(row), at + 1)?;
-            let step = first_longer(self.shape_at(at + 1, side), self.shape_at(at, side));
-            push_at(&mut recording, usize::from(step), at + 1)?;
-        }
-        let p = standard_of(alloc, &insertion)?;
-        let q = standard_of(alloc, &recording)?;
-        Ok((p, q))
     }
 }
 

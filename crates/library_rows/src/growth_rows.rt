@@ -1,5 +1,4 @@
-//! Rows of growth grids, and of the pairs of tableaux that are read from them.
-use crate::made::rows;
+//! Rows of growth grids.
 use anyhow::Result;
 use growth_diagrams::{Grid, grow};
 use perm_codes::Perm;
@@ -13,12 +12,11 @@ pub fn print(rt: &(impl Print + Alloc<A = Global>)) -> Result<()> {
     grown(rt, &[2, 3, 1])
 }
 
-/// Prints the grid of a permutation, and its pair.
+/// Prints the grid of a permutation.
 fn grown(rt: &(impl Print + Alloc<A = Global>), letters: &[u16]) -> Result<()> {
     let w = Perm::from_letters(rt.alloc(), letters)?;
     let grid = grow(rt.alloc(), &w)?;
-    lines(rt, &grid)?;
-    pair(rt, &grid)
+    lines(rt, &grid)
 }
 
 fn lines(rt: &impl Print, grid: &Grid) -> Result<()> {
@@ -38,10 +36,4 @@ fn shapes(rt: &impl Print, grid: &Grid, i: u16) -> Result<()> {
         label(rt, grid.shape_at(i, j).parts())?;
     }
     end(rt)
-}
-
-fn pair(rt: &(impl Print + Alloc<A = Global>), grid: &Grid) -> Result<()> {
-    let (p, q) = grid.pair_of(rt.alloc())?;
-    rows(rt, "P", p.tableau())?;
-    rows(rt, "Q", q.tableau())
 }

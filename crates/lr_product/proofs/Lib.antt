@@ -18,6 +18,6 @@ mod MixedNumbers
 mod TableLists
 mod CountSums
 mod PastCoefficients
-mod FactorSums
+pub mod FactorSums
 mod Partial
 mod NothingLeft
