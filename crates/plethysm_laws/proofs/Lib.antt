@@ -1,0 +1,9 @@
+pub mod Substitutions
+pub mod SubstitutedBounds
+pub mod Dilations
+pub mod RepeatedMonomials
+pub mod NonnegativeTerms
+pub mod PathBounds
+pub mod ListBounds
+pub mod Paths
+pub mod PathWeights

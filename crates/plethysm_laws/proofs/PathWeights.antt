@@ -1,0 +1,80 @@
+-- The weight of a plethysm is at least every number that is met.
+use Rattle.std.proofs.Common.{ℕ, ◌+◌, ◌*◌, ◌^◌, ◌≤◌, max, arith}
+use Rattle.std.proofs.lemmas.Nat.{mul-le}
+use Rattle.std.proofs.Math.Nat.{one-le-pow, pow-le-pow_right}
+use Rattle.sym_model.specs.Expansion.{Basis, power_sums}
+use Rattle.sym_model.specs.Weight.{factorial, growth}
+use Rattle.sym_model.specs.Plethysm.{plethysm_weight}
+use Rattle.monomial_laws.proofs.Growths.{factorial-positive, growth-most, growth-one}
+use Rattle.monomial_laws.proofs.WeightBounds.{factorial-within_growth, growth-mono}
+use native.Mathlib.Nat.{mul-le-mul_left}
+
+-- the weight, from parts of it
+wide : (N D s X C Y : ℕ) → 1 ≤ D → 1 ≤ s → Y ≤ C → N * X * Y ≤ N * D * s * X * C
+wide N D s X C Y h k l =
+    let p = mul-le-mul_left (N * X) l in
+    let q = mul-le 1 1 D s h k in
+    let r = mul-le-mul_left (N * X * C) (let o : 1 ≤ D * s = omega arith in o) in
+    omega arith
+
+times_more : (N Y : ℕ) → 1 ≤ N → Y ≤ N * Y
+times_more N Y h = let p = mul-le 1 Y N Y h (omega arith) in omega arith
+
+module _ (N D a K b : ℕ) (n : 1 ≤ N) (d : 1 ≤ D) (k : 1 ≤ K) where
+  pub some : 1 ≤ K * (b + 1)
+  some = let p = mul-le 1 1 K (b + 1) k (omega arith) in omega arith
+
+  power-one : 1 ≤ (K * (b + 1)) ^ a
+  power-one = one-le-pow a (K * (b + 1)) some
+
+  -- what is met at one label on the path
+  pub weight-met : N * growth power_sums a * ((K * (b + 1)) ^ a * factorial (a * b)) ≤ plethysm_weight N D a K b
+  weight-met =
+      let w = wide N D (a + 1) ((K * (b + 1)) ^ a) (max (growth power_sums a * factorial (a * b)) (growth power_sums (a * b))) (growth power_sums a * factorial (a * b)) d (omega arith) (omega arith) in
+      omega arith
+
+  -- the product over a label
+  pub weight-product : (s : ℕ) → s ≤ a → (K * (b + 1)) ^ s * growth Basis.monomials (s * b) ≤ plethysm_weight N D a K b
+  weight-product s l =
+      let x : (K * (b + 1)) ^ s ≤ (K * (b + 1)) ^ a = pow-le-pow_right some l in
+      let y = growth-mono (s * b) (a * b) (mul-le s b a b l (omega arith)) in
+      let z = growth-most Basis.monomials (a * b) in
+      let p = mul-le ((K * (b + 1)) ^ s) (growth Basis.monomials (s * b)) ((K * (b + 1)) ^ a) (growth power_sums (a * b)) x (omega arith) in
+      let w = wide N D (a + 1) ((K * (b + 1)) ^ a) (max (growth power_sums a * factorial (a * b)) (growth power_sums (a * b))) (growth power_sums (a * b)) d (omega arith) (omega arith) in
+      let t = times_more N ((K * (b + 1)) ^ a * growth power_sums (a * b)) n in
+      omega arith
+
+  -- the change of the finished list into the target
+  pub weight-finished : (target : Basis) → N * (a + 1) * (K * (b + 1)) ^ a * D * growth target (a * b) ≤ plethysm_weight N D a K b
+  weight-finished target =
+      let z = growth-most target (a * b) in
+      let p = mul-le-mul_left (N * D * (a + 1) * (K * (b + 1)) ^ a) (let o : growth target (a * b) ≤ max (growth power_sums a * factorial (a * b)) (growth power_sums (a * b)) = omega arith in o) in
+      omega arith
+
+  -- the bound of the finished list
+  pub weight-number : N * (a + 1) * (K * (b + 1)) ^ a ≤ plethysm_weight N D a K b
+  weight-number =
+      let o = growth-one (a * b) in
+      let m = mul-le 1 1 D (growth power_sums (a * b)) d (growth-one (a * b)) in
+      let p = mul-le-mul_left (N * (a + 1) * (K * (b + 1)) ^ a) (let q : 1 ≤ D * growth power_sums (a * b) = omega arith in q) in
+      let w = weight-finished power_sums in
+      omega arith
+
+  -- the change of the outer list into p
+  pub weight-outer : N * D * growth power_sums a ≤ plethysm_weight N D a K b
+  weight-outer =
+      let f = mul-le (growth power_sums a) 1 (growth power_sums a) (factorial (a * b)) (omega arith) (factorial-positive (a * b)) in
+      let q = mul-le 1 1 (a + 1) ((K * (b + 1)) ^ a) (omega arith) power-one in
+      let p = mul-le (N * D) (growth power_sums a) (N * D * ((a + 1) * (K * (b + 1)) ^ a)) (max (growth power_sums a * factorial (a * b)) (growth power_sums (a * b)))
+      (let r = mul-le-mul_left (N * D) (let o : 1 ≤ (a + 1) * (K * (b + 1)) ^ a = omega arith in o) in omega arith)
+      (omega arith) in
+      omega arith
+
+  -- the common denominator on the path
+  pub weight-denominator : D * factorial a ≤ plethysm_weight N D a K b
+  weight-denominator =
+      let f = factorial-within_growth a in
+      let g = growth-most Basis.monomials a in
+      let p = mul-le D (factorial a) (N * D) (growth power_sums a) (times_more N D n) (omega arith) in
+      let w = weight-outer in
+      omega arith

@@ -1,0 +1,111 @@
+-- Majorants go to majorants where monomials are substituted for the variables, and so bounds to bounds.
+use Rattle.std.proofs.Common.{◌≡◌, ℕ, zero, suc, ◌+◌, ◌*◌, ◌^◌, ◌<◌, ◌≤◌, max, true, false, Bool, cond, List, [], ◌∷◌, length, replicate, sym, ◌∙◌, subst, refl, inl, inr, arith, pos}
+use Rattle.std.specs.Prelude.{◌≤ℤ◌, nat_abs}
+use Rattle.std.proofs.lemmas.Int.{ints}
+use Rattle.std.proofs.lemmas.Nat.{mul-le}
+use Rattle.sym_model.specs.Sum.{Among}
+use Rattle.sym_model.specs.Polynomial.{Poly, same, coefficient, Same, In, one, plus, times, pair}
+use Rattle.sym_model.specs.Partition.{ArePositive, size}
+use Rattle.sym_model.specs.Bases.{has, power_sum, power_sum_of, product_over}
+use Rattle.sym_model.specs.Expansion.{completes, power_sums}
+use Rattle.monomial_laws.specs.Majorant.{IsMajorant, IsBounded, power, powers}
+use Rattle.sym_model.proofs.Polynomials.{at_only, coefficient_pair, Same_sym}
+use Rattle.monomial_laws.proofs.Powers.{In-product_over}
+use Rattle.std.proofs.Math.Nat.{pow-le-pow_right}
+use Rattle.monomial_laws.proofs.MajorantPairs.{majorant-pair}
+use Rattle.monomial_laws.proofs.Majorants.{bounded-weaken, bounded-majorant, majorant-monomials, majorant-atom, bounded-atom, bounded-plus, bounded-times, bounded_respects}
+use Rattle.sym_model.specs.Plethysm.{replaced, substitute}
+use Rattle.plethysm_laws.specs.PowerSumPlethysm.{dilated}
+use Rattle.plethysm_laws.specs.SumsOfMonomials.{HavePlaces, monomial_sum}
+use Rattle.plethysm_laws.proofs.Substitutions.{pair-substitute, substitute-plus, substitute-power_sum, substitute-power_sum_of, In-dilated, dilated-once}
+use native.Mathlib.Nat.{pow-suc, pow-zero}
+
+-- ---- substitution
+
+at_only-nonnegative : (α β : List ℕ) → pos 0 ≤ℤ at_only α β
+at_only-nonnegative α β = by (same β α)
+  where
+    by : (b : Bool) → pos 0 ≤ℤ cond b (pos 1) (pos 0)
+    by true = omega (arith, ints)
+    by false = omega (arith, ints)
+
+pub majorant-substitute : (n : ℕ) (γs : List (List ℕ)) (F f : Poly) → IsMajorant F f → IsMajorant (substitute n γs F) (substitute n γs f)
+majorant-substitute n γs F f m α =
+    subst (λ z. pos (nat_abs z) ≤ℤ coefficient (substitute n γs F) α) (sym (at f))
+    (subst (λ z. pos (nat_abs (pair f (λ β. at_only α (replaced n γs β)))) ≤ℤ z) (sym (at F))
+    (majorant-pair F f (λ β. at_only α (replaced n γs β)) m (λ β. at_only-nonnegative α (replaced n γs β))))
+  where
+    at : (h : Poly) → coefficient (substitute n γs h) α ≡ pair h (λ β. at_only α (replaced n γs β))
+    at h = coefficient_pair (substitute n γs h) α ∙ pair-substitute n γs h (at_only α)
+
+-- ---- bounds
+
+-- the product of s factors
+bounded-product : (K b s n : ℕ) (g : Poly) → In n g → IsBounded K b n g → IsBounded (K ^ s) (s * b) n (product_over (λ k m. dilated k g) (replicate s 1) n)
+bounded-product K b zero n g i h = bounded-weaken 1 (K ^ 0) 0 (0 * b) n (one n) (rw (pow-zero K) (omega arith)) (omega arith) (bounded-atom completes [] n)
+bounded-product K b (suc s) n g i h =
+    let rest = product_over (λ k m. dilated k g) (replicate s 1) n in
+    bounded-weaken (K * K ^ s) (K ^ suc s) (b + s * b) (suc s * b) n (times (dilated 1 g) rest)
+    (rw (pow-suc K s) (omega arith))
+    (omega arith)
+    (bounded-times K (K ^ s) b (s * b) n (dilated 1 g) rest (In-dilated 1 n g i)
+    (In-product_over (λ k m. dilated k g) (replicate s 1) n (λ k. In-dilated k n g i))
+    (bounded_respects K b n g (dilated 1 g) (Same_sym (dilated 1 g) g (dilated-once g)) h)
+    (bounded-product K b s n g i h))
+
+ArePositive-ones : (s : ℕ) → ArePositive (replicate s 1)
+ArePositive-ones zero = tt
+ArePositive-ones (suc s) = (omega arith, ArePositive-ones s)
+
+-- a power of the sum of the variables goes to that power of g
+bounded-power : (K b s n : ℕ) (γs : List (List ℕ)) (g : Poly) → HavePlaces n γs → Same (monomial_sum γs) g → In n g → IsBounded K b n g
+    → IsBounded (K ^ s) (s * b) n (substitute n γs (power s (length γs)))
+bounded-power K b s n γs g h e i k =
+    bounded_respects (K ^ s) (s * b) n (product_over (λ k m. dilated k g) (replicate s 1) n) (substitute n γs (power s (length γs)))
+    (Same_sym (substitute n γs (power s (length γs))) (product_over (λ k m. dilated k g) (replicate s 1) n)
+    (substitute-power_sum (replicate s 1) n γs g (ArePositive-ones s) h e))
+    (bounded-product K b s n g i k)
+
+bounded-powers : (K b a n : ℕ) (γs : List (List ℕ)) (g : Poly) (ds : List ℕ) → 1 ≤ K → HavePlaces n γs → Same (monomial_sum γs) g → In n g → IsBounded K b n g
+    → ((d : ℕ) → Among d ds → d ≤ a) → IsBounded (length ds * K ^ a) (a * b) n (substitute n γs (powers ds (length γs)))
+bounded-powers K b a n γs g [] o h e i k low = record { exponents = []; few = omega arith; low = λ j m. absurd m; majorant = λ α. omega (arith, ints) }
+bounded-powers K b a n γs g (d ∷ ds) o h e i k low =
+    let M = length γs in
+    let first = substitute n γs (power d M) in
+    let rest = substitute n γs (powers ds M) in
+    let p = let r : K ^ d ≤ K ^ a = pow-le-pow_right o (low d (inl refl)) in r in
+    let q = mul-le d b a b (low d (inl refl)) (omega arith) in
+    bounded_respects (suc (length ds) * K ^ a) (a * b) n (plus first rest) (substitute n γs (powers (d ∷ ds) M))
+    (Same_sym (substitute n γs (powers (d ∷ ds) M)) (plus first rest) (substitute-plus n γs (power d M) (powers ds M)))
+    (bounded-weaken (K ^ d + length ds * K ^ a) (suc (length ds) * K ^ a) (max (d * b) (a * b)) (a * b) n (plus first rest)
+    (omega arith)
+    (omega arith)
+    (bounded-plus (K ^ d) (length ds * K ^ a) (d * b) (a * b) n first rest (bounded-power K b d n γs g h e i k)
+    (bounded-powers K b a n γs g ds o h e i k (λ j m. low j (inr m)))))
+
+-- f of degree at most a, bounded by N, and g of degree at most b, bounded by K: the plethysm is bounded by N·K^a
+pub bounded-substitute : (N a K b n : ℕ) (γs : List (List ℕ)) (f g : Poly) → 1 ≤ K → HavePlaces n γs → Same (monomial_sum γs) g → In n g → IsBounded K b n g
+    → IsBounded N a (length γs) f → IsBounded (N * K ^ a) (a * b) n (substitute n γs f)
+bounded-substitute N a K b n γs f g o h e i k r =
+    let F = powers r.exponents (length γs) in
+    let m = mul-le (length r.exponents) (K ^ a) N (K ^ a) r.few (omega arith) in
+    bounded-majorant (N * K ^ a) (a * b) n (substitute n γs F) (substitute n γs f) (majorant-substitute n γs F f r.majorant)
+    (bounded-weaken (length r.exponents * K ^ a) (N * K ^ a) (a * b) (a * b) n (substitute n γs F) (omega arith) (omega arith)
+    (bounded-powers K b a n γs g r.exponents o h e i k r.low))
+
+-- g with each variable replaced by its k-th power is bounded as g^k is
+pub bounded-dilated : (K b k n : ℕ) (γs : List (List ℕ)) (g : Poly) → 0 < k → HavePlaces n γs → Same (monomial_sum γs) g → In n g → IsBounded K b n g
+    → IsBounded (K ^ k) (k * b) n (dilated k g)
+bounded-dilated K b k n γs g l h e i r =
+    bounded_respects (K ^ k) (k * b) n (substitute n γs (power_sum_of k (length γs))) (dilated k g) (substitute-power_sum_of k n γs g l h e)
+    (bounded-majorant (K ^ k) (k * b) n (substitute n γs (power k (length γs))) (substitute n γs (power_sum_of k (length γs)))
+    (majorant-substitute n γs (power k (length γs)) (power_sum_of k (length γs)) (majorant-monomials (λ α. has k α) (length γs) k))
+    (bounded-power K b k n γs g h e i r))
+
+-- and p_λ[g] as g to the power of the size of λ
+pub bounded-power_sum : (K b n : ℕ) (γs : List (List ℕ)) (g : Poly) (parts : List ℕ) → HavePlaces n γs → Same (monomial_sum γs) g → In n g → IsBounded K b n g
+    → IsBounded (K ^ size parts) (size parts * b) n (substitute n γs (power_sum parts (length γs)))
+bounded-power_sum K b n γs g parts h e i r =
+    bounded-majorant (K ^ size parts) (size parts * b) n (substitute n γs (power (size parts) (length γs))) (substitute n γs (power_sum parts (length γs)))
+    (majorant-substitute n γs (power (size parts) (length γs)) (power_sum parts (length γs)) (majorant-atom power_sums parts (length γs)))
+    (bounded-power K b (size parts) n γs g h e i r)

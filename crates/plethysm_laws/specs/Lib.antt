@@ -1,0 +1,3 @@
+pub mod SumsOfMonomials
+pub mod PowerSumPlethysm
+pub mod PositiveExpression
