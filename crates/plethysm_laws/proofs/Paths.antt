@@ -101,19 +101,19 @@ path-whole m terms sum n γs g f q is p w h e same_sum x =
     let first = IsDivided-over m terms x.positive is w in
     let outer : Same (scale (pos q) (combined P W)) (scale (pos m) f) =
     λ α.
-        coefficient_scale (pos q) (combined P W) α
-        ∙ turned (pos m) (pos q) (coefficient (value_by P terms) α) (coefficient (combined P W) α) (coefficient f α) Q x.positive
-        (value-divided P m W terms first α)
-        (sym (coefficient_scale (pos q) (value_by P terms) α) ∙ x.equal α ∙ coefficient_scale (pos Q) f α)
-        ∙ sym (coefficient_scale (pos m) f α) in
+    coefficient_scale (pos q) (combined P W) α
+    ∙ turned (pos m) (pos q) (coefficient (value_by P terms) α) (coefficient (combined P W) α) (coefficient f α) Q x.positive
+    (value-divided P m W terms first α)
+    (sym (coefficient_scale (pos q) (value_by P terms) α) ∙ x.equal α ∙ coefficient_scale (pos Q) f α)
+    ∙ sym (coefficient_scale (pos m) f α) in
     let S = substitute n γs in
     λ α.
-        coefficient_scale (pos q) (in_monomials sum n) α
-        ∙ ap (λ z. pos q *ℤ z) (same_sum α ∙ sym (substitute-combined n γs g W p h e α))
-        ∙ sym (coefficient_scale (pos q) (S (combined P W)) α)
-        ∙ sym (substitute-scale n γs (pos q) (combined P W) α)
-        ∙ substitute_respects n γs (scale (pos q) (combined P W)) (scale (pos m) f) outer α
-        ∙ substitute-scale n γs (pos m) f α
+    coefficient_scale (pos q) (in_monomials sum n) α
+    ∙ ap (λ z. pos q *ℤ z) (same_sum α ∙ sym (substitute-combined n γs g W p h e α))
+    ∙ sym (coefficient_scale (pos q) (S (combined P W)) α)
+    ∙ sym (substitute-scale n γs (pos q) (combined P W) α)
+    ∙ substitute_respects n γs (scale (pos q) (combined P W)) (scale (pos m) f) outer α
+    ∙ substitute-scale n γs (pos m) f α
 
 -- so the sum divided by m is f with the monomials of g substituted, divided by q
 pub plethysm-path : (m : ℕ) (terms answer : Terms (List ℕ)) (sum : WholeTerms) (n : ℕ) (γs : List (List ℕ)) (g f : Poly) (q : ℕ) → 0 < m → Once (labels_of terms)
@@ -151,11 +151,11 @@ path-multiple D k outer terms sum n γs g some positive js is v p w h e same_sum
     let x = expansion_divided D (over D outer) outer (in_monomials (over D outer)) first (λ m α. refl) M in
     let y = path-whole (D * k) terms sum n γs g F D is p w h e same_sum (changed M F D x) in
     λ α.
-        product_cancel (coefficient (in_monomials sum n) α) (coefficient (scale (pos k) (substitute n γs F)) α) D some
-        (*ℤ_comm (coefficient (in_monomials sum n) α) (pos D)
-        ∙ sym (coefficient_scale (pos D) (in_monomials sum n) α)
-        ∙ y α
-        ∙ coefficient_scale (pos (D * k)) (substitute n γs F) α
-        ∙ product_assoc (pos D) (pos k) (coefficient (substitute n γs F) α)
-        ∙ ap (λ z. pos D *ℤ z) (sym (coefficient_scale (pos k) (substitute n γs F) α))
-        ∙ *ℤ_comm (pos D) (coefficient (scale (pos k) (substitute n γs F)) α))
+    product_cancel (coefficient (in_monomials sum n) α) (coefficient (scale (pos k) (substitute n γs F)) α) D some
+    (*ℤ_comm (coefficient (in_monomials sum n) α) (pos D)
+    ∙ sym (coefficient_scale (pos D) (in_monomials sum n) α)
+    ∙ y α
+    ∙ coefficient_scale (pos (D * k)) (substitute n γs F) α
+    ∙ product_assoc (pos D) (pos k) (coefficient (substitute n γs F) α)
+    ∙ ap (λ z. pos D *ℤ z) (sym (coefficient_scale (pos k) (substitute n γs F) α))
+    ∙ *ℤ_comm (pos D) (coefficient (scale (pos k) (substitute n γs F)) α))

@@ -21,14 +21,9 @@ pub fn power_sum_path_law()
         → EachLabel ArePositive terms → IsMonomialSum d n g
         → Same (plethysm (λ m. combined (λ label. power_sum label m) terms) d n g)
         (combined (λ label. power_sum_plethysm label g n) terms) }
-    ensures square {
-        coefficient (plethysm (complete_of 2) 2 2 (complete_of 2 2)) (2 ∷ 2 ∷ []) ≡ pos 2 }
-    ensures front {
-        coefficient (plethysm (complete_of 2) 2 2 (complete_of 2 2)) (3 ∷ 1 ∷ []) ≡ pos 1 }
-    ensures exterior {
-        coefficient (plethysm (elementary_of 2) 2 2 (complete_of 2 2)) (3 ∷ 1 ∷ []) ≡ pos 1 }
-    ensures no_square {
-        coefficient (plethysm (elementary_of 2) 2 2 (complete_of 2 2)) (4 ∷ 0 ∷ []) ≡ pos 0 }
-    ensures number {
-        coefficient (plethysm (complete_of 2) 0 1 (scale (pos 3) (one 1))) (0 ∷ []) ≡ pos 6 }
+    ensures square { coefficient (plethysm (complete_of 2) 2 2 (complete_of 2 2)) (2 ∷ 2 ∷ []) ≡ pos 2 }
+    ensures front { coefficient (plethysm (complete_of 2) 2 2 (complete_of 2 2)) (3 ∷ 1 ∷ []) ≡ pos 1 }
+    ensures exterior { coefficient (plethysm (elementary_of 2) 2 2 (complete_of 2 2)) (3 ∷ 1 ∷ []) ≡ pos 1 }
+    ensures no_square { coefficient (plethysm (elementary_of 2) 2 2 (complete_of 2 2)) (4 ∷ 0 ∷ []) ≡ pos 0 }
+    ensures number { coefficient (plethysm (complete_of 2) 0 1 (scale (pos 3) (one 1))) (0 ∷ []) ≡ pos 6 }
 {}
