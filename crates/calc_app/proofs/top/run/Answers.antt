@@ -1,4 +1,4 @@
-use Rattle.std.proofs.Common.{map, subst}
+use Rattle.std.proofs.Common.{map, refl, subst}
 use Rattle.std.specs.Prelude.{string_bytes}
 use Rattle.calc_app.proofs.Outcomes.{headline}
 use Rattle.calc_app.proofs.Ends.{put_leaves, put_accepted, put_offended, put_misspelt, lines_leave, lines_print}
@@ -32,6 +32,9 @@ returns-in-Ok-Put-clause-headline g c =
     (put_leaves g.K.Sink.written g.K.Sink.length g.K.Sink.faults g.K.Sink.settled c.args.sink.now c.put_outcome.new.sink
     (g.S.Source.left c.args.source.now) (g.S.Source.left c.args.source.now) (map string_bytes c.args.words.now) c.in-Ok-Put.outcome c.put_outcome.result
     (subst (λ (t : Task). IsTaskFor (map string_bytes c.args.words.now) (Ok t)) c.in-Ok-Put.field-0-is c.in-Ok-Put.ensures.computes) c.put_outcome.ensures)
+
+pub returns-in-Ok-Put-clause-cut : goal.returns-in-Ok-Put-clause-cut
+returns-in-Ok-Put-clause-cut g c = λ runs. absurd ((subst (λ (t : Task). AcceptsTask batch (Ok t)) c.in-Ok-Put.field-0-is (c.in-Ok-Put.ensures.accepts batch runs)).1 refl)
 
 pub returns-in-Ok-Put-clause-leaves : goal.returns-in-Ok-Put-clause-leaves
 returns-in-Ok-Put-clause-leaves g c =
