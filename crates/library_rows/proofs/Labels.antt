@@ -1,15 +1,17 @@
 -- The labels of tables of few terms.
-use Rattle.std.proofs.Common.{◌≡◌, ◌⊎◌, ℕ, Bool, true, false, cond, List, [], ◌∷◌, refl, sym, ap, ◌∙◌, subst, inl, inr, arith}
+use Rattle.std.proofs.Common.{◌≡◌, ◌≤◌, ◌⊎◌, ℕ, Bool, true, false, cond, List, [], ◌∷◌, refl, sym, ap, ◌∙◌, subst, inl, inr, arith}
 use Rattle.std.specs.Prelude.{nat_eq}
 use Rattle.std.specs.Cmp.Lexicographic.{pointwise, nat_list_eq_equiv}
 use Rattle.sym_model.specs.Sum.{Among}
 use Rattle.sym_model.specs.Expansion.{Fraction, Terms}
+use Rattle.sym_model.specs.Partition.{size}
 use Rattle.sym_model.specs.Polynomial.{join}
 use Rattle.coeff_rings.specs.Fractions.{fraction_sum}
 use Rattle.sparse_polys.specs.Combination.{coefficient, HasMoreAt, IsCombination}
 use Rattle.sparse_polys.specs.Labels.{same_partition}
 use Rattle.sparse_polys.proofs.Totals.{carried}
 use Rattle.sparse_polys.specs.Limits.{IsWithinLimits}
+use Rattle.sparse_polys.specs.MonomialProducts.{greatest_size}
 use Rattle.sparse_polys.specs.Raised.{raised}
 
 -- where one term was added, each label is that of the term or an old one
@@ -38,3 +40,8 @@ products_fit a b (inr e) f = subst (λ x. IsWithinLimits (join x b)) (sym e) (su
 
 pub second_fits : (a : List ℕ) → a ≡ 1 ∷ [] → IsWithinLimits (raised 2 a)
 second_fits a e = subst (λ x. IsWithinLimits (raised 2 x)) (sym e) (record { trimmed = refl; few = omega arith; small = omega arith })
+
+-- a bound of the size of each label bounds the greatest one
+pub sizes_bounded : (bound : ℕ) (terms : Terms (List ℕ)) → ((t : List ℕ × Fraction) → Among t terms → size t.0 ≤ bound) → greatest_size terms ≤ bound
+sizes_bounded bound [] each = omega arith
+sizes_bounded bound (t ∷ terms) each = let a = each t (inl refl) in let b = sizes_bounded bound terms (λ u m. each u (inr m)) in omega arith
