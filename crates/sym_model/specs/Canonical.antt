@@ -1,10 +1,10 @@
 -- Canonical lists of terms (this project's own): each label once, in the printed order, with a coefficient
 -- that is not 0 and in lowest terms.
-use Rattle.std.specs.Prelude.{ℕ, zero, suc, ◌+◌, ◌^◌, ◌%◌, ◌==◌, nat_lt, Bool, true, ◌&&◌, ◌||◌, ℤ, pos, negsuc, nat_abs, List, [], ◌∷◌, IsTrue}
+use Rattle.std.specs.Prelude.{ℕ, zero, suc, ◌+◌, ◌^◌, ◌%◌, ◌==◌, nat_lt, Bool, true, ◌&&◌, ◌||◌, ℤ, pos, negsuc, nat_abs, [], ◌∷◌, IsTrue}
 use Rattle.std.specs.Ordering.{is_lt}
 use Rattle.std.specs.declared.cmp.Ordering.{Ordering}
 use Rattle.sym_model.specs.Expansion.{Fraction, Terms}
-use Rattle.sym_model.specs.Kind.{LabelRules, label_rules, expansion}
+use Rattle.sym_model.specs.Kind.{LabelRules}
 pub use Rattle.sym_model.specs.LabelLimits.{is_partition, is_label}
 
 -- the greatest common divisor by Euclid's rule, in at most the given number of steps
@@ -45,14 +45,6 @@ is_canonical_by rules terms =
 -- the list is canonical by the rules of its labels
 abbrev pub IsCanonicalBy : {Label : Type 0} → LabelRules Label → Terms Label → Type 0
 IsCanonicalBy rules terms = IsTrue (is_canonical_by rules terms)
-
--- whether a list of terms with partitions as labels and fractions as coefficients is canonical
-abbrev pub is_canonical : Terms (List ℕ) → Bool
-is_canonical terms = is_canonical_by (label_rules expansion) terms
-
--- the list is canonical
-abbrev pub IsCanonical : Terms (List ℕ) → Type 0
-IsCanonical terms = IsTrue (is_canonical terms)
 
 -- whether a whole number is one of 128 bits with a sign
 abbrev pub fits_128_bits : ℤ → Bool

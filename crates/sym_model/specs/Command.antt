@@ -29,6 +29,14 @@ pub data Command : Type 0 where
   unrsk : List (List ℕ) → List (List ℕ) → Command
   -- rect outer inner rows
   rect : List ℕ → List ℕ → List (List ℕ) → Command
+  -- growth permutation: the growth grid
+  growth : List ℕ → Command
+  -- plethysm target outer inner: the outer expression, its variables replaced by the monomials of the inner one
+  plethysm : Basis → Tree → Tree → Command
+  -- dschubmult left right: the product of two double Schubert polynomials
+  dschubmult : List ℕ → List ℕ → Command
+  -- stanley variables permutation: the Stanley polynomial in s, in so many variables
+  stanley : ℕ → List ℕ → Command
   batch : Command
   -- work lines seed
   work : ℕ → ℕ → Command

@@ -1,14 +1,15 @@
 -- What the words of a command can offend by, list by list, at which word and byte, and which offence comes first
 -- (this project's own).
-use Rattle.std.specs.Prelude.{◌≡◌, ◌⊎◌, ◌<◌, ℕ, ◌+◌, ◌-◌, ◌==◌, nat_le, nat_lt, Bool, false, ◌&&◌, ◌||◌, cond, List, [], ◌∷◌, ◌++◌, map, length, drop, slice_get, Option, Some, None}
+use Rattle.std.specs.Prelude.{◌≡◌, ◌⊎◌, ◌<◌, ℕ, ◌+◌, ◌-◌, ◌*◌, ◌==◌, nat_le, nat_lt, Bool, false, ◌&&◌, ◌||◌, cond, List, [], ◌∷◌, ◌++◌, map, length, drop, slice_get, Option, Some, None}
 use Rattle.sym_model.specs.Sum.{each}
 use Rattle.sym_model.specs.Polynomial.{same}
 use Rattle.sym_model.specs.Partition.{part, size}
 use Rattle.sym_model.specs.Schur.{row_lengths}
 use Rattle.sym_model.specs.GoodTableau.{is_among, column_reading, lattice_readings}
 use Rattle.sym_model.specs.Expansion.{Basis}
-use Rattle.sym_model.specs.Phrase.{Phrase}
-use Rattle.sym_model.specs.ExpressionOffence.{OffenceKind, literal, range, shape, is_wide, rises, rank, offences}
+use Rattle.sym_model.specs.Expression.{degree}
+use Rattle.sym_model.specs.Phrase.{Phrase, spelling, tree}
+use Rattle.sym_model.specs.ExpressionOffence.{OffenceKind, literal, range, shape, is_wide, rises, rank, WordOffence, offences, offences_within, inner_offences, plethysm_degree_limit}
 
 -- an offence: its word, its byte there and its kind
 abbrev pub Offence : Type 0
@@ -84,6 +85,10 @@ most_factors = 8
 abbrev pub most_permuted : ℕ
 most_permuted = 16
 
+-- the most letters of a permutation whose double Schubert polynomial is a factor, and the greatest of them
+abbrev pub most_doubled : ℕ
+most_doubled = 8
+
 -- the greatest number of rows or columns, and the greatest level
 abbrev pub most_rows : ℕ
 most_rows = 64
@@ -129,13 +134,17 @@ part_rule before a =
     range
     ++ when (rises (left_of before) a) shape
 
--- a number of a permutation of so many letters: one past 16, the 17th; 0, one past the number of letters, one that stands
--- before it
-abbrev pub permutation_rule : ℕ → Rule
-permutation_rule count before a =
+-- a number of a permutation of so many letters, of which at most so many may be written: one past these, the one behind them; 0,
+-- one past the number of letters, one that stands before it
+abbrev pub permutation_rule_within : ℕ → ℕ → Rule
+permutation_rule_within most count before a =
     when (is_wide a) literal
-    ++ when (nat_lt most_permuted a || (length before == most_permuted)) range
+    ++ when (nat_lt most a || (length before == most)) range
     ++ when (is_outside count a || stands_in a before) shape
+
+-- a number of a permutation of so many letters: one past 16, the 17th, and as above
+abbrev pub permutation_rule : ℕ → Rule
+permutation_rule count = permutation_rule_within most_permuted count
 
 -- a letter of a word: 0, one past 65,535, the 257th
 abbrev pub letter_rule : Rule
@@ -163,9 +172,13 @@ factor_offences count k (numbers ∷ factors) =
     ++ part_offences k numbers
     ++ factor_offences (count + 1) (k + length numbers + 1) factors
 
+-- a permutation at the word, of which at most so many letters may be written
+abbrev pub permutation_offences_within : ℕ → ℕ → List ℕ → List Offence
+permutation_offences_within most k letters = offences_by (permutation_rule_within most (length letters)) k letters
+
 -- a permutation at the word
 abbrev pub permutation_offences : ℕ → List ℕ → List Offence
-permutation_offences k letters = offences_by (permutation_rule (length letters)) k letters
+permutation_offences k letters = permutation_offences_within most_permuted k letters
 
 -- a row of a tableau as it is written: the word at which it begins, and its entries
 abbrev pub PlacedRow : Type 0
@@ -252,6 +265,21 @@ is_lattice_tableau outer inner rows =
     same (map length rows) (row_lengths outer inner)
     && is_among (column_reading outer inner rows) (lattice_readings outer inner)
 
+-- the offences of a word, at their place in the command
+abbrev pub offences_in_word : ℕ → List WordOffence → List Offence
+offences_in_word k found = map (λ o. (k, o.0, o.1)) found
+
 -- an expression at the word, expanded into the target
 abbrev pub expression_offences : ℕ → Basis → Phrase → List Offence
-expression_offences k target phrase = map (λ o. (k, o.0, o.1)) (offences target phrase)
+expression_offences k target phrase = offences_in_word k (offences target phrase)
+
+-- the two expressions of a plethysm, the first at the word: those of each, and the length of the second, where the first has no
+-- offence and the product of the two degrees is past the limit
+abbrev pub plethysm_offences : ℕ → Phrase → Phrase → List Offence
+plethysm_offences k outer inner =
+    let first = offences_in_word k (offences_within plethysm_degree_limit outer) in
+    first
+    ++ offences_in_word (k + 1) (inner_offences inner)
+    ++ judged_against first
+    (cond (nat_lt plethysm_degree_limit (degree (tree outer) * degree (tree inner))) ((k + 1, length (spelling inner), range) ∷ [])
+    [])

@@ -4,7 +4,7 @@ use Rattle.sym_model.specs.Sum.{each}
 use Rattle.sym_model.specs.Expansion.{Basis, monomials, schurs}
 use Rattle.sym_model.specs.Expression.{degree}
 use Rattle.sym_model.specs.PrintedBlock.{decimal_value}
-use Rattle.sym_model.specs.Phrase.{Phrase, numeral, ratio, label, brackets, minus_first, operation, spelling, tree, SpellsPhrase}
+use Rattle.sym_model.specs.Phrase.{Operator, minus, Phrase, numeral, ratio, label, brackets, minus_first, operation, spelling, tree, SpellsPhrase}
 
 -- the kinds of offence in words that spell a command, in the order in which they come at one place (this project's own)
 pub data OffenceKind : Type 0 where
@@ -77,15 +77,49 @@ degree_limit monomials = 20
 degree_limit schurs = 20
 degree_limit _ = 15
 
+-- the greatest degree of each expression of a plethysm, and of the two together, which is the product of their degrees
+abbrev pub plethysm_degree_limit : ℕ
+plethysm_degree_limit = 10
+
 -- the offences of an expression as a whole: byte 4096 where it has more than 4096, its length where its degree is past the limit
-abbrev pub offences_of_whole : Basis → Phrase → List WordOffence
-offences_of_whole target phrase =
+abbrev pub offences_of_whole_within : ℕ → Phrase → List WordOffence
+offences_of_whole_within limit phrase =
     cond (nat_lt 4096 (length (spelling phrase))) ((4096, range) ∷ []) []
-    ++ cond (nat_lt (degree_limit target) (degree (tree phrase))) ((length (spelling phrase), range) ∷ []) []
+    ++ cond (nat_lt limit (degree (tree phrase))) ((length (spelling phrase), range) ∷ []) []
+
+-- all offences of an expression whose degree is to be within the limit
+abbrev pub offences_within : ℕ → Phrase → List WordOffence
+offences_within limit phrase = each offences_at (marks 0 0 phrase) ++ offences_of_whole_within limit phrase
+
+-- the offences of an expression as a whole that is expanded into the target
+abbrev pub offences_of_whole : Basis → Phrase → List WordOffence
+offences_of_whole target phrase = offences_of_whole_within (degree_limit target) phrase
 
 -- all offences of an expression that is expanded into the target
 abbrev pub offences : Basis → Phrase → List WordOffence
-offences target phrase = each offences_at (marks 0 0 phrase) ++ offences_of_whole target phrase
+offences target phrase = offences_within (degree_limit target) phrase
+
+-- a minus at the byte, where the operator is one
+abbrev pub minus_offences : ℕ → Operator → List WordOffence
+minus_offences byte minus = (byte, shape) ∷ []
+minus_offences byte operator = []
+
+-- what an expression that begins at the byte offends by, where no coefficient may be negative or a fraction: each minus, and
+-- each fraction at its first byte
+abbrev pub sign_offences : ℕ → Phrase → List WordOffence
+sign_offences byte (numeral digits) = []
+sign_offences byte (ratio num den) = (byte, shape) ∷ []
+sign_offences byte (label basis words) = []
+sign_offences byte (brackets inner) = sign_offences (byte + 1) inner
+sign_offences byte (minus_first inner) = (byte, shape) ∷ sign_offences (byte + 1) inner
+sign_offences byte (operation operator left right) =
+    sign_offences byte left
+    ++ minus_offences (byte + length (spelling left)) operator
+    ++ sign_offences (byte + length (spelling left) + 1) right
+
+-- all offences of the inner expression of a plethysm by itself
+abbrev pub inner_offences : Phrase → List WordOffence
+inner_offences phrase = offences_within plethysm_degree_limit phrase ++ sign_offences 0 phrase
 
 -- the kinds in their order at one place
 abbrev pub rank : OffenceKind → ℕ

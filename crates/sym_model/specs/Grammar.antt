@@ -11,8 +11,8 @@ use Rattle.sym_model.specs.Phrase.{tree}
 use Rattle.sym_model.specs.Permutation.{kept}
 use Rattle.sym_model.specs.ExpressionOffence.{shape}
 use Rattle.sym_model.specs.Form.{Form, word, many, number, target, formula, Written, words_of}
-use Rattle.sym_model.specs.Command.{Command, mult, skew, coef, coprod, tab, quantum, fusion, schubert, schubmult, expand, rsk, unrsk, rect, batch, work}
-use Rattle.sym_model.specs.CommandOffence.{Offence, judged_against, offences_by, rows_rule, lines_rule, seed_rule, letter_rule, entry_rule, inside_rule, part_offences, factor_offences, permutation_offences, PlacedRow, row_offences, count_offences, order_offences, length_offences, empty_row_offences, standard_offences, rows_in, is_lattice_tableau, expression_offences}
+use Rattle.sym_model.specs.Command.{Command, mult, skew, coef, coprod, tab, quantum, fusion, schubert, schubmult, expand, rsk, unrsk, rect, growth, plethysm, dschubmult, stanley, batch, work}
+use Rattle.sym_model.specs.CommandOffence.{Offence, judged_against, offences_by, rows_rule, lines_rule, seed_rule, letter_rule, entry_rule, inside_rule, part_offences, factor_offences, most_doubled, permutation_offences, permutation_offences_within, PlacedRow, row_offences, count_offences, order_offences, length_offences, empty_row_offences, standard_offences, rows_in, is_lattice_tableau, expression_offences, plethysm_offences}
 use Rattle.sym_model.specs.WordForms.{the, in_turn, optional, partition_words, permutation_words, rows_words, form_words, factors_words, tableau_words, from_words, numbers, partition, factors, factor_numbers, is_one_line, letters, row_limit, row_limit_offences, placed_rows, tableau_rows, shape_offences}
 use Rattle.sym_model.specs.Entry.{Entry}
 
@@ -330,6 +330,90 @@ rect_offends (name, (outer, (slash, (inner, (minus, tableau))))) =
 abbrev pub rect_entry : Entry
 rect_entry = record { name = codes "rect"; form = rect_words; says = rect_says; offends = rect_offends }
 
+-- 'growth' PERM
+abbrev pub growth_words : Form
+growth_words = in_turn (the (codes "growth") ∷ permutation_words ∷ [])
+
+-- what the words of `growth` say
+abbrev pub growth_says : Written growth_words → Command
+growth_says (name, w) = growth (kept (letters w))
+
+-- what the words of `growth` offend by
+abbrev pub growth_offends : Written growth_words → List Offence
+growth_offends (name, w) = permutation_offences 1 (letters w)
+
+-- the command `growth`
+abbrev pub growth_entry : Entry
+growth_entry = record { name = codes "growth"; form = growth_words; says = growth_says; offends = growth_offends }
+
+-- 'plethysm' BASIS EXPR EXPR, with these bases
+abbrev pub plethysm_words : List Basis → Form
+plethysm_words bases =
+    in_turn (the (codes "plethysm") ∷ word (target bases) ∷ word formula ∷ word formula ∷ [])
+
+-- what the words of `plethysm` say
+abbrev pub plethysm_says : (bases : List Basis) → Written (plethysm_words bases) → Command
+plethysm_says bases (name, (basis, (outer, inner))) = plethysm basis (tree outer) (tree inner)
+
+-- what the words of `plethysm` offend by
+abbrev pub plethysm_offends : (bases : List Basis) → Written (plethysm_words bases) → List Offence
+plethysm_offends bases (name, (basis, (outer, inner))) = plethysm_offences 2 outer inner
+
+-- the command `plethysm`
+abbrev pub plethysm_entry : List Basis → Entry
+plethysm_entry bases = record {
+  name = codes "plethysm";
+  form = plethysm_words bases;
+  says = plethysm_says bases;
+  offends = plethysm_offends bases;
+}
+
+-- 'dschubmult' PERM '-' PERM
+abbrev pub dschubmult_words : Form
+dschubmult_words =
+    in_turn (the (codes "dschubmult") ∷ permutation_words ∷ the (codes "-") ∷ permutation_words ∷ [])
+
+-- what the words of `dschubmult` say
+abbrev pub dschubmult_says : Written dschubmult_words → Command
+dschubmult_says (name, (left, (minus, right))) = dschubmult (kept (letters left)) (kept (letters right))
+
+-- what the words of `dschubmult` offend by
+abbrev pub dschubmult_offends : Written dschubmult_words → List Offence
+dschubmult_offends (name, (left, (minus, right))) =
+    permutation_offences_within most_doubled 1 (letters left)
+    ++ permutation_offences_within most_doubled (2 + length (letters left)) (letters right)
+
+-- the command `dschubmult`
+abbrev pub dschubmult_entry : Entry
+dschubmult_entry = record {
+  name = codes "dschubmult";
+  form = dschubmult_words;
+  says = dschubmult_says;
+  offends = dschubmult_offends;
+}
+
+-- 'stanley' ROWS PERM
+abbrev pub stanley_words : Form
+stanley_words = in_turn (the (codes "stanley") ∷ rows_words ∷ permutation_words ∷ [])
+
+-- what the words of `stanley` say
+abbrev pub stanley_says : Written stanley_words → Command
+stanley_says (name, (limit, w)) = stanley (decimal_value limit.1) (kept (letters w))
+
+-- what the words of `stanley` offend by
+abbrev pub stanley_offends : Written stanley_words → List Offence
+stanley_offends (name, (limit, w)) =
+    offences_by rows_rule 2 (decimal_value limit.1 ∷ []) ++ permutation_offences 3 (letters w)
+
+-- the command `stanley`
+abbrev pub stanley_entry : Entry
+stanley_entry = record {
+  name = codes "stanley";
+  form = stanley_words;
+  says = stanley_says;
+  offends = stanley_offends;
+}
+
 -- the command `batch`: 'batch'
 abbrev pub batch_entry : Entry
 batch_entry = record {
@@ -360,7 +444,8 @@ work_entry = record { name = codes "work"; form = work_words; says = work_says; 
 abbrev pub line_entries : List Basis → List Entry
 line_entries bases =
     mult_entry ∷ skew_entry ∷ coef_entry ∷ coprod_entry ∷ tab_entry ∷ quantum_entry ∷ fusion_entry ∷ schubert_entry
-    ∷ schubmult_entry ∷ expand_entry bases ∷ rsk_entry ∷ unrsk_entry ∷ rect_entry ∷ []
+    ∷ schubmult_entry ∷ expand_entry bases ∷ rsk_entry ∷ unrsk_entry ∷ rect_entry ∷ growth_entry ∷ plethysm_entry bases
+    ∷ dschubmult_entry ∷ stanley_entry ∷ []
 
 -- all commands
 abbrev pub entries_of : List Basis → List Entry

@@ -1,8 +1,9 @@
 -- Growth of shapes by local rules (Fomin; Stanley, Enumerative Combinatorics 2, 7.13). The grid of a permutation w has a shape
 -- at (i, j) for i and j from 0 to the number of its letters. Its square between (i, j) and (i + 1, j + 1) is marked where
 -- w takes place i + 1 to j + 1.
-use Rattle.std.specs.Prelude.{ℕ, zero, suc, ◌+◌, ◌==◌, max, nat_le, nat_lt, Bool, cond, List, [], ◌∷◌, ◌++◌}
+use Rattle.std.specs.Prelude.{ℕ, zero, suc, ◌+◌, ◌==◌, max, nat_le, nat_lt, Bool, cond, List, [], ◌∷◌, ◌++◌, map, length}
 use Rattle.sym_model.specs.Polynomial.{same}
+use Rattle.sym_model.specs.Partition.{after}
 use Rattle.sym_model.specs.Permutation.{letter}
 use Rattle.sym_model.specs.Sum.{select}
 
@@ -39,6 +40,14 @@ growth_shape w zero j = []
 growth_shape w (suc i) zero = []
 growth_shape w (suc i) (suc j) =
     at_corner (letter w (suc i) == suc j) (growth_shape w i j) (growth_shape w i (suc j)) (growth_shape w (suc i) j)
+
+-- the growth shapes of a permutation of n letters at (i, 0), .., (i, n)
+abbrev pub grid_line : List ℕ → ℕ → List (List ℕ)
+grid_line w i = map (growth_shape w i) (0 ∷ after 0 (length w))
+
+-- the growth grid of a permutation of n letters: its lines for i = 0, .., n
+abbrev pub grid_lines : List ℕ → List (List (List ℕ))
+grid_lines w = map (grid_line w) (0 ∷ after 0 (length w))
 
 -- the letters of a word that are at most j
 abbrev pub at_most : ℕ → List ℕ → List ℕ

@@ -3,8 +3,8 @@ use Rattle.std.specs.Prelude.{◌≡◌, ℕ, Bool, true, false, List, [], ◌�
 use Rattle.std.specs.declared.cmp.Ordering.{Ordering}
 use Rattle.std.specs.declared.cmp.Ordering.TheVariants.{Equal}
 use Rattle.sym_model.specs.NumberText.{label_text, Lacks, cut_at, decimal_value, label_of}
-use Rattle.sym_model.specs.LabelLimits.{is_label, is_pair_label, is_power_label, is_permutation_label, is_monomial_label}
-use Rattle.sym_model.specs.PrintedOrder.{printed_order, pair_order, power_order, permutation_order}
+use Rattle.sym_model.specs.LabelLimits.{is_label, is_pair_label, is_power_label, is_permutation_label, is_monomial_label, is_shifted_label}
+use Rattle.sym_model.specs.PrintedOrder.{printed_order, pair_order, power_order, permutation_order, shifted_order}
 
 -- What a block has to know of its labels: the text that follows the coefficient on a line, the label that such a text
 -- spells, the order of the lines, the limits of the labels, and whether a coefficient may be a fraction.
@@ -16,7 +16,7 @@ pub record LabelRules (Label : Type 0) : Type 0 where
   pub has_fractions : Bool
 
 -- the kinds of answers: one number; partitions with fractions and with whole coefficients; pairs of partitions; partitions
--- with a power of q; permutations; monomials
+-- with a power of q; permutations; monomials; permutations with a monomial beside them
 pub data Kind : Type 0 where
   number : Kind
   expansion : Kind
@@ -25,6 +25,7 @@ pub data Kind : Type 0 where
   powers : Kind
   permutations : Kind
   polynomial : Kind
+  shifts : Kind
 
 -- the labels of a kind. A number stands on a line of its own, so that it is a term with nothing as its label.
 abbrev pub Label : Kind → Type 0
@@ -35,6 +36,7 @@ Label pairs = List ℕ × List ℕ
 Label powers = ℕ × List ℕ
 Label permutations = List ℕ
 Label polynomial = List ℕ
+Label shifts = List ℕ × List ℕ
 
 -- the text without its first two bytes
 abbrev pub after_two : List ℕ → List ℕ
@@ -54,7 +56,7 @@ list_text numbers = codes "  " ++ label_text numbers
 abbrev pub list_of : List ℕ → List ℕ
 list_of text = label_of (after_two text)
 
--- two spaces, the first partition, a space and the second, as in `1  (2) (1)`
+-- two spaces, the first list, a space and the second, as in `1  (2) (1)`
 abbrev pub pair_text : List ℕ × List ℕ → List ℕ
 pair_text pair = codes "  " ++ (label_text pair.0 ++ (codes " " ++ label_text pair.1))
 
@@ -111,6 +113,13 @@ label_rules powers = record {
 }
 label_rules permutations = list_rules permutation_order is_permutation_label false
 label_rules polynomial = list_rules printed_order is_monomial_label false
+label_rules shifts = record {
+  text = pair_text;
+  spelled = pair_of;
+  order = shifted_order;
+  is_within_limits = is_shifted_label;
+  has_fractions = false;
+}
 
 -- the text is empty or begins with a space (the byte 32)
 abbrev pub BeginsWithSpace : List ℕ → Type 0

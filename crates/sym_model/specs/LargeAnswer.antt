@@ -8,11 +8,14 @@ use Rattle.sym_model.specs.PlaceOrders.{inversions}
 use Rattle.sym_model.specs.Schur.{skew_schur}
 use Rattle.sym_model.specs.Alternant.{schur_coefficient}
 use Rattle.sym_model.specs.Schubert as polynomials
+use Rattle.sym_model.specs.Expression.{degree, denominator}
 use Rattle.sym_model.specs.Weight as expressions
+use Rattle.sym_model.specs.Plethysm.{plethysm_weight}
+use Rattle.sym_model.specs.Stanley.{stanley_in}
 use Rattle.sym_model.specs.Target.{schur_product}
 use Rattle.sym_model.specs.ReductionSteps.{IsQuantumWeight, IsFusionWeight}
 pub use Rattle.sym_model.specs.ReductionSteps.{classical_weight}
-use Rattle.sym_model.specs.Command.{Command, mult, skew, coef, coprod, quantum, fusion, schubert, schubmult, expand}
+use Rattle.sym_model.specs.Command.{Command, mult, skew, coef, coprod, quantum, fusion, schubert, schubmult, expand, plethysm, dschubmult, stanley}
 
 -- c is the Schur coefficient of the polynomial f in n variables at some partition with at most n rows
 pub record IsSchurCoefficientOf (f : Poly) (n : ℕ) (c : ℤ) : Type 0 where
@@ -45,16 +48,13 @@ IsDefinedCoefficient (coef outer left right) c =
     c ≡ schur_coefficient (rows outer) outer (schur_product (left ∷ right ∷ []) (rows outer))
 IsDefinedCoefficient (coprod shape) c = IsCoproductCoefficient shape c
 IsDefinedCoefficient (schubert w) c = (exponents : List ℕ) × (c ≡ coefficient (polynomials.schubert w) exponents)
+IsDefinedCoefficient (stanley variables w) c = IsSchurCoefficientOf (stanley_in w variables) variables c
 IsDefinedCoefficient _ c = ⊥
 
 -- whether a whole number is past 2^127 - 1
 abbrev pub is_past : ℤ → Bool
 is_past (pos n) = nat_le (2 ^ 127) n
 is_past (negsuc n) = false
-
--- some Schur coefficient of the polynomial f in n variables is past 2^127 - 1
-abbrev pub HasPastSchurCoefficient : Poly → ℕ → Type 0
-HasPastSchurCoefficient f n = (c : ℤ) × IsSchurCoefficientOf f n c × IsTrue (is_past c)
 
 -- some defined coefficient of the command is past 2^127 - 1
 abbrev pub HasPastCoefficient : Command → Type 0
@@ -91,6 +91,15 @@ HasWeight (quantum k columns factors) weight = IsQuantumWeight k (k + columns) f
 HasWeight (fusion k level factors) weight = IsFusionWeight k (k + level) factors weight
 HasWeight (schubmult u v) weight = weight ≡ pair_weight u v
 HasWeight (expand target one_line e) weight = weight ≡ expressions.weight target e
+HasWeight (plethysm target outer inner) weight =
+    weight
+    ≡ plethysm_weight
+    (expressions.numerator outer)
+    (denominator outer)
+    (degree outer)
+    (expressions.numerator inner)
+    (degree inner)
+HasWeight (dschubmult u v) weight = weight ≡ double_weight u v
 HasWeight _ weight = ⊥
 
 -- a weight of the command is 2^127 or more

@@ -6,10 +6,10 @@ use Rattle.sym_model.specs.TableauList.{later_than}
 use Rattle.sym_model.specs.Tableau.{SkewFilling}
 use Rattle.sym_model.specs.Insertion.{insertion_pair}
 use Rattle.sym_model.specs.Slide.{IsReached}
-use Rattle.sym_model.specs.TableauText.{tableau_line, pair_text, word_line, readings_text}
+use Rattle.sym_model.specs.TableauText.{tableau_line, pair_text, word_line, readings_text, grid_text}
 use Rattle.sym_model.specs.ExpressionOffence.{OffenceKind, literal, range as beyond, shape}
 use Rattle.sym_model.specs.CommandOffence.{Offence}
-use Rattle.sym_model.specs.Command.{Command, tab, rsk, unrsk, rect, batch, work}
+use Rattle.sym_model.specs.Command.{Command, tab, rsk, unrsk, rect, growth, batch, work}
 use Rattle.sym_model.specs.Entry.{Entry, SpellsWithoutOffence, HasFirstOffence}
 use Rattle.sym_model.specs.SyntaxPlace.{IsSyntaxPlace}
 use Rattle.sym_model.specs.Answer.{Answer, IsPrintable}
@@ -94,6 +94,7 @@ Answers (rsk w) text ending =
 Answers (unrsk p q) text ending = PrintsWord p q text × (ending ≡ done)
 Answers (rect outer inner rows) text ending =
     PrintsRectified (record { outer = outer; inner = inner; rows = rows }) text × (ending ≡ done)
+Answers (growth w) text ending = (text ≡ grid_text w) × (ending ≡ done)
 Answers batch text ending = ⊥
 Answers (work lines seed) text ending = ⊥
 Answers command text ending = Expands command text ending

@@ -52,12 +52,6 @@ pub record IsDescent (w : List ℕ) (i : ℕ) : Type 0 where
   pub within : i < length w
   pub falls : letter w (i + 1) < letter w i
 
--- i is an ascent of w: the letter at place i is smaller than the next
-pub record IsAscent (w : List ℕ) (i : ℕ) : Type 0 where
-  pub counts : 1 ≤ i
-  pub within : i < length w
-  pub rises : letter w i < letter w (i + 1)
-
 -- the first ascent, if there is one
 abbrev pub first_ascent : List ℕ → Option ℕ
 first_ascent [] = None

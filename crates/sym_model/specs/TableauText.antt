@@ -1,7 +1,9 @@
--- The printed forms of words, tableaux and lists of tableaux (this project's own).
+-- The printed forms of words, tableaux, lists of tableaux and growth grids (this project's own).
 use Rattle.std.specs.Prelude.{ℕ, List, [], ◌∷◌, ◌++◌, map, codes, decimal}
 use Rattle.sym_model.specs.Sum.{each}
 use Rattle.sym_model.specs.TableauList.{filling_of}
+use Rattle.sym_model.specs.Growth.{grid_lines}
+use Rattle.sym_model.specs.NumberText.{label_text}
 
 -- pieces of text with a separator between them
 abbrev pub separated : List ℕ → List (List ℕ) → List ℕ
@@ -39,3 +41,11 @@ word_line w = spaced w ++ codes "\n"
 abbrev pub readings_text : List ℕ → List ℕ → List (List ℕ) → List ℕ
 readings_text outer inner [] = codes "0\n"
 readings_text outer inner (w ∷ readings) = each (λ v. tableau_line (filling_of outer inner v)) (w ∷ readings)
+
+-- a line of a growth grid: the labels of its shapes with one space between them
+abbrev pub shapes_line : List (List ℕ) → List ℕ
+shapes_line shapes = separated (codes " ") (map label_text shapes) ++ codes "\n"
+
+-- the growth grid of a permutation, a line after another
+abbrev pub grid_text : List ℕ → List ℕ
+grid_text w = each shapes_line (grid_lines w)

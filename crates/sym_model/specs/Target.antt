@@ -8,14 +8,17 @@ use Rattle.sym_model.specs.Schur.{schur, skew_schur}
 use Rattle.sym_model.specs.Alternant.{schur_coefficient}
 use Rattle.sym_model.specs.DividedDifference.{x_to_in}
 use Rattle.sym_model.specs.Schubert.{schubert_in}
+use Rattle.sym_model.specs.DoubleSchubert.{double_schubert_in, shifted_in}
+use Rattle.sym_model.specs.Stanley.{stanley_in}
+use Rattle.sym_model.specs.Plethysm.{plethysm as plethysm_of}
 use Rattle.sym_model.specs.Expansion.{schurs, Fraction, Terms, Represents, IsExpansionOf, pair_polynomial}
 use Rattle.sym_model.specs.WholeTerms.{WholeTerms, WholeTermsOf, numerators, coefficient_by, same_power}
-use Rattle.sym_model.specs.Expression.{cleared_value, denominator}
+use Rattle.sym_model.specs.Expression.{cleared_value, degree, denominator}
 use Rattle.sym_model.specs.RimHookReduction.{ReducesTo}
 use Rattle.sym_model.specs.AlcoveReduction.{alcove_reduction}
-use Rattle.sym_model.specs.Kind.{number, expansion, product, pairs, powers, permutations, polynomial}
+use Rattle.sym_model.specs.Kind.{number, expansion, product, pairs, powers, permutations, polynomial, shifts}
 use Rattle.sym_model.specs.Answer.{Answer, answer, number_in}
-use Rattle.sym_model.specs.Command.{Command, mult, skew, coef, coprod, quantum, fusion, schubert, schubmult, expand}
+use Rattle.sym_model.specs.Command.{Command, mult, skew, coef, coprod, quantum, fusion, schubert, schubmult, expand, plethysm, dschubmult, stanley}
 
 -- the product of the Schur polynomials of the factors in n variables; 1 where there is no factor
 abbrev pub schur_product : List (List ℕ) → ℕ → Poly
@@ -95,4 +98,15 @@ Meets (schubmult u v) (answer permutations terms) =
     (n : ℕ) → Represents (λ w. schubert_in w n) terms (times (schubert_in u n) (schubert_in v n)) 1
 Meets (expand target one_line e) (answer expansion terms) =
     (n : ℕ) → IsExpansionOf target terms n (cleared_value e n) (denominator e)
+Meets (plethysm target outer inner) (answer expansion terms) =
+    (n : ℕ)
+    → IsExpansionOf
+    target
+    terms
+    n
+    (plethysm_of (cleared_value outer) (degree inner) n (cleared_value inner n))
+    (denominator outer)
+Meets (dschubmult u v) (answer shifts terms) =
+    (n : ℕ) → Represents (λ label. shifted_in label n) terms (times (double_schubert_in u n) (double_schubert_in v n)) 1
+Meets (stanley variables w) (answer product terms) = ExpandsInSchurs (Some variables) (stanley_in w) terms
 Meets _ _ = ⊥

@@ -6,6 +6,7 @@ ghost use Rattle.sym_model.specs.Polynomial.{Poly, Same, In, nothing, one, plus,
 /// Polynomials form a commutative ring with 1: sum and product are associative and commutative,
 /// have their units, and distribute; each polynomial has a negative. Sum, product and multiples
 /// depend on the coefficients alone, and restricting to n variables respects sums, products and 1.
+/// Of polynomials in n variables, 1, sums, products and negatives are in n variables.
 pub fn poly_ring_law()
     ensures plus_associative { (f g h : Poly) → Same (plus (plus f g) h) (plus f (plus g h)) }
     ensures plus_commutative { (f g : Poly) → Same (plus f g) (plus g f) }
@@ -23,4 +24,8 @@ pub fn poly_ring_law()
     ensures restrict_plus { (n : ℕ) (f g : Poly) → Same (restrict n (plus f g)) (plus (restrict n f) (restrict n g)) }
     ensures restrict_times { (n : ℕ) (f g : Poly) → Same (restrict n (times f g)) (times (restrict n f) (restrict n g)) }
     ensures restrict_one { (n k : ℕ) → Same (restrict n (one k)) (one n) }
+    ensures one_in { (n : ℕ) → In n (one n) }
+    ensures plus_in { (n : ℕ) (f g : Poly) → In n f → In n g → In n (plus f g) }
+    ensures times_in { (n : ℕ) (f g : Poly) → In n f → In n g → In n (times f g) }
+    ensures negate_in { (n : ℕ) (f : Poly) → In n f → In n (negate f) }
 {}

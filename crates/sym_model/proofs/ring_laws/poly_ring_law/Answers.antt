@@ -1,4 +1,4 @@
-use Rattle.sym_model.proofs.Polynomials.{plus_respects, times_respects, scale_respects, restrict_respects}
+use Rattle.sym_model.proofs.Polynomials.{plus_respects, times_respects, scale_respects, restrict_respects, In_one, In_plus, In_times, In_negate}
 use Rattle.sym_model.proofs.PolynomialLaws.{plus_comm, plus-negate, times_comm, times_assoc, one-times, times-plus, scale-times, restrict-times, restrict-one}
 use Rattle.sym_model.proofs.ring_laws.poly_ring_law.Goals as goal
 
@@ -40,3 +40,15 @@ returns-clause-restrict_times c = restrict-times
 
 pub returns-clause-restrict_one : goal.returns-clause-restrict_one
 returns-clause-restrict_one c = restrict-one
+
+pub returns-clause-one_in : goal.returns-clause-one_in
+returns-clause-one_in c = In_one
+
+pub returns-clause-plus_in : goal.returns-clause-plus_in
+returns-clause-plus_in c = In_plus
+
+pub returns-clause-times_in : goal.returns-clause-times_in
+returns-clause-times_in c = In_times
+
+pub returns-clause-negate_in : goal.returns-clause-negate_in
+returns-clause-negate_in c = In_negate
