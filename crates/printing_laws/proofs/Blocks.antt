@@ -6,7 +6,7 @@ use Rattle.sym_model.specs.Expansion.{Fraction, Terms}
 use Rattle.sym_model.specs.Canonical.{gcd, is_reduced, is_coefficient, each_term, fits_128_bits, is_canonical_by, is_printable}
 use Rattle.sym_model.specs.NumberText.{Lacks, fraction_text, cut_at}
 use Rattle.sym_model.specs.Kind.{LabelRules, IsLegible}
-use Rattle.sym_model.specs.PrintedBlock.{line_by, lines_by, block_by, term_of_parts, term_of_line, terms_of_lines, terms_of, accepted, read_by, block}
+use Rattle.sym_model.specs.PrintedBlock.{line_by, lines_by, block_by, term_of_parts, term_of_line, terms_of_lines, terms_of, accepted, read_by}
 use Rattle.printing_laws.proofs.Decimals.{lacks-append, IsShort}
 use Rattle.printing_laws.proofs.NumberTexts.{split_at-piece, cut_at-space, IsShortFraction, fraction_of-text, fraction_text-lacks}
 use Rattle.sym_model.proofs.Exponents.{same_refl, same_true}

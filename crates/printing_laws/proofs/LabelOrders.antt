@@ -11,7 +11,7 @@ use Rattle.sym_model.specs.PlaceOrders.{inversions}
 use Rattle.sym_model.specs.Permutation.{kept, without_fixed_from, in_front_unless_fixed}
 use Rattle.sym_model.specs.PrintedOrder.{falling_lexicographic, printed_order, pair_order, power_order, rising_letters, permutation_order, shifted_order}
 use Rattle.sym_model.specs.LabelLimits.{is_label, is_pair_label, is_power_label, is_permutation_label, is_monomial_label, is_shifted_label}
-use Rattle.sym_model.specs.Kind.{Kind, number, expansion, product, pairs, powers, permutations, polynomial, Label, label_rules}
+use Rattle.sym_model.specs.Kind.{Kind, number, expansion, product, pairs, powers, permutations, polynomial, shifts, Label, label_rules}
 use Rattle.sym_model.proofs.Orders.{printed_order-total, printed_order-equal, nat_cmp-equal, is_partition-tells, then-equal}
 use Rattle.sym_model.proofs.Exponents.{same_true}
 
@@ -59,18 +59,21 @@ rising_letters-total i = record { antisymm = antisymm; trans = trans; congr = co
 one_label-total : IsTotalOrder (label_rules number).order
 one_label-total = record { antisymm = λ x y. refl; trans = λ x y z h k. h; congr = λ x y z h. refl }
 
+permutation_order-total : IsTotalOrder permutation_order
+permutation_order-total = then_total (on_total inversions nat_cmp_total) (rising_letters-total 0)
+
 pub label_order-total : (kind : Kind) → IsTotalOrder (label_rules kind).order
 label_order-total number = one_label-total
 label_order-total expansion = printed_order-total
 label_order-total product = printed_order-total
 label_order-total pairs = then_total (on_total (λ (p : List ℕ × List ℕ). p.0) printed_order-total) (on_total (λ (p : List ℕ × List ℕ). p.1) printed_order-total)
 label_order-total powers = then_total (on_total (λ (p : ℕ × List ℕ). p.0) nat_cmp_total) (on_total (λ (p : ℕ × List ℕ). p.1) printed_order-total)
-label_order-total permutations = then_total (on_total inversions nat_cmp_total) (rising_letters-total 0)
+label_order-total permutations = permutation_order-total
 label_order-total polynomial = printed_order-total
+label_order-total shifts = then_total (on_total (λ (p : List ℕ × List ℕ). p.0) permutation_order-total) (on_total (λ (p : List ℕ × List ℕ). p.1) printed_order-total)
 
 pub shifted_order-total : IsTotalOrder shifted_order
-shifted_order-total =
-    then_total (on_total (λ (p : List ℕ × List ℕ). p.0) (label_order-total permutations)) (on_total (λ (p : List ℕ × List ℕ). p.1) printed_order-total)
+shifted_order-total = label_order-total shifts
 
 -- ---- labels that tie are the same
 
@@ -157,3 +160,4 @@ label_order-ties pairs x y h k e = pairs-tie x y h k e
 label_order-ties powers x y h k e = powers-tie x y h k e
 label_order-ties permutations x y h k e = permutations-tie x y h k e
 label_order-ties polynomial x y h k e = monomials-tie x y h k e
+label_order-ties shifts x y h k e = shifted-tie x y h k e

@@ -1,11 +1,11 @@
 -- The labels of each kind of answer can be read.
-use Rattle.std.proofs.Common.{◌≡◌, ℕ, ◌^◌, ◌<◌, ◌≤◌, Bool, true, ◌&&◌, List, [], ◌∷◌, length, leb, ltb, refl, ap, ◌∙◌, decimal, arith}
+use Rattle.std.proofs.Common.{◌≡◌, ℕ, ◌^◌, ◌<◌, ◌≤◌, Bool, true, false, ◌&&◌, List, [], ◌∷◌, length, leb, ltb, refl, ap, ◌∙◌, decimal, arith}
 use Rattle.std.specs.declared.cmp.Ordering.{Ordering}
 use Rattle.std.proofs.lemmas.Bool.{leb-true, ltb-true, and_parts}
 use Rattle.sym_model.specs.Partition.{size, rows}
 use Rattle.sym_model.specs.NumberText.{Lacks, label_text, decimal_value, label_of}
-use Rattle.sym_model.specs.LabelLimits.{is_partition, is_label, is_pair_label, is_power_label, are_letters, is_permutation_label, is_monomial_label}
-use Rattle.sym_model.specs.Kind.{Kind, number, expansion, product, pairs, powers, permutations, polynomial, after_one, list_text, list_of, pair_text, pair_of, power_text, power_of, list_rules, label_rules, IsLegible}
+use Rattle.sym_model.specs.LabelLimits.{is_partition, is_label, is_pair_label, is_power_label, are_letters, is_permutation_label, is_monomial_label, is_shifted_label}
+use Rattle.sym_model.specs.Kind.{Kind, number, expansion, product, pairs, powers, permutations, polynomial, shifts, LabelRules, after_one, list_text, list_of, pair_text, pair_of, power_text, power_of, list_rules, label_rules, IsLegible}
 use Rattle.printing_laws.proofs.Decimals.{lacks-append, decimal-lacks, decimal_value-decimal}
 use Rattle.printing_laws.proofs.NumberTexts.{cut_at-space, AreShort, are_short-from_size, label_of-text, label_text-lacks}
 
@@ -48,25 +48,41 @@ is_permutation-short w h =
 
 -- ---- pairs
 
-pairs-legible : IsLegible (label_rules pairs)
-pairs-legible = record { one_line = one_line; apart = λ pair h. refl; reads = reads }
+-- the rules of pairs of lists in an order and within limits
+abbrev pair_rules : (List ℕ × List ℕ → List ℕ × List ℕ → Ordering) → (List ℕ × List ℕ → Bool) → LabelRules (List ℕ × List ℕ)
+pair_rules in_order in_limits = record {
+  text = pair_text;
+  spelled = pair_of;
+  order = in_order;
+  is_within_limits = in_limits;
+  has_fractions = false;
+}
+
+-- pairs of lists of numbers below 10^64 can be read
+pair_rules-legible : (order : List ℕ × List ℕ → List ℕ × List ℕ → Ordering) (limits : List ℕ × List ℕ → Bool)
+    → ((pair : List ℕ × List ℕ) → limits pair ≡ true → AreShort pair.0 × AreShort pair.1) → IsLegible (pair_rules order limits)
+pair_rules-legible order limits short = record { one_line = one_line; apart = λ pair h. refl; reads = reads }
   where
-    one_line : (pair : List ℕ × List ℕ) → is_pair_label pair ≡ true → Lacks 10 (pair_text pair)
+    one_line : (pair : List ℕ × List ℕ) → limits pair ≡ true → Lacks 10 (pair_text pair)
     one_line pair h =
-        let p = and_parts _ _ h in
-        let first = label_text-lacks 10 pair.0 (omega arith) (is_label-short pair.0 p.0) in
-        let second = label_text-lacks 10 pair.1 (omega arith) (is_label-short pair.1 p.1) in
+        let p = short pair h in
+        let first = label_text-lacks 10 pair.0 (omega arith) p.0 in
+        let second = label_text-lacks 10 pair.1 (omega arith) p.1 in
         ((λ e. omega arith), ((λ e. omega arith), lacks-append 10 (label_text pair.0) _ first ((λ e. omega arith), second)))
 
-    reads : (pair : List ℕ × List ℕ) → is_pair_label pair ≡ true → pair_of (pair_text pair) ≡ pair
+    reads : (pair : List ℕ × List ℕ) → limits pair ≡ true → pair_of (pair_text pair) ≡ pair
     reads pair h =
-        let p = and_parts _ _ h in
-        let first = is_label-short pair.0 p.0 in
-        let second = is_label-short pair.1 p.1 in
+        let p = short pair h in
         ap (λ (cut : List ℕ × List ℕ). (label_of cut.0, label_of (after_one cut.1)))
-        (cut_at-space (label_text pair.0) (32 ∷ label_text pair.1) (label_text-lacks 32 pair.0 (omega arith) first) refl)
-        ∙ (ap (λ label. (label, label_of (label_text pair.1))) (label_of-text pair.0 first)
-        ∙ ap (λ label. (pair.0, label)) (label_of-text pair.1 second))
+        (cut_at-space (label_text pair.0) (32 ∷ label_text pair.1) (label_text-lacks 32 pair.0 (omega arith) p.0) refl)
+        ∙ (ap (λ label. (label, label_of (label_text pair.1))) (label_of-text pair.0 p.0)
+        ∙ ap (λ label. (pair.0, label)) (label_of-text pair.1 p.1))
+
+is_pair-short : (pair : List ℕ × List ℕ) → is_pair_label pair ≡ true → AreShort pair.0 × AreShort pair.1
+is_pair-short pair h = let p = and_parts _ _ h in (is_label-short pair.0 p.0, is_label-short pair.1 p.1)
+
+is_shifted-short : (label : List ℕ × List ℕ) → is_shifted_label label ≡ true → AreShort label.0 × AreShort label.1
+is_shifted-short label h = let p = and_parts _ _ h in (is_permutation-short label.0 p.0, is_monomial-short label.1 p.1)
 
 -- ---- powers
 
@@ -98,7 +114,8 @@ pub legible : (kind : Kind) → IsLegible (label_rules kind)
 legible number = record { one_line = λ label h. tt; apart = λ label h. tt; reads = λ label h. refl }
 legible expansion = list_rules-legible _ _ _ is_label-short
 legible product = list_rules-legible _ _ _ is_label-short
-legible pairs = pairs-legible
+legible pairs = pair_rules-legible _ _ is_pair-short
 legible powers = powers-legible
 legible permutations = list_rules-legible _ _ _ is_permutation-short
 legible polynomial = list_rules-legible _ _ _ is_monomial-short
+legible shifts = pair_rules-legible _ _ is_shifted-short

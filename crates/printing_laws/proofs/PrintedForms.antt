@@ -1,7 +1,7 @@
 -- What is printed in a form is read back in that form.
 use Rattle.std.proofs.Common.{◌≡◌, ℕ, List, Some, true}
 use Rattle.sym_model.specs.Expansion.{Terms}
-use Rattle.sym_model.specs.Kind.{Kind, Label, number, expansion, product, pairs, powers, permutations, polynomial, label_rules}
+use Rattle.sym_model.specs.Kind.{Kind, Label, number, expansion, product, pairs, powers, permutations, polynomial, shifts, label_rules}
 use Rattle.sym_model.specs.Canonical.{is_canonical_by, is_printable}
 use Rattle.sym_model.specs.PrintedForm.{PrintedForm, as_block, as_line, text_in, read_in}
 use Rattle.printing_laws.proofs.Blocks.{read_by-block, read_by-tells}
@@ -19,6 +19,7 @@ read_in-text (as_line basis) pairs terms h k = read_by-block (label_rules pairs)
 read_in-text (as_line basis) powers terms h k = read_by-block (label_rules powers) (legible powers) terms h k
 read_in-text (as_line basis) permutations terms h k = read_by-block (label_rules permutations) (legible permutations) terms h k
 read_in-text (as_line basis) polynomial terms h k = read_by-block (label_rules polynomial) (legible polynomial) terms h k
+read_in-text (as_line basis) shifts terms h k = read_by-block (label_rules shifts) (legible shifts) terms h k
 
 -- the text is that of the terms, which are canonical and printable
 pub record ReadsIn (form : PrintedForm) (kind : Kind) (text : List ℕ) (terms : Terms (Label kind)) : Type 0 where
@@ -45,3 +46,4 @@ read_in-tells (as_line basis) pairs text terms h = let r = block_tells pairs tex
 read_in-tells (as_line basis) powers text terms h = let r = block_tells powers text terms h in record { canonical = r.canonical; printable = r.printable; text_is = r.text_is }
 read_in-tells (as_line basis) permutations text terms h = let r = block_tells permutations text terms h in record { canonical = r.canonical; printable = r.printable; text_is = r.text_is }
 read_in-tells (as_line basis) polynomial text terms h = let r = block_tells polynomial text terms h in record { canonical = r.canonical; printable = r.printable; text_is = r.text_is }
+read_in-tells (as_line basis) shifts text terms h = let r = block_tells shifts text terms h in record { canonical = r.canonical; printable = r.printable; text_is = r.text_is }

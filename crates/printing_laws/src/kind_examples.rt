@@ -5,7 +5,7 @@ ghost use Rattle.std.specs.declared.cmp.Ordering.TheVariants.{Less, Equal, Great
 ghost use Rattle.sym_model.specs.Partition.{after};
 ghost use Rattle.sym_model.specs.PrintedOrder.{pair_order, power_order, permutation_order, printed_order};
 ghost use Rattle.sym_model.specs.LabelLimits.{is_power_label, is_permutation_label, is_monomial_label};
-ghost use Rattle.sym_model.specs.Kind.{label_rules, number, expansion, product, pairs, powers, permutations, polynomial};
+ghost use Rattle.sym_model.specs.Kind.{label_rules, number, expansion, product, pairs, powers, permutations, polynomial, shifts};
 ghost use Rattle.sym_model.specs.PrintedBlock.{block_by, read_by};
 
 /// Blocks of each kind, and texts that are none.
@@ -44,6 +44,13 @@ pub fn kind_examples_law()
         ≡ Some ((2 ∷ [], (pos 1, 1)) ∷ (1 ∷ 1 ∷ [], (pos 1, 1)) ∷ (1 ∷ 0 ∷ 1 ∷ [], (pos 1, 1)) ∷ []) }
     ensures constant { read_by (label_rules polynomial) (codes "5  ()\n") ≡ Some (([], (pos 5, 1)) ∷ []) }
     ensures zero_at_the_end { read_by (label_rules polynomial) (codes "1  (1,0)\n") ≡ None }
+    // the product of the double Schubert polynomials of (2,1) and (2,1)
+    ensures shifts { block_by (label_rules shifts)
+        (((2 ∷ 1 ∷ [], 1 ∷ []), (negsuc 0, 1)) ∷ ((2 ∷ 1 ∷ [], 0 ∷ 1 ∷ []), (pos 1, 1)) ∷ ((3 ∷ 1 ∷ 2 ∷ [], []), (pos 1, 1)) ∷ [])
+        ≡ codes "-1  (2,1) (1)\n1  (2,1) (0,1)\n1  (3,1,2) ()\n" }
+    ensures reads_shifts { read_by (label_rules shifts) (codes "-1  (2,1) (1)\n1  (3,1,2) ()\n")
+        ≡ Some (((2 ∷ 1 ∷ [], 1 ∷ []), (negsuc 0, 1)) ∷ ((3 ∷ 1 ∷ 2 ∷ [], []), (pos 1, 1)) ∷ []) }
+    ensures shifts_fall { read_by (label_rules shifts) (codes "1  (2,1) (0,1)\n-1  (2,1) (1)\n") ≡ None }
     ensures whole { read_by (label_rules product) (codes "1  (2)\n") ≡ Some ((2 ∷ [], (pos 1, 1)) ∷ []) }
     ensures fraction_in_product { read_by (label_rules product) (codes "1/2  (2)\n") ≡ None }
     ensures fraction_in_expansion { read_by (label_rules expansion) (codes "1/2  (2)\n") ≡ Some ((2 ∷ [], (pos 1, 2)) ∷ []) }

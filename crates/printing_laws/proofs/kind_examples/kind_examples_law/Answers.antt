@@ -78,6 +78,18 @@ pub returns-clause-zero_at_the_end : goal.returns-clause-zero_at_the_end
 unfolding digits
 returns-clause-zero_at_the_end c = refl
 
+pub returns-clause-shifts : goal.returns-clause-shifts
+unfolding digits
+returns-clause-shifts c = refl
+
+pub returns-clause-reads_shifts : goal.returns-clause-reads_shifts
+unfolding digits
+returns-clause-reads_shifts c = refl
+
+pub returns-clause-shifts_fall : goal.returns-clause-shifts_fall
+unfolding digits
+returns-clause-shifts_fall c = refl
+
 pub returns-clause-whole : goal.returns-clause-whole
 unfolding digits
 returns-clause-whole c = refl
