@@ -11,7 +11,7 @@ use Rattle.sym_model.specs.WordForms.{optional, form_words}
 use Rattle.sym_model.specs.Command.{Command, expand}
 use Rattle.sym_model.specs.CommandOffence.{Offence, expression_offences}
 use Rattle.sym_model.specs.Entry.{Entry, SpellsFreely, SpellsWithoutOffence}
-use Rattle.sym_model.specs.Grammar.{entries_of, mult_entry, skew_entry, coef_entry, coprod_entry, tab_entry, quantum_entry, fusion_entry, schubert_entry, schubmult_entry, expand_entry, rsk_entry, unrsk_entry, rect_entry, batch_entry, work_entry}
+use Rattle.sym_model.specs.Grammar.{entries_of, mult_entry, skew_entry, coef_entry, coprod_entry, tab_entry, quantum_entry, fusion_entry, schubert_entry, schubmult_entry, expand_entry, rsk_entry, unrsk_entry, rect_entry, growth_entry, plethysm_entry, dschubmult_entry, stanley_entry, batch_entry, work_entry}
 use Rattle.word_laws.specs.Reading.{forms_of}
 use Rattle.word_laws.proofs.LongestPrefixes.{CanBe, some_words}
 use Rattle.word_laws.proofs.FirstOffences.{first_none}
@@ -25,7 +25,7 @@ each_has (e ∷ entries) c = (some_words e.form c.0, each_has entries c.1)
 
 pub has_words : (basis : Basis) (bases : List Basis) → EachOf (λ (e : Entry). (words : Words) × Has e.form words) (entries_of (basis ∷ bases))
 has_words basis bases =
-    each_has (entries_of (basis ∷ bases)) (refl, (refl, (refl, (refl, (refl, (refl, (refl, (refl, (refl, (refl, (refl, (refl, (refl, (refl, (refl, tt)))))))))))))))
+    each_has (entries_of (basis ∷ bases)) (refl, (refl, (refl, (refl, (refl, (refl, (refl, (refl, (refl, (refl, (refl, (refl, (refl, (refl, (refl, (refl, (refl, (refl, (refl, tt)))))))))))))))))))
 
 -- the target and the expression of an expand
 abbrev is_expand : Command → Bool
@@ -102,6 +102,10 @@ expression_degree bases words target one_line t h = by h
     by (inr (inr (inr (inr (inr (inr (inr (inr (inr (inr (inl h))))))))))) = other rsk_entry (λ x. refl) words target one_line t h
     by (inr (inr (inr (inr (inr (inr (inr (inr (inr (inr (inr (inl h)))))))))))) = other unrsk_entry (λ x. refl) words target one_line t h
     by (inr (inr (inr (inr (inr (inr (inr (inr (inr (inr (inr (inr (inl h))))))))))))) = other rect_entry (λ x. refl) words target one_line t h
-    by (inr (inr (inr (inr (inr (inr (inr (inr (inr (inr (inr (inr (inr (inl h)))))))))))))) = other batch_entry (λ x. refl) words target one_line t h
-    by (inr (inr (inr (inr (inr (inr (inr (inr (inr (inr (inr (inr (inr (inr (inl h))))))))))))))) = other work_entry (λ x. refl) words target one_line t h
-    by (inr (inr (inr (inr (inr (inr (inr (inr (inr (inr (inr (inr (inr (inr (inr (h)))))))))))))))) = absurd h
+    by (inr (inr (inr (inr (inr (inr (inr (inr (inr (inr (inr (inr (inr (inl h)))))))))))))) = other growth_entry (λ x. refl) words target one_line t h
+    by (inr (inr (inr (inr (inr (inr (inr (inr (inr (inr (inr (inr (inr (inr (inl h))))))))))))))) = other (plethysm_entry bases) (λ x. refl) words target one_line t h
+    by (inr (inr (inr (inr (inr (inr (inr (inr (inr (inr (inr (inr (inr (inr (inr (inl h)))))))))))))))) = other dschubmult_entry (λ x. refl) words target one_line t h
+    by (inr (inr (inr (inr (inr (inr (inr (inr (inr (inr (inr (inr (inr (inr (inr (inr (inl h))))))))))))))))) = other stanley_entry (λ x. refl) words target one_line t h
+    by (inr (inr (inr (inr (inr (inr (inr (inr (inr (inr (inr (inr (inr (inr (inr (inr (inr (inl h)))))))))))))))))) = other batch_entry (λ x. refl) words target one_line t h
+    by (inr (inr (inr (inr (inr (inr (inr (inr (inr (inr (inr (inr (inr (inr (inr (inr (inr (inr (inl h))))))))))))))))))) = other work_entry (λ x. refl) words target one_line t h
+    by (inr (inr (inr (inr (inr (inr (inr (inr (inr (inr (inr (inr (inr (inr (inr (inr (inr (inr (inr (h)))))))))))))))))))) = absurd h

@@ -2,10 +2,10 @@
 
 ghost use Rattle.std.specs.Prelude.{ℕ, true, false, List, [], ◌∷◌, ◌++◌, codes, replicate};
 ghost use Rattle.sym_model.specs.Sum.{each};
-ghost use Rattle.sym_model.specs.Expansion.{monomials, power_sums, schurs};
-ghost use Rattle.sym_model.specs.Expression.{number, atom, negation};
+ghost use Rattle.sym_model.specs.Expansion.{monomials, elementaries, completes, power_sums, schurs};
+ghost use Rattle.sym_model.specs.Expression.{number, fraction, atom, negation};
 ghost use Rattle.sym_model.specs.ExpressionOffence.{literal, range, shape};
-ghost use Rattle.sym_model.specs.Command.{mult, skew, coprod, quantum, tab, schubert, schubmult, expand, rsk, unrsk, rect, work};
+ghost use Rattle.sym_model.specs.Command.{mult, skew, coprod, quantum, tab, schubert, schubmult, expand, rsk, unrsk, rect, plethysm, dschubmult, stanley, work};
 ghost use Rattle.sym_model.specs.Grammar.{line_entries, all_bases};
 ghost use Rattle.sym_model.specs.SyntaxPlace.{IsSyntaxPlace};
 ghost use Rattle.sym_model.specs.BatchLine.{words_of_line};
@@ -30,6 +30,10 @@ pub fn words_that_go_wrong_law()
     ensures form_twice { GoesWrong (codes "skew -m -m 1 /") 2 0 }
     ensures form_behind_target { GoesWrong (codes "expand s -m 1") 2 2 }
     ensures no_form { GoesWrong (codes "quantum -m 2 2 1 - 1") 1 0 }
+    ensures second_expression { GoesWrong (codes "plethysm s h[2] h[2") 3 3 }
+    ensures no_second_expression { GoesWrong (codes "plethysm s h[2]") 3 0 }
+    ensures first_expression { GoesWrong (codes "plethysm s h[2 h[2") 2 3 }
+    ensures no_rows { GoesWrong (codes "stanley 1") 1 0 }
     ensures slash_twice { GoesWrong (codes "skew / / 1") 2 0 }
     ensures more_than_batch { GoesWrong (codes "batch x") 1 0 }
     ensures no_batch_in_a_batch { IsSyntaxPlace (line_entries all_bases) (words_of_line (codes "batch")) 0 0 }
@@ -68,6 +72,11 @@ pub fn refused_lists_law()
     ensures seventeen_letters { Offends (codes "schubert 1 2 3 4 5 6 7 8 9 10 11 12 13 14 15 16 17") (17, 0, range) }
     ensures sixteen_letters { Says (codes "schubert 2 1 3 4 5 6 7 8 9 10 11 12 13 14 15 16") (schubert (2 ∷ 1 ∷ [])) }
     ensures identity { Says (codes "schubmult 1 2 - 1 3 2") (schubmult (1 ∷ []) (1 ∷ 3 ∷ 2 ∷ [])) }
+    ensures letter_9 { Offends (codes "dschubmult 9 - 1") (1, 0, range) }
+    ensures nine_letters { Offends (codes "dschubmult 1 - 2 1 3 4 5 6 7 8 9") (11, 0, range) }
+    ensures eight_letters { Says (codes "dschubmult 1 - 2 1 3 4 5 6 7 8") (dschubmult (1 ∷ []) (2 ∷ 1 ∷ [])) }
+    ensures variables_65 { Offends (codes "stanley -r 65 2 1") (2, 0, range) }
+    ensures two_variables { Says (codes "stanley -r 2 2 1") (stanley 2 (2 ∷ 1 ∷ [])) }
     ensures letter_0 { Offends (codes "rsk 0") (1, 0, range) }
     ensures letter_65536 { Offends (codes "rsk 65535 65536") (2, 0, range) }
     ensures letters_257 { Offends (codes "rsk " ++ repeated 257 (codes "1")) (257, 0, range) }
@@ -101,6 +110,17 @@ pub fn refused_tableaux_law()
     ensures numbers_257 { Offends (codes "unrsk " ++ (repeated 257 (codes "1") ++ codes "- 1")) (257, 0, range) }
     ensures numbers_257_in_rows { Offends (codes "unrsk " ++ (repeated 256 (codes "1") ++ codes "/ 2 - 1")) (258, 0, range) }
     ensures wide_entry { Offends (codes "rect 1 / - 170141183460469231731687303715884105728") (4, 0, literal) }
+{}
+
+/// Offences of the two expressions of a `plethysm`, and expressions that just have none.
+pub fn refused_plethysms_law()
+    ensures minus_inside { Offends (codes "plethysm s h[2] h[1]-h[1]") (3, 4, shape) }
+    ensures fraction_inside { Offends (codes "plethysm s h[2] 3*1/2") (3, 2, shape) }
+    ensures fraction_outside { Says (codes "plethysm s -1/2 1") (plethysm schurs (negation (fraction 1 2)) (number 1)) }
+    ensures degree_11 { Offends (codes "plethysm s h[11] 1-1") (2, 5, range) }
+    ensures degree_11_inside { Offends (codes "plethysm s 2 h[11]") (3, 5, range) }
+    ensures product_12 { Offends (codes "plethysm s h[4] h[3]") (3, 4, range) }
+    ensures product_10 { Says (codes "plethysm p h[5] e[2]") (plethysm power_sums (atom completes (5 ∷ [])) (atom elementaries (2 ∷ []))) }
 {}
 
 /// Offences of the expression of a command, and expressions that just have none.

@@ -2,7 +2,7 @@
 use Rattle.std.proofs.Common.{true, false, [], ◌∷◌, ◌++◌, refl, Some, None}
 use Rattle.std.specs.Prelude.{codes, replicate}
 use Rattle.sym_model.specs.ExpressionOffence.{literal, range, shape}
-use Rattle.sym_model.specs.Command.{mult, skew, coprod, quantum, schubert, schubmult, rsk, work}
+use Rattle.sym_model.specs.Command.{mult, skew, coprod, quantum, schubert, schubmult, rsk, work, dschubmult, stanley}
 use Rattle.word_laws.specs.Examples.{repeated}
 use Rattle.word_laws.proofs.ComputedExamples.{said, offended}
 use Rattle.word_laws.proofs.refused_words.refused_lists_law.Goals as goal
@@ -114,3 +114,18 @@ returns-clause-three_reduced c = said (codes "quantum 2 3 1 - 2 - 1 1") (quantum
 
 pub returns-clause-skew_on_one_line : goal.returns-clause-skew_on_one_line
 returns-clause-skew_on_one_line c = said (codes "skew -m 2 1 / 1") (skew None true (2 ∷ 1 ∷ []) (1 ∷ [])) refl
+
+pub returns-clause-letter_9 : goal.returns-clause-letter_9
+returns-clause-letter_9 c = offended (codes "dschubmult 9 - 1") (1, 0, range) refl
+
+pub returns-clause-nine_letters : goal.returns-clause-nine_letters
+returns-clause-nine_letters c = offended (codes "dschubmult 1 - 2 1 3 4 5 6 7 8 9") (11, 0, range) refl
+
+pub returns-clause-eight_letters : goal.returns-clause-eight_letters
+returns-clause-eight_letters c = said (codes "dschubmult 1 - 2 1 3 4 5 6 7 8") (dschubmult (1 ∷ []) (2 ∷ 1 ∷ [])) refl
+
+pub returns-clause-variables_65 : goal.returns-clause-variables_65
+returns-clause-variables_65 c = offended (codes "stanley -r 65 2 1") (2, 0, range) refl
+
+pub returns-clause-two_variables : goal.returns-clause-two_variables
+returns-clause-two_variables c = said (codes "stanley -r 2 2 1") (stanley 2 (2 ∷ 1 ∷ [])) refl

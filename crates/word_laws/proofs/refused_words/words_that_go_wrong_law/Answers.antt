@@ -72,3 +72,15 @@ returns-clause-form_behind_target c = gone_wrong (codes "expand s -m 1") 2 2 ref
 
 pub returns-clause-no_form : goal.returns-clause-no_form
 returns-clause-no_form c = gone_wrong (codes "quantum -m 2 2 1 - 1") 1 0 refl
+
+pub returns-clause-second_expression : goal.returns-clause-second_expression
+returns-clause-second_expression c = gone_wrong (codes "plethysm s h[2] h[2") 3 3 refl
+
+pub returns-clause-no_second_expression : goal.returns-clause-no_second_expression
+returns-clause-no_second_expression c = gone_wrong (codes "plethysm s h[2]") 3 0 refl
+
+pub returns-clause-first_expression : goal.returns-clause-first_expression
+returns-clause-first_expression c = gone_wrong (codes "plethysm s h[2 h[2") 2 3 refl
+
+pub returns-clause-no_rows : goal.returns-clause-no_rows
+returns-clause-no_rows c = gone_wrong (codes "stanley 1") 1 0 refl
