@@ -1,5 +1,5 @@
 -- The lines of a text, line by line, and the blocks of a batch, block by block.
-use Rattle.std.proofs.Common.{◌≡◌, ℕ, ◌==◌, ◌<◌, Bool, true, false, ◌&&◌, cond, List, [], ◌∷◌, ◌++◌, append_assoc, length, refl, sym, ap, ◌∙◌, arith, Option, Some, ◌⊎◌, inl, inr}
+use Rattle.std.proofs.Common.{◌≡◌, ℕ, ◌==◌, ◌<◌, Bool, true, false, ◌&&◌, cond, List, [], ◌∷◌, ◌++◌, append_assoc, length, refl, sym, ap, ◌∙◌, arith, Some, ◌⊎◌, inl, inr}
 use Rattle.std.specs.Prelude.{codes}
 use Rattle.std.proofs.lemmas.Bool.{lt-ltb, ne_eqb}
 use Rattle.std.proofs.lemmas.List.{append-nil}
@@ -8,7 +8,7 @@ use Rattle.sym_model.specs.BatchOutcome.{Block, AreBlocks, batch_text, is_done, 
 use Rattle.sym_model.specs.Entry.{Entry}
 use Rattle.sym_model.specs.NumberText.{split_at, before_first}
 use Rattle.batch_lines.specs.Feeds.{HasNoFeed}
-use Rattle.batch_lines.specs.Reading.{EndsAtFeed, EndsAtEnd, ReadsNext}
+use Rattle.batch_lines.specs.Reading.{Took, EndsAtFeed, EndsAtEnd, ReadsNext}
 use Rattle.batch_lines.specs.declared.next.Next.TheVariants.{Line, TooLong, End}
 
 abbrev Texts : Type 0
@@ -57,8 +57,8 @@ line_last text h l =
 
 -- ---- what is read of a source that tells its bytes
 
-told : (all rest taken : List ℕ) → ◌≡◌ {A = Option (List ℕ)} (Some all) (Some (taken ++ rest)) → all ≡ taken ++ rest
-told all rest taken h = cc
+told : (all rest taken : List ℕ) → Took (Some all) (Some rest) taken → all ≡ taken ++ rest
+told all rest taken h = h
 
 at_feed : (pending all rest taken text behind : List ℕ) → all ≡ taken ++ rest → pending ++ taken ≡ text ++ 10 ∷ behind → HasNoFeed text
     → lines_of (pending ++ all) ≡ text ∷ lines_of (behind ++ rest)

@@ -1,7 +1,8 @@
 -- The next line, piece by piece.
 use Rattle.std.proofs.Common.{◌≡◌, ℕ, ◌+◌, ◌≤◌, Bool, true, false, List, [], ◌∷◌, ◌++◌, append_assoc, length, length-append, refl, sym, ap, ◌∙◌, subst, arith, Option, Some, None, inl, inr}
 use Rattle.std.specs.Prelude.{IfSome}
-use Rattle.std.specs.Option.{option_map}
+use Rattle.std.specs.Io.KnownBytes.{IsAtEnd, Keeps}
+use Rattle.std.proofs.KnownBytes.{Consumes-trans, Consumes-kept}
 use Rattle.std.proofs.lemmas.Bool.{ltb-true, ltb-false}
 use Rattle.std.proofs.lemmas.List.{append-nil}
 use Rattle.sym_model.specs.BatchLine.{most_bytes}
@@ -15,15 +16,11 @@ use Rattle.batch_lines.proofs.Parts.{no_feed_append}
 -- ---- what was taken
 
 pub took_nothing : (told : Option (List ℕ)) → Took told told []
-took_nothing None = refl
+took_nothing None = tt
 took_nothing (Some rest) = refl
 
 pub took_more : (before between now : Option (List ℕ)) (first more : List ℕ) → Took before between first → Took between now more → Took before now (first ++ more)
-took_more before between now first more h k = h ∙ ap (option_map (λ rest. first ++ rest)) k ∙ by now
-  where
-    by : (told : Option (List ℕ)) → option_map (λ rest. first ++ rest) (option_map (λ rest. more ++ rest) told) ≡ option_map (λ rest. (first ++ more) ++ rest) told
-    by None = refl
-    by (Some rest) = ap Some (sym (append_assoc first more rest))
+took_more before between now first more h k = Consumes-trans before between now first more h k
 
 -- ---- a line so far
 
@@ -100,12 +97,12 @@ goes_on before now later allowance less still_less faults count more_count first
 
 pub cuts : (before now later : Option (List ℕ)) (allowance less faults count : ℕ) (first pending kept behind line : List ℕ) (is_long : Bool) (heard : Heard)
     → (r : ReadsSo before now allowance less faults count first pending kept is_long) → Hears r.text pending behind line heard → heard.has_ended ≡ false
-    → later ≡ now → TookPart before later first
+    → Keeps now later → TookPart before later first
 cuts before now later allowance less faults count first pending kept behind line is_long heard r h e kept_left =
     let cut : (pending ≡ h.part) × (behind ≡ []) = subst (IsTaken h.part pending behind) e h.taken in
     record {
       taken = r.taken;
-      took = subst (λ told. Took before told r.taken) (sym kept_left) r.took;
+      took = Consumes-kept before now later r.taken r.took kept_left;
       no_feed =
           subst HasNoFeed (sym (r.bytes ∙ ap (λ xs. r.text ++ xs) cut.0)) (no_feed_append r.text h.part r.no_feed h.no_feed);
     }
@@ -116,10 +113,9 @@ no_bytes : (piece : List ℕ) → length piece ≡ 0 → piece ≡ []
 no_bytes [] h = refl
 no_bytes (b ∷ piece) h = absurd (omega (arith, h))
 
-told_end : (now later : Option (List ℕ)) (piece : List ℕ) → piece ≡ [] → Took now later piece → IfSome now (λ rest. rest ≡ []) → IfSome later (λ rest. rest ≡ [])
-told_end now None piece e t h = tt
-told_end now (Some rest) piece e t h =
-    let s : now ≡ Some rest = t ∙ ap (λ xs. Some (xs ++ rest)) e in subst (λ told. IfSome told (λ r. r ≡ [])) s h
+told_end : (later : Option (List ℕ)) → IsAtEnd later → IfSome later (λ rest. rest ≡ [])
+told_end None h = tt
+told_end (Some rest) h = h
 
 at_end_is : (text line : List ℕ) (is_long : Bool) (all pending : List ℕ) (later : Option (List ℕ)) → IsHeard text line is_long → EndsAtEnd all text pending later
     → IsNext (next_at_end line is_long) all text pending later line
@@ -131,14 +127,14 @@ at_end_is text (b ∷ line) false all pending later h e =
 
 pub stops : (before now later : Option (List ℕ)) (allowance less still_less faults count : ℕ) (first pending kept behind line piece : List ℕ) (is_long : Bool) (heard : Heard) (next : Next)
     → (r : ReadsSo before now allowance less faults count first pending kept is_long) → Hears r.text pending behind line heard → heard.has_ended ≡ false
-    → Took now later piece → still_less + length piece ≤ less → length piece ≡ 0 → IfSome now (λ rest. rest ≡ [])
+    → Took now later piece → still_less + length piece ≤ less → length piece ≡ 0 → IsAtEnd later
     → next ≡ next_at_end line heard.is_long → ReadsNext before later allowance still_less first piece line true next
 stops before now later allowance less still_less faults count first pending kept behind line piece is_long heard next r h e t s z q n =
     let cut : (pending ≡ h.part) × (behind ≡ []) = subst (IsTaken h.part pending behind) e h.taken in
     let none = no_bytes piece z in
     let text = r.text ++ h.part in
     let at_end : EndsAtEnd (first ++ r.taken) text piece later =
-    record { whole = r.bytes ∙ ap (λ xs. r.text ++ xs) cut.0; none_pending = none; none_left = told_end now later piece none t q } in
+    record { whole = r.bytes ∙ ap (λ xs. r.text ++ xs) cut.0; none_pending = none; none_left = told_end later q } in
     record {
       taken = r.taken;
       took = subst (Took before later) (ap (λ xs. r.taken ++ xs) none ∙ append-nil r.taken) (took_more before now later r.taken piece r.took t);

@@ -1,6 +1,6 @@
 -- What a reader of lines has, and what it is to read the next line (this project's own).
 use Rattle.std.specs.Prelude.{◌≡◌, ◌⊎◌, ◌<◌, ◌≤◌, ℕ, ◌+◌, Bool, true, false, List, [], ◌∷◌, ◌++◌, length, Option, IfSome, Result, Ok, Err}
-use Rattle.std.specs.Option.{option_map}
+use Rattle.std.specs.Io.KnownBytes.{Consumes}
 use Rattle.sym_model.specs.BatchLine.{most_bytes}
 use Rattle.calc_base.specs.Fault.{Rose}
 use Rattle.batch_lines.specs.Feeds.{HasNoFeed}
@@ -21,7 +21,7 @@ pub record Reading : Type 0 where
 
 -- some bytes were taken from the source, where it tells them
 abbrev pub Took : Option (List ℕ) → Option (List ℕ) → List ℕ → Type 0
-Took before now taken = before ≡ option_map (λ rest. taken ++ rest) now
+Took before now taken = Consumes before now taken
 
 -- the bytes are the text of a line without its line feed, and what stands behind that
 abbrev pub EndsAtFeed : List ℕ → List ℕ → List ℕ → Type 0

@@ -1,6 +1,6 @@
 //! A buffer of bytes that were taken from a source.
-ghost use Rattle.std.specs.Prelude.{◌≡◌, ◌≤◌, ◌==◌, ◌++◌, [], length, drop, OnErr, IfOk, IfSome};
-ghost use Rattle.std.specs.Option.{option_map};
+ghost use Rattle.std.specs.Prelude.{◌≡◌, ◌≤◌, ◌==◌, [], length, drop, OnErr, IfOk};
+ghost use Rattle.std.specs.Io.KnownBytes.{Consumes, IsAtEnd, Keeps};
 ghost use Rattle.calc_base.specs.Fault.{CountsFaults};
 ghost use Rattle.calc_base.specs.Source.{Spends};
 ghost use Rattle.batch_lines.specs.Reading.{most_pending};
@@ -61,10 +61,10 @@ impl Pieces {
     /// Takes the next bytes of the source, in place of those that are there, and answers how many.
     pub(crate) fn refill<S: Source>(&mut self, source: &mut S) -> Result<usize, SourceFault>
         ensures count { IfOk result (λ count. count ≡ length self.new) }
-        ensures taken { IfOk result (λ _. S.left source.old ≡ option_map (λ rest. self.new ++ rest) (S.left source.new)) }
-        ensures ended { IfOk result (λ count. count ≡ 0 → IfSome (S.left source.old) (λ rest. rest ≡ [])) }
+        ensures taken { IfOk result (λ _. Consumes (S.left source.old) (S.left source.new) self.new) }
+        ensures ended { IfOk result (λ count. count ≡ 0 → IsAtEnd (S.left source.new)) }
         ensures spends { Spends (S.allowance source.old) (S.allowance source.new) result }
-        ensures kept { OnErr result (S.left source.new ≡ S.left source.old) }
+        ensures kept { OnErr result (Keeps (S.left source.old) (S.left source.new)) }
         ensures counts { CountsFaults (S.faults source.old) (S.faults source.new) result }
     {
         self.start = 0;

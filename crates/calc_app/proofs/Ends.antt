@@ -6,7 +6,8 @@ use Rattle.calc_base.specs.declared.status.Status.TheVariants as status
 use Rattle.calc_base.specs.declared.words.WordsFault.TheVariants as fault
 use Rattle.calc_base.specs.Fault.{Rose}
 use Rattle.calc_base.specs.Puts.{Puts}
-use Rattle.calc_base.specs.Sink.{Appends, grown}
+use Rattle.calc_base.proofs.PutsLaws.{Appends-told}
+use Rattle.calc_base.specs.Sink.{Appends}
 use Rattle.calc_language.specs.BuiltCommands.{command_entries, batch_entries}
 use Rattle.sym_model.specs.BatchLine.{BatchLine, too_long, passed_over, spoken, batch_line, lines_of}
 use Rattle.sym_model.specs.BatchOutcome.{Block, AreBlocks, are_done, batch_ending, RunsInput}
@@ -213,7 +214,7 @@ whole_prints written count old new left input text before ending is_input runs a
   input = input;
   is_input = is_input;
   blocks = runs.blocks;
-  appended = appended.bytes ∙ ap (λ t. grown t text) told ∙ ap (λ t. Some (before ++ t)) runs.joined;
+  appended = Appends-told before appended told ∙ ap (λ t. Some (before ++ t)) runs.joined;
   are_blocks = runs.are_blocks;
   say = say_lines (map batch_line (lines_of input)) runs.blocks runs.are_blocks;
 }

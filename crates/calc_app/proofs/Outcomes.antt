@@ -5,7 +5,8 @@ use Rattle.calc_base.specs.declared.status.Status.{Status}
 use Rattle.calc_base.specs.declared.status.Status.TheVariants as status
 use Rattle.calc_base.specs.declared.words.WordsFault.{WordsFault}
 use Rattle.calc_base.specs.declared.words.WordsFault.TheVariants as fault
-use Rattle.calc_base.specs.Sink.{Appends, AppendsPrefix, grown}
+use Rattle.calc_base.proofs.PutsLaws.{Appends-told}
+use Rattle.calc_base.specs.Sink.{Appends, AppendsPrefix}
 use Rattle.calc_language.specs.BuiltCommands.{command_entries, batch_entries}
 use Rattle.calc_language.specs.Reading.{IsFaultOf}
 use Rattle.expansion_printer.specs.declared.answer.Answer.{Answer}
@@ -318,7 +319,7 @@ pub headline : {S : Type 0} (written : S → Option (List ℕ)) (count : S → O
 headline {S = S} written count settled old new left now_left words answer leaves ended before told =
     let P : Status → Type 0 = λ s. Leaves written count settled old new left now_left (RunsLines words) (IsOutcome words) s in
     let whole = subst P ended leaves in
-    by whole.text whole.input whole.is_input (whole.appended.bytes ∙ ap (λ t. grown t whole.text) told) whole.outcome
+    by whole.text whole.input whole.is_input (Appends-told before whole.appended told) whole.outcome
   where
     by : (text input : List ℕ) → IsInput left input → written new ≡ Some (before ++ text) → IsOutcome words input text done → PrintsAnswerTo words before left (written new)
     by text input is_input appended (inl wrong) = let clash : done ≡ syntax = wrong.1 in cc

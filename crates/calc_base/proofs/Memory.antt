@@ -1,5 +1,5 @@
 -- What sources and sinks in memory do, over plain lists.
-use Rattle.std.proofs.Common.{◌≡◌, ℕ, ◌+◌, ◌<◌, ◌≤◌, min, max, List, [], ◌∷◌, ◌++◌, length, take, drop, Some, refl, sym, ◌∙◌, ap, arith, length-append}
+use Rattle.std.proofs.Common.{◌≡◌, ℕ, zero, suc, ◌+◌, ◌<◌, ◌≤◌, min, max, List, [], ◌∷◌, ◌++◌, length, take, drop, Some, refl, sym, ◌∙◌, ap, arith, length-append}
 use Rattle.std.proofs.lemmas.List.{take-append-drop}
 use Rattle.std.proofs.Math.Seq.{take-append_seam}
 use Rattle.std.proofs.lemmas.Grind.{common_steps}
@@ -13,8 +13,8 @@ pub Takes-front : (rest later filled behind buffer : List ℕ) (piece count : �
     → Takes (Some rest) (Some later) buffer count
 Takes-front rest later filled behind buffer piece count front back whole number room some = record {
   fits = omega arith;
-  given = ap Some (sym (take-append-drop count rest) ∙ parts (take count buffer) later in_front (sym back));
-  ended = λ none. nothing rest (omega arith);
+  given = sym (take-append-drop count rest) ∙ parts (take count buffer) later in_front (sym back);
+  ended = λ none. back ∙ ap (drop count) (nothing rest (omega arith)) ∙ drop_nothing count;
 }
   where
     long : length filled ≡ count
@@ -26,6 +26,10 @@ Takes-front rest later filled behind buffer piece count front back whole number 
 
     parts : (a b : List ℕ) → take count rest ≡ a → drop count rest ≡ b → take count rest ++ drop count rest ≡ a ++ b
     parts a b e f = cc
+
+    drop_nothing : (n : ℕ) → ◌≡◌ {A = List ℕ} (drop n []) []
+    drop_nothing zero = refl
+    drop_nothing (suc n) = refl
 
     nothing : (xs : List ℕ) → length xs ≡ 0 → xs ≡ []
     nothing [] e = refl
@@ -39,7 +43,7 @@ appends_some bytes old new piece count grew = record {
   front = take count piece;
   is_prefix = record { rest = drop count piece; joined = take-append-drop count piece };
   appends = record {
-    bytes = ap Some grew;
+    bytes = grew;
     number = ap Some (number (length (bytes old)) (length (take count piece)) (length (bytes new)) greatest_length
         (ap length grew ∙ length-append (bytes old) (take count piece)));
   };

@@ -3,30 +3,25 @@
 -- `Puts-prints` at a printer's end.
 use Rattle.std.proofs.Common.{◌≡◌, ℕ, ◌+◌, min, max, List, [], ◌++◌, length, Option, Some, None, Bool, true, false, refl, sym, ◌∙◌, ap, subst, arith, append_assoc, append-nil, length-append}
 use Rattle.std.specs.Prelude.{Result, Ok, Err, is_ok}
+use Rattle.std.specs.Io.KnownBytes.{Appends as Grows}
+use Rattle.std.proofs.KnownBytes.{Appends-trans as Grows-trans, Appends-nil as Grows-nil}
 use Rattle.calc_base.specs.Fault.{counted_up, Rose}
-use Rattle.calc_base.specs.Sink.{greatest_length, grown, longer, Appends, AppendsPrefix}
+use Rattle.calc_base.specs.Sink.{greatest_length, IsLonger, Appends, AppendsPrefix}
 use Rattle.calc_base.specs.Puts.{Puts, Prints}
 
 -- appending two texts is appending them joined
-grown-grown : (told : Option (List ℕ)) (a b : List ℕ) → grown (grown told a) b ≡ grown told (a ++ b)
-grown-grown None a b = refl
-grown-grown (Some bytes) a b = ap Some (append_assoc bytes a b)
-
-grown-nothing : (told : Option (List ℕ)) → told ≡ grown told []
-grown-nothing None = refl
-grown-nothing (Some bytes) = ap Some (sym (append-nil bytes))
-
 number-number : (n a b c limit : ℕ) → c ≡ a + b
     → max (max n (min (n + a) limit)) (min (max n (min (n + a) limit) + b) limit) ≡ max n (min (n + c) limit)
 number-number n a b c limit e = omega arith
 
-longer-longer : (told : Option ℕ) (a b : List ℕ) → longer (longer told a) b ≡ longer told (a ++ b)
-longer-longer None a b = refl
-longer-longer (Some n) a b =
-    ap Some (number-number n (length a) (length b) (length (a ++ b)) greatest_length (length-append a b))
+longer-longer : (before mid now : Option ℕ) (a b : List ℕ) → IsLonger before mid a → IsLonger mid now b → IsLonger before now (a ++ b)
+longer-longer None mid now a b h k = tt
+longer-longer (Some n) mid now a b h k =
+    subst (λ told. IsLonger told now b) h k
+    ∙ ap Some (number-number n (length a) (length b) (length (a ++ b)) greatest_length (length-append a b))
 
-longer-nothing : (told : Option ℕ) → told ≡ longer told []
-longer-nothing None = refl
+longer-nothing : (told : Option ℕ) → IsLonger told told []
+longer-nothing None = tt
 longer-nothing (Some n) = ap Some (number-nothing n greatest_length)
   where
     number-nothing : (n limit : ℕ) → n ≡ max n (min (n + 0) limit)
@@ -36,14 +31,24 @@ longer-nothing (Some n) = ap Some (number-nothing n greatest_length)
 
 pub Appends-then : {S : Type 0} {written : S → Option (List ℕ)} {count : S → Option ℕ} {old mid new : S} {a b : List ℕ}
     → Appends written count old mid a → Appends written count mid new b → Appends written count old new (a ++ b)
-Appends-then {written = written} {count = count} {old = old} {a = a} {b = b} first second = record {
-  bytes = second.bytes ∙ ap (λ t. grown t b) first.bytes ∙ grown-grown (written old) a b;
-  number = second.number ∙ ap (λ t. longer t b) first.number ∙ longer-longer (count old) a b;
+Appends-then {written = written} {count = count} {old = old} {mid = mid} {new = new} {a = a} {b = b} first second = record {
+  bytes = Grows-trans (written old) (written mid) (written new) a b first.bytes second.bytes;
+  number = longer-longer (count old) (count mid) (count new) a b first.number second.number;
 }
 
 pub Appends-nothing : {S : Type 0} (written : S → Option (List ℕ)) (count : S → Option ℕ) (s : S)
     → Appends written count s s []
-Appends-nothing written count s = record { bytes = grown-nothing (written s); number = longer-nothing (count s) }
+Appends-nothing written count s = record { bytes = Grows-nil (written s); number = longer-nothing (count s) }
+
+-- a sink that tells its bytes tells them with the text behind
+pub Appends-told : {S : Type 0} {written : S → Option (List ℕ)} {count : S → Option ℕ} {old new : S} {text : List ℕ} (before : List ℕ)
+    → Appends written count old new text → written old ≡ Some before → written new ≡ Some (before ++ text)
+Appends-told {written = written} {old = old} {new = new} {text = text} before h told = by (written old) (written new) told h.bytes
+  where
+    by : (a b : Option (List ℕ)) → a ≡ Some before → Grows a b text → b ≡ Some (before ++ text)
+    by None b e g = cc
+    by (Some x) None e g = absurd g
+    by (Some x) (Some y) e g = let same : x ≡ before = cc in ap Some (g ∙ ap (λ t. t ++ text) same)
 
 -- a prefix of the first text is one of the two joined
 pub AppendsPrefix-more : {S : Type 0} {written : S → Option (List ℕ)} {count : S → Option ℕ} {old new : S} {a : List ℕ} (b : List ℕ)

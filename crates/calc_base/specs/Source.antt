@@ -1,12 +1,12 @@
 -- What a call of `take` does to the bytes that a source has left, where it tells them, and to its allowance.
-use Rattle.std.specs.Prelude.{◌≡◌, ℕ, ◌+◌, ◌≤◌, List, [], ◌++◌, length, take, Option, IfSome, Result, MatchResult}
-use Rattle.std.specs.Option.{option_map}
+use Rattle.std.specs.Prelude.{◌≡◌, ℕ, ◌+◌, ◌≤◌, List, length, take, Option, Result, MatchResult}
+use Rattle.std.specs.Io.KnownBytes.{Consumes, IsAtEnd}
 
 -- the first `count` bytes of the buffer were the next ones of the source, and have left it; none is given only at the end
 pub record Takes (before now : Option (List ℕ)) (buffer : List ℕ) (count : ℕ) : Type 0 where
   pub fits : count ≤ length buffer
-  pub given : before ≡ option_map (λ rest. take count buffer ++ rest) now
-  pub ended : count ≡ 0 → IfSome before (λ rest. rest ≡ [])
+  pub given : Consumes before now (take count buffer)
+  pub ended : count ≡ 0 → IsAtEnd now
 
 -- an allowance falls by at least the bytes that were given, and never rises
 abbrev pub Spends : {E : Type 0} → (before now : ℕ) → Result ℕ E → Type 0

@@ -1,5 +1,6 @@
 //! A source over bytes in memory, which fails at chosen calls.
 ghost use Rattle.std.specs.Prelude.{◌≡◌, ◌<◌, ◌≤◌, Some, length, take, drop, IfOk, OnErr, is_err};
+ghost use Rattle.std.specs.Io.KnownBytes.{Keeps};
 ghost use Rattle.calc_base.specs.Fault.{CountsFaults};
 ghost use Rattle.calc_base.specs.Source.{Takes, Spends};
 ghost use Rattle.calc_base.specs.Supply.{Supply, is_listed, given_count, after_take, filled_buffer};
@@ -77,7 +78,7 @@ impl Source for MemSource {
 
         // What each source owes.
         ensures ok { IfOk result (Takes (Some self.old.rest) (Some self.new.rest) buf.new) }
-        ensures err { OnErr result (Some self.new.rest ≡ Some self.old.rest) }
+        ensures err { OnErr result (Keeps (Some self.old.rest) (Some self.new.rest)) }
         ensures spends { Spends (length self.old.rest) (length self.new.rest) result }
         ensures counts { CountsFaults self.old.failed self.new.failed result }
 

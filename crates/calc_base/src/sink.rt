@@ -5,7 +5,8 @@ ghost use Rattle.calc_base.specs.Sink.{Appends, AppendsPrefix, IsCounted};
 
 use crate::SinkFault;
 
-/// A sink of bytes. It may tell what was written, or how much, and no call changes which of them it tells.
+/// A sink of bytes. It may tell what was written, or how much: what it tells grows by what is put. Of a sink that tells nothing,
+/// nothing is said, as the standard library says nothing of a writer whose bytes are not known.
 pub trait Sink {
     /// The bytes so far, where the sink tells them.
     ghost written: { Self → Option (List ℕ) };

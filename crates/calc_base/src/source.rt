@@ -1,11 +1,12 @@
 //! Where bytes come from.
-ghost use Rattle.std.specs.Prelude.{◌≡◌, ◌<◌, ℕ, List, length, IfOk, OnErr, Option};
+ghost use Rattle.std.specs.Prelude.{◌<◌, ℕ, List, length, IfOk, OnErr, Option};
+ghost use Rattle.std.specs.Io.KnownBytes.{Keeps};
 ghost use Rattle.calc_base.specs.Fault.{CountsFaults};
 ghost use Rattle.calc_base.specs.Source.{Takes, Spends};
 
 use crate::SourceFault;
 
-/// A source of bytes. It may tell what is left, and no call changes whether it does.
+/// A source of bytes. It may tell what is left: what it tells shrinks by what is taken.
 pub trait Source {
     /// The bytes still to come, where the source tells them.
     ghost left: { Self → Option (List ℕ) };
@@ -22,7 +23,7 @@ pub trait Source {
     fn take(&mut self, buf: &mut [u8]) -> Result<usize, SourceFault>
         requires { 0 < length buf.old }
         ensures ok { IfOk result (Takes (left self.old) (left self.new) buf.new) }
-        ensures err { OnErr result (left self.new ≡ left self.old) }
+        ensures err { OnErr result (Keeps (left self.old) (left self.new)) }
         ensures spends { Spends (allowance self.old) (allowance self.new) result }
         ensures counts { CountsFaults (faults self.old) (faults self.new) result };
 }

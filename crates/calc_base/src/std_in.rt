@@ -1,6 +1,6 @@
 //! The source over the program's input.
-ghost use Rattle.std.specs.Prelude.{◌≡◌, ◌+◌, ◌^◌, ◌<◌, None, length, IfOk, OnErr, IsErr};
-ghost use Rattle.std.specs.Io.KnownBytes.{ReadConsumes};
+ghost use Rattle.std.specs.Prelude.{◌≡◌, ◌+◌, ◌^◌, ◌<◌, length, IfOk, OnErr, IsErr};
+ghost use Rattle.std.specs.Io.KnownBytes.{Keeps};
 ghost use Rattle.calc_base.specs.Fault.{CountsFaults};
 ghost use Rattle.calc_base.specs.Source.{Takes, Spends};
 ghost use Rattle.calc_base.specs.Edge.{Intake};
@@ -11,7 +11,8 @@ use std::marker::Model;
 
 const ALLOWANCE: u64 = 1 << 62;
 
-/// The source over the program's input, at any reader. It tells nothing of what is left, and gives 2^62 bytes at most.
+/// The source over the program's input, at any reader. It tells what the reader has left, where that is known, and gives 2^62
+/// bytes at most.
 #[derive(Drop)]
 pub struct StdIn<R> {
     reader: R,
@@ -39,7 +40,7 @@ impl<R> StdIn<R> {
 }
 
 impl<R: Read> Source for StdIn<R> {
-    ghost left = { λ _. None };
+    ghost left = { λ s. R.remaining s.reader };
 
     ghost allowance = { λ s. s.allowance };
 
@@ -50,13 +51,12 @@ impl<R: Read> Source for StdIn<R> {
         requires { 0 < length buf.old }
 
         // What each source owes.
-        ensures ok { IfOk result (Takes None None buf.new) }
+        ensures ok { IfOk result (Takes (R.remaining self.old.reader) (R.remaining self.new.reader) buf.new) }
+        ensures err { OnErr result (Keeps (R.remaining self.old.reader) (R.remaining self.new.reader)) }
         ensures spends { Spends self.old.allowance self.new.allowance result }
         ensures counts { CountsFaults self.old.failed self.new.failed result }
 
         // What this one does.
-        ensures bytes { ReadConsumes (R.remaining self.old.reader) (R.remaining self.new.reader)
-            result buf.new }
         ensures spent { IfOk result (λ count. self.new.allowance + count ≡ self.old.allowance) }
         ensures unspent { OnErr result (self.new.allowance ≡ self.old.allowance) }
         ensures exhausted { self.old.allowance ≡ 0 → IsErr result }

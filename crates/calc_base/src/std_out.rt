@@ -1,17 +1,16 @@
 //! The sink over the program's output.
-ghost use Rattle.std.specs.Prelude.{◌≡◌, [], None, false, OnOk, is_ok, OnErr};
+ghost use Rattle.std.specs.Prelude.{◌≡◌, [], List, ℕ, false, OnOk, is_ok, OnErr};
 ghost use Rattle.std.specs.Bool.{OnTrue};
-ghost use Rattle.std.specs.Io.KnownBytes.{Keeps};
 ghost use Rattle.std.specs.Io.KnownBytes.{Appends as WriterAppends};
 ghost use Rattle.calc_base.specs.Fault.{CountsFaults};
-ghost use Rattle.calc_base.specs.Sink.{Appends, AppendsPrefix};
+ghost use Rattle.calc_base.specs.Sink.{Appends, AppendsPrefix, IsPrefix, number_told, counts_told};
 ghost use Rattle.calc_base.specs.Edge.{Outlet};
 
 use crate::{Sink, SinkFault};
 use std::io::Write;
 use std::marker::Model;
 
-/// The sink over the program's output, at any writer. It tells nothing of what was written.
+/// The sink over the program's output, at any writer. It tells the bytes that the writer holds, where those are known.
 #[derive(Drop)]
 pub struct StdOut<W> {
     writer: W,
@@ -39,9 +38,9 @@ impl<W> StdOut<W> {
 }
 
 impl<W: Write> Sink for StdOut<W> {
-    ghost written = { λ _. None };
+    ghost written = { λ s. W.contents s.writer };
 
-    ghost length = { λ _. None };
+    ghost length = { λ s. number_told (W.contents s.writer) };
 
     ghost faults = { λ s. s.failed };
 
@@ -50,15 +49,12 @@ impl<W: Write> Sink for StdOut<W> {
     /// Writes until all is written. A write that fails, or takes nothing of what is left, is the fault.
     fn put(&mut self, bytes: &[u8]) -> Result<(), SinkFault>
         // What each sink owes.
-        ensures ok { OnOk result (Appends (λ _. None) (λ _. None) self.old self.new bytes.now) }
+        ensures ok { OnOk result
+            (Appends (λ s. W.contents s.writer) (λ s. number_told (W.contents s.writer)) self.old self.new bytes.now) }
         ensures err { OnErr result
-            (AppendsPrefix (λ _. None) (λ _. None) self.old self.new bytes.now) }
+            (AppendsPrefix (λ s. W.contents s.writer) (λ s. number_told (W.contents s.writer)) self.old self.new bytes.now) }
         ensures counts { CountsFaults self.old.failed self.new.failed result }
         ensures settled { self.new.finished ≡ false }
-
-        // What this one does.
-        ensures bytes { OnOk result
-            (WriterAppends (W.contents self.old.writer) (W.contents self.new.writer) bytes.now) }
     {
         self.finished = false;
         if write_whole(&mut self.writer, bytes) {
@@ -71,12 +67,9 @@ impl<W: Write> Sink for StdOut<W> {
     /// Flushes. A flush that fails is the fault.
     fn finish(&mut self) -> Result<(), SinkFault>
         // What each sink owes.
-        ensures same { Appends (λ _. None) (λ _. None) self.old self.new [] }
+        ensures same { Appends (λ s. W.contents s.writer) (λ s. number_told (W.contents s.writer)) self.old self.new [] }
         ensures counts { CountsFaults self.old.failed self.new.failed result }
         ensures settled { self.new.finished ≡ is_ok result }
-
-        // What this one does.
-        ensures bytes { Keeps (W.contents self.old.writer) (W.contents self.new.writer) }
     {
         self.finished = self.writer.flush().is_ok();
         if self.finished {
@@ -86,13 +79,14 @@ impl<W: Write> Sink for StdOut<W> {
         Err(SinkFault)
     }
 
-    ghost counted = { λ _. tt };
+    ghost counted = { λ s. counts_told (W.contents s.writer) };
 }
 
 /// Writes all of the bytes, and answers whether each write took some of what was left.
 fn write_whole<W: Write>(writer: &mut W, bytes: &[u8]) -> bool
-    ensures { OnTrue result
+    ensures whole { OnTrue result
         (WriterAppends (W.contents writer.old) (W.contents writer.new) bytes.now) }
+    ensures part { (front : List ℕ) × IsPrefix front bytes.now × WriterAppends (W.contents writer.old) (W.contents writer.new) front }
 {
     let mut at = 0;
     while at < bytes.len() {
