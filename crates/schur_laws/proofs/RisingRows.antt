@@ -22,10 +22,6 @@ pub zeros_up_to : (w : List ℕ) → up_to_letter 0 w ≡ times_in 0 w
 zeros_up_to [] = refl
 zeros_up_to (a ∷ w) = let e = zeros_up_to w in let f : cond {A = ℕ} (nat_le a 0) 1 0 ≡ cond {A = ℕ} (a == 0) 1 0 = grind (arith, nat_tests) in omega arith
 
-pub at_most_all : (k : ℕ) (w : List ℕ) → up_to_letter k w ≤ length w
-at_most_all k [] = omega arith
-at_most_all k (a ∷ w) = let e = at_most_all k w in let f : cond {A = ℕ} (nat_le a k) 1 0 ≤ 1 = grind (arith, nat_tests) in omega arith
-
 abbrev pub Rises : List ℕ → Type 0
 Rises w = is_chain nat_le w ≡ true
 

@@ -1,27 +1,18 @@
 -- Fractions cleared: a fraction times a multiple of its denominator.
-use Rattle.std.proofs.Common.{◌≡◌, ℕ, ◌*◌, ◌/◌, ◌<◌, sym, ap, ◌∙◌, subst, arith, ℤ, pos, ◌+ℤ◌, ◌*ℤ◌, neg_ℤ, unsigned_abs}
+use Rattle.std.proofs.Common.{◌≡◌, ℕ, ◌*◌, ◌/◌, ◌<◌, sym, ap, ◌∙◌, subst, arith, ℤ, pos, ◌+ℤ◌, ◌*ℤ◌, unsigned_abs}
 use Rattle.std.specs.Int.{◌∣◌}
 use Rattle.std.proofs.lemmas.Nat.Gcd.{IsGcd-swap}
 use Rattle.std.proofs.lemmas.Int.{ints, unsigned_abs-mul}
-use native.Mathlib.Nat.{div-mul_cancel, dvd-mul_left, mul_comm, mul-div_assoc}
-use Rattle.sym_model.proofs.Ring.{ring, negation-product, product_assoc}
+use native.Mathlib.Nat.{div-mul_cancel, dvd-mul_left}
+use Rattle.sym_model.proofs.Ring.{ring, product_assoc}
 use Rattle.sym_model.specs.Expansion.{Fraction}
-use Rattle.coeff_rings.specs.Fractions.{InLowestTerms, scaled, fraction_sum, fraction_product, fraction_negation}
+use Rattle.coeff_rings.specs.Fractions.{InLowestTerms, scaled, fraction_sum, fraction_product}
 use Rattle.coeff_rings.specs.Room.{magnitude}
 use Rattle.coeff_rings.specs.Proved.Divisors.{divides_other_factor}
 use Rattle.coeff_rings.specs.Proved.Fractions.{Stands, Stands-sum, Stands-product, product_cancel}
 
 pub unsigned_abs-scaled : (d : ℕ) (r : Fraction) → unsigned_abs (scaled d r) ≡ magnitude d r
 unsigned_abs-scaled d r = unsigned_abs-mul r.0 (pos (d / r.1))
-
-pub scaled-negation : (d : ℕ) (r : Fraction) → scaled d (fraction_negation r) ≡ neg_ℤ (scaled d r)
-scaled-negation d r = negation-product r.0 (pos (d / r.1))
-
--- a multiple of the multiple
-pub scaled-times : (d k : ℕ) (r : Fraction) → r.1 ∣ d → scaled (d * k) r ≡ scaled d r *ℤ pos k
-scaled-times d k r h =
-    let e : (d * k) / r.1 ≡ (d / r.1) * k = ap (λ (n : ℕ). n / r.1) (mul_comm d k) ∙ mul-div_assoc r.1 k h ∙ mul_comm k (d / r.1) in
-    ap (λ (n : ℕ). r.0 *ℤ pos n) e ∙ sym (product_assoc r.0 (pos (d / r.1)) (pos k))
 
 -- a fraction stands for itself cleared over what cleared it
 pub Stands-scaled : (d : ℕ) (r : Fraction) → InLowestTerms r → 0 < d → r.1 ∣ d → Stands r (scaled d r) d

@@ -114,10 +114,6 @@ sum_cross t rn rd sn sd td n d m e a p q =
     ∙ ap (λ z. z *ℤ (sd *ℤ (e *ℤ td)) +ℤ (sn *ℤ e) *ℤ (rd *ℤ (d *ℤ td))) p
     ∙ ap (λ z. (n *ℤ rd) *ℤ (sd *ℤ (e *ℤ td)) +ℤ z *ℤ (rd *ℤ (d *ℤ td))) q ∙ third
 
--- a whole number over 1 in lowest terms is that whole number
-pub lowest_terms-whole : (z : ℤ) → lowest_terms z 1 ≡ whole z
-lowest_terms-whole z = Stands-same _ _ _ _ _ _ (Stands-lowest_terms z 1 (omega arith)) (Stands-whole z) refl
-
 pub Stands-sum : (r s : Fraction) (n m : ℤ) (d e : ℕ) → Stands r n d → Stands s m e → Stands (fraction_sum r s) (n *ℤ pos e +ℤ m *ℤ pos d) (d * e)
 Stands-sum r s n m d e p q =
     let dens : 0 < r.1 * s.1 = mul-pos p.lowest.positive q.lowest.positive in

@@ -1,5 +1,5 @@
 -- Whole numbers as fractions, and the laws of `Int` and `Count`.
-use Rattle.std.proofs.Common.{◌≡◌, ℕ, ◌+◌, ◌*◌, ◌<◌, ◌≤◌, ◌^◌, sym, refl, ap, ◌∙◌, subst, arith, ℤ, pos, negsuc, ◌+ℤ◌, ◌-ℤ◌, ◌*ℤ◌, neg_ℤ, unsigned_abs, Bool, true, false, FitsSigned, Option, Some, None, SomeIff, IsSome, IfSome, nat_lt}
+use Rattle.std.proofs.Common.{◌≡◌, ℕ, ◌+◌, ◌*◌, ◌<◌, ◌≤◌, ◌^◌, sym, refl, ap, ◌∙◌, subst, arith, ℤ, pos, negsuc, ◌+ℤ◌, ◌-ℤ◌, ◌*ℤ◌, neg_ℤ, unsigned_abs, Bool, true, false, FitsSigned, Option, Some, IsSome, IfSome, nat_lt}
 use Rattle.std.specs.Int.{w128}
 use Rattle.std.proofs.lemmas.Int.{ints, unsigned_abs-mul, fits_signed_from_abs}
 use Rattle.std.proofs.lemmas.Bool.{ltb-true, lt-ltb, both_ways}
@@ -30,13 +30,6 @@ pub IsSome-where_fits : {A : Type 0} (t : Bool) (x : A) → t ≡ true → IsSom
 IsSome-where_fits true x e = refl
 IsSome-where_fits false x e = absurd (both_ways false refl e)
 
--- an answer that is there exactly where a fact holds, which a test decides
-pub where_fits-from : {A : Type 0} (t : Bool) (P : Type 0) (x : A) (answer : Option A) → (t ≡ true → P) → (P → t ≡ true)
-    → SomeIff answer P x → answer ≡ where_fits t x
-where_fits-from t P x (Some y) from to h = ap Some h.1 ∙ sym (where_fits-true t x (to h.0))
-where_fits-from true P x None from to h = absurd (h (from refl))
-where_fits-from false P x None from to h = refl
-
 -- ---- the range of i128
 
 pub fits_from_test : (z : ℤ) → fits_128_bits z ≡ true → FitsSigned w128 z
@@ -47,14 +40,8 @@ pub test_from_fits : (z : ℤ) → FitsSigned w128 z → fits_128_bits z ≡ tru
 test_from_fits (pos n) f = lt-ltb n (2 ^ 127) (f.sfits)
 test_from_fits (negsuc n) f = lt-ltb n (2 ^ 127) (f.sfits)
 
-pub checked_i128-from : (z : ℤ) (answer : Option ℤ) → SomeIff answer (FitsSigned w128 z) z → answer ≡ checked_i128 z
-checked_i128-from z answer h = where_fits-from (fits_128_bits z) (FitsSigned w128 z) z answer (fits_from_test z) (test_from_fits z) h
-
 pub checked_i128-held : (z : ℤ) → IfSome (checked_i128 z) (FitsSigned w128)
 checked_i128-held z = IfSome-where_fits (fits_128_bits z) z (FitsSigned w128) (fits_from_test z)
-
-pub checked_u128-from : (n : ℕ) (answer : Option ℕ) → SomeIff answer (n < 2 ^ 128) n → answer ≡ checked_u128 n
-checked_u128-from n answer h = where_fits-from (nat_lt n (2 ^ 128)) (n < 2 ^ 128) n answer (ltb-true n (2 ^ 128)) (lt-ltb n (2 ^ 128)) h
 
 pub checked_u128-held : (n : ℕ) → IfSome (checked_u128 n) (λ m. m < 2 ^ 128)
 checked_u128-held n = IfSome-where_fits (nat_lt n (2 ^ 128)) n (λ m. m < 2 ^ 128) (ltb-true n (2 ^ 128))
