@@ -5,6 +5,7 @@ pub mod Judging
 pub mod Commands
 pub mod Joining
 pub mod WrittenLists
+pub mod WrittenExpressions
 pub mod WrittenCommands
 pub mod WrittenLetters
 pub mod LetterJudging

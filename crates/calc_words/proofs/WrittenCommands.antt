@@ -1,26 +1,28 @@
 -- Words without an offence keep the limits of their command.
-use Rattle.std.proofs.Common.{◌≡◌, ℕ, ◌+◌, ◌-◌, ◌≤◌, ◌==◌, Bool, true, false, cond, List, [], ◌∷◌, ◌++◌, map, length, refl, sym, ap, subst, ◌∙◌, arith, inl, inr, None}
+use Rattle.std.proofs.Common.{◌≡◌, ℕ, ◌+◌, ◌-◌, ◌*◌, ◌≤◌, ◌==◌, nat_lt, Bool, true, false, cond, List, [], ◌∷◌, ◌++◌, map, length, refl, sym, ap, subst, ◌∙◌, arith, inl, inr, None}
 use Rattle.std.proofs.lemmas.Bool.{and_parts, eqb-false}
 use Rattle.std.proofs.lemmas.List.{length-map}
 use Rattle.sym_model.specs.Partition.{without_last_zeros}
 use Rattle.sym_model.specs.Expansion.{Basis}
+use Rattle.sym_model.specs.Expression.{degree}
+use Rattle.sym_model.specs.Phrase.{tree, spelling}
 use Rattle.sym_model.specs.PrintedBlock.{decimal_value}
 use Rattle.sym_model.specs.Form.{Written, words_of, EachOf}
 use Rattle.sym_model.specs.Command.{Command, quantum}
-use Rattle.sym_model.specs.CommandOffence.{Offence, first_offence, most_factors, part_offences, factor_offences, permutation_offences, offences_by, rows_rule, lines_rule, seed_rule, judged_against, rows_in, is_lattice_tableau, expression_offences}
-use Rattle.sym_model.specs.ExpressionOffence.{WordOffence, range, shape, offences}
+use Rattle.sym_model.specs.CommandOffence.{Offence, first_offence, most_factors, part_offences, factor_offences, most_doubled, permutation_offences, permutation_offences_within, offences_by, rows_rule, lines_rule, seed_rule, judged_against, rows_in, is_lattice_tableau, offences_in_word}
+use Rattle.sym_model.specs.ExpressionOffence.{range, shape, degree_limit, plethysm_degree_limit, offences_within, inner_offences, sign_offences}
 use Rattle.sym_model.specs.GoodTableau.{column_reading, is_among, lattice_readings}
 use Rattle.sym_model.specs.Polynomial.{same}
 use Rattle.sym_model.specs.Schur.{row_lengths}
 use Rattle.sym_model.specs.Entry.{Entry, SpellsFreely, SpellsWithoutOffence}
 use Rattle.sym_model.specs.WordForms.{optional, rows_words, form_words, factors_words, from_words, tableau_rows, numbers, factors, factor_numbers, row_limit, row_limit_offences, partition}
-use Rattle.sym_model.specs.Grammar.{entries_of, two_partitions, option_words, mult_entry, skew_entry, coef_entry, coprod_entry, tab_entry, last_reading, not_listed, from_entries, quantum_entry, fusion_entry, schubert_entry, schubmult_entry, expand_entry, work_entry, rsk_entry}
-use Rattle.word_laws.proofs.CommandFacts.{within_degree}
+use Rattle.sym_model.specs.Grammar.{entries_of, two_partitions, option_words, mult_entry, skew_entry, coef_entry, coprod_entry, tab_entry, last_reading, not_listed, from_entries, quantum_entry, fusion_entry, schubert_entry, schubmult_entry, expand_entry, work_entry, rsk_entry, growth_entry, plethysm_entry, dschubmult_entry, stanley_entry}
 use Rattle.word_laws.proofs.FirstOffences.{first_none}
 use Rattle.calc_words.specs.WrittenLimits.{IsWritten, KeepsLimits, IsInList, IsRowLimit, AreWrittenFactors}
-use Rattle.calc_words.proofs.WrittenLetters.{written_letters}
+use Rattle.calc_words.proofs.WrittenLetters.{letters_within, written_letters}
 use Rattle.calc_words.proofs.WordJudging.{written_word}
-use Rattle.calc_words.proofs.WrittenLists.{none_append, none_first, none_map, none_judged, written, two_written, row_number, lines_number, seed_number}
+use Rattle.calc_words.proofs.WrittenExpressions.{not_past, none_in_word, within_limit, within_degree}
+use Rattle.calc_words.proofs.WrittenLists.{none_append, none_first, none_judged, written, two_written, row_number, lines_number, seed_number}
 
 abbrev Words : Type 0
 Words = List (List ℕ)
@@ -123,8 +125,22 @@ tab_keeps (name, (outer, (slash, (inner, after)))) h =
 expand_keeps : (bases : List Basis) → Keeps (expand_entry bases)
 expand_keeps bases (name, (form, (basis, phrase))) h =
     let k = 2 + length (words_of (optional form_words) form) in
-    within_degree basis phrase
-    (none_map (λ (o : WordOffence). (k, o.0, o.1)) (offences basis phrase) (first_none (expression_offences k basis phrase) h))
+    within_degree k (degree_limit basis) phrase h
+
+-- expressions of which neither offends by its degree, nor the two together
+plethysm_keeps : (bases : List Basis) → Keeps (plethysm_entry bases)
+plethysm_keeps bases (name, (basis, (outer, inner))) h =
+    let first = offences_in_word 2 (offences_within plethysm_degree_limit outer) in
+    let second = offences_in_word 3 (inner_offences inner) in
+    let past : List Offence = cond (nat_lt plethysm_degree_limit (degree (tree outer) * degree (tree inner))) ((3, length (spelling inner), range) ∷ []) [] in
+    let p = none_first (first ++ second) (judged_against first past) h in
+    let q = none_first first second p.0 in
+    let r = none_append (offences_within plethysm_degree_limit inner) (sign_offences 0 inner) (none_in_word 3 (inner_offences inner) q.1) in
+    let s = first_none past (ap first_offence (sym (none_judged first past q.0)) ∙ p.1) in (
+      within_degree 2 plethysm_degree_limit outer q.0,
+      within_limit plethysm_degree_limit inner r.0,
+      not_past plethysm_degree_limit (degree (tree outer) * degree (tree inner)) (3, length (spelling inner), range) s,
+    )
 
 schubert_keeps : Keeps schubert_entry
 schubert_keeps (name, (t, ts)) h = written_letters 1 (numbers (t ∷ ts)) (omega arith) h
@@ -135,6 +151,24 @@ schubmult_keeps (name, ((t, ts), (minus, (u, us)))) h =
     let right = numbers (u ∷ us) in
     let p = none_first (permutation_offences 1 left) (permutation_offences (2 + length left) right) h in
     (written_letters 1 left (omega arith) p.0, written_letters (2 + length left) right (omega arith) p.1)
+
+dschubmult_keeps : Keeps dschubmult_entry
+dschubmult_keeps (name, ((t, ts), (minus, (u, us)))) h =
+    let left = numbers (t ∷ ts) in
+    let right = numbers (u ∷ us) in
+    let p = none_first (permutation_offences_within most_doubled 1 left) (permutation_offences_within most_doubled (2 + length left) right) h in (
+      letters_within most_doubled 1 left (omega arith) (omega arith) p.0,
+      letters_within most_doubled (2 + length left) right (omega arith) (omega arith) p.1,
+    )
+
+growth_keeps : Keeps growth_entry
+growth_keeps (name, (t, ts)) h = written_letters 1 (numbers (t ∷ ts)) (omega arith) h
+
+stanley_keeps : Keeps stanley_entry
+stanley_keeps (name, ((option, variables), (t, ts))) h =
+    let w = numbers (t ∷ ts) in
+    let p = none_first (offences_by rows_rule 2 (decimal_value variables ∷ [])) (permutation_offences 3 w) h in
+    (row_number 2 (decimal_value variables) p.0, written_letters 3 w (omega arith) p.1)
 
 rsk_keeps : Keeps rsk_entry
 rsk_keeps (name, w) h = written_word 1 (numbers w) h
@@ -157,7 +191,8 @@ both p q = (p, q)
 pub all_keep : (bases : List Basis) → EachOf Keeps (entries_of bases)
 all_keep bases =
     both mult_keeps (both skew_keeps (both coef_keeps (both coprod_keeps (both tab_keeps (both quantum_keeps (both fusion_keeps (both schubert_keeps
-    (both schubmult_keeps (both (expand_keeps bases) (both rsk_keeps (both (λ x h. tt) (both (λ x h. tt) (both (λ x h. tt) (both work_keeps tt))))))))))))))
+    (both schubmult_keeps (both (expand_keeps bases) (both rsk_keeps (both (λ x h. tt) (both (λ x h. tt) (both growth_keeps
+    (both (plethysm_keeps bases) (both dschubmult_keeps (both stanley_keeps (both (λ x h. tt) (both work_keeps tt))))))))))))))))))
 
 pub words_keep : (bases : List Basis) (words : Words) (c : Command) → SpellsWithoutOffence (entries_of bases) words c → KeepsLimits c
 words_keep bases words c h = some_keeps (entries_of bases) (all_keep bases) words c h

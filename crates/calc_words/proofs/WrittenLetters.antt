@@ -1,36 +1,36 @@
--- What letters without an offence are: those of a permutation of at most 16 letters.
+-- What letters without an offence are: those of a permutation of at most so many letters.
 use Rattle.std.proofs.Common.{◌≡◌, ℕ, suc, ◌+◌, ◌<◌, ◌≤◌, ◌==◌, nat_lt, Bool, true, false, ◌||◌, cond, List, [], ◌∷◌, ◌++◌, length, refl, ap, ◌∙◌, arith, None, inl, inr, eq-eqb}
 use Rattle.std.proofs.lemmas.Bool.{eqb-false}
 use Rattle.sym_model.specs.Sum.{Among, Once}
 use Rattle.sym_model.specs.ExpressionOffence.{is_wide, literal, range, shape}
-use Rattle.sym_model.specs.CommandOffence.{first_offence, permutation_offences, permutation_rule, offences_after, when, is_outside, stands_in, most_permuted}
+use Rattle.sym_model.specs.CommandOffence.{first_offence, permutation_offences, permutation_offences_within, permutation_rule_within, offences_after, when, is_outside, stands_in, most_permuted}
 use Rattle.sym_model.specs.Permutation.{in_front_unless_fixed, without_fixed_from, kept}
 use Rattle.perm_codes.specs.Limits.{IsShortPermutation}
 use Rattle.perm_codes.proofs.WithinLimits.{kept_limits}
 use Rattle.word_laws.proofs.FirstOffences.{first_none}
-use Rattle.calc_words.specs.WrittenLimits.{IsWrittenPermutation}
+use Rattle.calc_words.specs.WrittenLimits.{IsPermutationWithin, IsWrittenPermutation}
 use Rattle.calc_words.proofs.WrittenLists.{none_append, none_next, not_when, not_either, inside}
 
 -- letters that stand behind others, none of which they are
-record AreLetters (count : ℕ) (before ns : List ℕ) : Type 0 where
+record AreLetters (most count : ℕ) (before ns : List ℕ) : Type 0 where
   letters : (b : ℕ) → Among b ns → (1 ≤ b) × (b ≤ count)
   new : (b : ℕ) → Among b ns → stands_in b before ≡ false
   once : Once ns
-  few : length before + length ns ≤ 16
+  few : length before + length ns ≤ most
 
-letters_fine : (count : ℕ) (before : List ℕ) (k : ℕ) (ns : List ℕ) → length before ≤ 16 → offences_after (permutation_rule count) before k ns ≡ []
-    → AreLetters count before ns
-letters_fine count before k [] f h = record { letters = λ b m. absurd m; new = λ b m. absurd m; once = tt; few = omega arith }
-letters_fine count before k (a ∷ ns) f h =
-    let n = none_next (permutation_rule count) before k a ns h in
-    let y = nat_lt most_permuted a || (length before == most_permuted) in
+letters_fine : (most count : ℕ) (before : List ℕ) (k : ℕ) (ns : List ℕ) → length before ≤ most
+    → offences_after (permutation_rule_within most count) before k ns ≡ [] → AreLetters most count before ns
+letters_fine most count before k [] f h = record { letters = λ b m. absurd m; new = λ b m. absurd m; once = tt; few = omega arith }
+letters_fine most count before k (a ∷ ns) f h =
+    let n = none_next (permutation_rule_within most count) before k a ns h in
+    let y = nat_lt most a || (length before == most) in
     let z = is_outside count a || stands_in a before in
     let p = none_append (when (is_wide a) literal ++ when y range) (when z shape) n.0 in
     let q = none_append (when (is_wide a) literal) (when y range) p.0 in
-    let room = not_either (nat_lt most_permuted a) (length before == most_permuted) (not_when y range q.1) in
+    let room = not_either (nat_lt most a) (length before == most) (not_when y range q.1) in
     let own = not_either (is_outside count a) (stands_in a before) (not_when z shape p.1) in
-    let more = eqb-false (length before) 16 room.1 in
-    let r = letters_fine count (a ∷ before) (k + 1) ns (omega (arith, more, f)) n.1 in
+    let more = eqb-false (length before) most room.1 in
+    let r = letters_fine most count (a ∷ before) (k + 1) ns (omega (arith, more, f)) n.1 in
     let bound = inside count a own.0 in
     record {
       letters = λ b m. within b bound r.letters m;
@@ -50,13 +50,18 @@ letters_fine count before k (a ∷ ns) f h =
     itself : stands_in a (a ∷ before) ≡ false → ⊥
     itself e = let x = (not_either (a == a) (stands_in a before) e).0 in let y = eq-eqb a a refl in cc
 
+short_within : (most k : ℕ) (ns : List ℕ) → most ≤ 16 → 0 < length ns → first_offence (permutation_offences_within most k ns) ≡ None
+    → IsShortPermutation ns × (length ns ≤ most)
+short_within most k ns m s h =
+    let f = letters_fine most (length ns) [] k ns (omega arith) (first_none (permutation_offences_within most k ns) h) in
+    let few = f.few in
+    (record { one_line = record { letters = f.letters; once = f.once }; some = s; few = omega (arith, m, few) }, omega (arith, few))
+
 -- letters of a permutation without an offence
 pub short_letters : (k : ℕ) (ns : List ℕ) → 0 < length ns → first_offence (permutation_offences k ns) ≡ None
     → IsShortPermutation ns × (length ns ≤ most_permuted)
 short_letters k ns s h =
-    let f = letters_fine (length ns) [] k ns (omega arith) (first_none (permutation_offences k ns) h) in
-    let few = f.few in
-    (record { one_line = record { letters = f.letters; once = f.once }; some = s; few = omega (arith, few) }, omega (arith, few))
+    short_within most_permuted k ns (omega arith) s h
 
 fewer_from : (i : ℕ) (w : List ℕ) → length (without_fixed_from i w) ≤ length w
 fewer_from i [] = omega arith
@@ -74,6 +79,11 @@ fewer_kept : (w : List ℕ) → length (kept w) ≤ length w
 fewer_kept [] = omega arith
 fewer_kept (a ∷ w) = let x = fewer_from 2 w in omega (arith, x)
 
-pub written_letters : (k : ℕ) (ns : List ℕ) → 0 < length ns → first_offence (permutation_offences k ns) ≡ None → IsWrittenPermutation (kept ns)
-written_letters k ns s h = let l = short_letters k ns s h in
+-- letters without an offence, of which at most so many may be written
+pub letters_within : (most k : ℕ) (ns : List ℕ) → most ≤ 16 → 0 < length ns → first_offence (permutation_offences_within most k ns) ≡ None
+    → IsPermutationWithin most (kept ns)
+letters_within most k ns m s h = let l = short_within most k ns m s h in
     record { kept = (kept_limits ns l.0).kept; few = (let x = fewer_kept ns in let y = l.1 in omega (arith, x, y)) }
+
+pub written_letters : (k : ℕ) (ns : List ℕ) → 0 < length ns → first_offence (permutation_offences k ns) ≡ None → IsWrittenPermutation (kept ns)
+written_letters k ns s h = letters_within most_permuted k ns (omega arith) s h

@@ -1,14 +1,14 @@
 -- The limits that the words of a command keep where they have no offence (this project's own).
-use Rattle.std.specs.Prelude.{◌≡◌, ◌≤◌, ℕ, true, List, length, Option, Some, None}
+use Rattle.std.specs.Prelude.{◌≡◌, ◌≤◌, ℕ, ◌*◌, true, List, length, Option, Some, None}
 use Rattle.sym_model.specs.Partition.{IsPartition, size, rows}
 use Rattle.sym_model.specs.GoodTableau.{is_among, lattice_readings}
 use Rattle.sym_model.specs.Permutation.{IsKept}
 use Rattle.sym_model.specs.Sum.{Among}
 use Rattle.sym_model.specs.Expression.{degree}
-use Rattle.sym_model.specs.ExpressionOffence.{degree_limit}
+use Rattle.sym_model.specs.ExpressionOffence.{degree_limit, plethysm_degree_limit}
 use Rattle.sym_model.specs.Form.{EachOf}
-use Rattle.sym_model.specs.Command.{Command, mult, skew, coef, coprod, tab, quantum, fusion, schubert, schubmult, expand, rsk, work}
-use Rattle.sym_model.specs.CommandOffence.{most_parts, most_cells, most_factors, most_permuted, most_letters, greatest_letter, most_rows, most_lines, greatest_seed}
+use Rattle.sym_model.specs.Command.{Command, mult, skew, coef, coprod, tab, quantum, fusion, schubert, schubmult, expand, rsk, growth, plethysm, dschubmult, stanley, work}
+use Rattle.sym_model.specs.CommandOffence.{most_parts, most_cells, most_factors, most_permuted, most_doubled, most_letters, greatest_letter, most_rows, most_lines, greatest_seed}
 
 -- a partition of at most 64 parts and at most 512 cells
 pub record IsWritten (parts : List ℕ) : Type 0 where
@@ -16,10 +16,14 @@ pub record IsWritten (parts : List ℕ) : Type 0 where
   pub few : rows parts ≤ most_parts
   pub small : size parts ≤ most_cells
 
--- a permutation of at most 16 letters, as it is kept
-pub record IsWrittenPermutation (w : List ℕ) : Type 0 where
+-- a permutation of at most so many letters, as it is kept
+pub record IsPermutationWithin (most : ℕ) (w : List ℕ) : Type 0 where
   pub kept : IsKept w
-  pub few : length w ≤ most_permuted
+  pub few : length w ≤ most
+
+-- a permutation of at most 16 letters, as it is kept
+abbrev pub IsWrittenPermutation : List ℕ → Type 0
+IsWrittenPermutation w = IsPermutationWithin most_permuted w
 
 -- a word of at most 256 letters from 1 to 65,535
 pub record IsWrittenWord (word : List ℕ) : Type 0 where
@@ -60,5 +64,11 @@ KeepsLimits (schubert w) = IsWrittenPermutation w
 KeepsLimits (schubmult left right) = IsWrittenPermutation left × IsWrittenPermutation right
 KeepsLimits (expand target one_line e) = degree e ≤ degree_limit target
 KeepsLimits (rsk word) = IsWrittenWord word
+KeepsLimits (growth w) = IsWrittenPermutation w
+KeepsLimits (plethysm target outer inner) =
+    (degree outer ≤ plethysm_degree_limit) × (degree inner ≤ plethysm_degree_limit)
+    × (degree outer * degree inner ≤ plethysm_degree_limit)
+KeepsLimits (dschubmult left right) = IsPermutationWithin most_doubled left × IsPermutationWithin most_doubled right
+KeepsLimits (stanley variables w) = IsRowNumber variables × IsWrittenPermutation w
 KeepsLimits (work lines seed) = (1 ≤ lines) × (lines ≤ most_lines) × (seed ≤ greatest_seed)
 KeepsLimits _ = Unit {0}
