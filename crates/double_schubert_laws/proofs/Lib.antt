@@ -6,3 +6,4 @@ pub mod DoubleFromOne
 pub mod BothRestrictions
 pub mod DoubleVariables
 pub mod ShiftedStep
+pub mod ProductSteps

@@ -103,7 +103,7 @@ shifted_step n r c w e φ o h =
     omega (arith, ints)
 
 -- the sum of y^e·S_v over permutations
-abbrev shifts_in : List (List ℕ) → List ℕ → ℕ → Poly
+abbrev pub shifts_in : List (List ℕ) → List ℕ → ℕ → Poly
 shifts_in ws e n = each (λ v. shifted_in (v, e) n) ws
 
 pub shifted_product : (w e : List ℕ) (r c n : ℕ) → IsOneLine w → 1 ≤ r
