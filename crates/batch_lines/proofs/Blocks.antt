@@ -1,16 +1,13 @@
 -- How many terms a block has.
-use Rattle.std.proofs.Common.{◌≡◌, ◌<◌, ◌≤◌, ℕ, ◌+◌, ◌==◌, Bool, true, false, cond, List, [], ◌∷◌, ◌++◌, length, take, get_or, refl, sym, ap, ◌∙◌, arith}
+use Rattle.std.proofs.Common.{◌≡◌, ◌<◌, ◌≤◌, ℕ, ◌+◌, ◌==◌, Bool, true, false, cond, List, [], ◌∷◌, length, take, get_or, refl, sym, ap, ◌∙◌, arith}
 use Rattle.std.specs.Prelude.{codes, bytes_eq}
 use Rattle.std.proofs.lemmas.List.{take_more}
 use Rattle.std.proofs.lemmas.Slice.Eq.{bytes_eq-Decides}
+use Rattle.sym_model.proofs.Contents.{times_in-append}
 use Rattle.sym_model.proofs.Exponents.{same_true}
 use Rattle.sym_model.specs.Polynomial.{same}
 use Rattle.sym_model.specs.Schur.{times_in}
 use Rattle.sym_model.specs.Workload.{terms_in}
-
-times_in-append : (k : ℕ) (xs ys : List ℕ) → times_in k (xs ++ ys) ≡ times_in k xs + times_in k ys
-times_in-append k [] ys = let e : times_in k ys ≡ 0 + times_in k ys = omega arith in e
-times_in-append k (x ∷ xs) ys = let h = times_in-append k xs ys in omega (arith, h)
 
 pub feeds_more : (xs : List ℕ) (i count more : ℕ) → i < length xs → count ≡ times_in 10 (take i xs) → more ≡ cond (get_or xs i 0 == 10) 1 0
     → count + more ≡ times_in 10 (take (i + 1) xs)
@@ -31,6 +28,3 @@ terms_some block count n c = by (same block (codes "0\n")) refl
     by : (b : Bool) → same block (codes "0\n") ≡ b → count ≡ terms_in block
     by true e = let clash = sym ((bytes_eq-Decides block (codes "0\n")).1 (same_true block (codes "0\n") e)) ∙ n in cc
     by false e = c ∙ sym (ap (λ b. cond b 0 (times_in 10 block)) e)
-
-pub terms_none : (block : List ℕ) → bytes_eq block (codes "0\n") ≡ true → 0 ≡ terms_in block
-terms_none block e = ap terms_in (sym ((bytes_eq-Decides block (codes "0\n")).0 e))

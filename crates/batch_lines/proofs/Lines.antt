@@ -57,7 +57,7 @@ line_last text h l =
 
 -- ---- what is read of a source that tells its bytes
 
-told : (all rest taken : List ℕ) → Took (Some all) (Some rest) taken → all ≡ taken ++ rest
+pub told : (all rest taken : List ℕ) → Took (Some all) (Some rest) taken → all ≡ taken ++ rest
 told all rest taken h = h
 
 at_feed : (pending all rest taken text behind : List ℕ) → all ≡ taken ++ rest → pending ++ taken ≡ text ++ 10 ∷ behind → HasNoFeed text
@@ -89,7 +89,7 @@ read_line all rest pending behind line allowance less ended r = by r.is_next.2 �
     by (inl e) = at_feed pending all rest r.taken r.text behind (told all rest r.taken r.took) e r.no_feed
     by (inr e) = either_way pending all rest r.taken r.text behind (told all rest r.taken r.took) r.no_feed e.1 (inr e.0)
 
-long_is : (text : List ℕ) → most_bytes < length text → batch_line text ≡ too_long
+pub long_is : (text : List ℕ) → most_bytes < length text → batch_line text ≡ too_long
 long_is text h = ap (λ t. cond t too_long (line_of_words (words_of_line (without_return text)))) (lt-ltb most_bytes (length text) h)
 
 pub read_long : (all rest pending behind line : List ℕ) (allowance less : ℕ) (ended : Bool) → ReadsNext (Some all) (Some rest) allowance less pending behind line ended TooLong

@@ -34,18 +34,6 @@ pub record ReadsSo (before now : Option (List ℕ)) (allowance less faults count
   pub bytes : first ++ taken ≡ text ++ pending
   pub heard : IsHeard text kept is_long
 
-pub begins : (told : Option (List ℕ)) (allowance faults : ℕ) (first kept : List ℕ) → kept ≡ [] → ReadsSo told told allowance allowance faults faults first first kept false
-begins told allowance faults first kept e = record {
-  taken = [];
-  took = took_nothing told;
-  spent = omega arith;
-  still = refl;
-  text = [];
-  no_feed = tt;
-  bytes = append-nil first;
-  heard = record { long = refl; whole = λ h. e; little = subst (λ xs. length xs ≤ most_bytes) (sym e) (omega arith) };
-}
-
 -- ---- a line that ends
 
 ended_at_feed : (text line : List ℕ) (is_long : Bool) (all pending : List ℕ) (now : Option (List ℕ)) → IsHeard text line is_long → EndsAtFeed all text pending

@@ -2,7 +2,6 @@
 use Rattle.std.proofs.Common.{◌≡◌, ◌≤◌, ◌<◌, ℕ, zero, suc, ◌+◌, ◌-◌, min, max, List, [], ◌∷◌, ◌++◌, append_assoc, append-nil, map, length, refl, sym, ap, ◌∙◌, arith}
 use Rattle.std.specs.Prelude.{codes, decimal}
 use Rattle.std.proofs.lemmas.Fmt.{length-decimal-le}
-use Rattle.sym_model.specs.Partition.{without_last_zeros}
 use Rattle.sym_model.specs.Sum.{each}
 use Rattle.sym_model.specs.TableauText.{separated}
 use Rattle.sym_model.specs.Permutation.{letters_by_code}
@@ -15,38 +14,10 @@ one_digit n h = length-decimal-le 1 n (omega arith) h (omega (arith, h))
 
 -- ---- three numbers that fall, without the zeros at their end
 
-pub kept_none : (a b c : ℕ) → b ≤ a → c ≤ b → a ≡ 0 → without_last_zeros (a ∷ b ∷ c ∷ []) ≡ []
-kept_none zero zero zero h k e = refl
-kept_none zero zero (suc c) h k e = absurd (omega (arith, k))
-kept_none zero (suc b) c h k e = absurd (omega (arith, h))
-kept_none (suc a) b c h k e = absurd (omega (arith, e))
-
-pub kept_one : (a b c : ℕ) → c ≤ b → (a ≡ 0 → ⊥) → b ≡ 0 → without_last_zeros (a ∷ b ∷ c ∷ []) ≡ a ∷ []
-kept_one zero b c k n e = absurd (n refl)
-kept_one (suc a) zero zero k n e = refl
-kept_one (suc a) zero (suc c) k n e = absurd (omega (arith, k))
-kept_one (suc a) (suc b) c k n e = absurd (omega (arith, e))
-
-pub kept_two : (a b c : ℕ) → (b ≡ 0 → ⊥) → c ≡ 0 → without_last_zeros (a ∷ b ∷ c ∷ []) ≡ a ∷ b ∷ []
-kept_two a zero c n e = absurd (n refl)
-kept_two zero (suc b) zero n e = refl
-kept_two (suc a) (suc b) zero n e = refl
-kept_two a (suc b) (suc c) n e = absurd (omega (arith, e))
-
-pub kept_three : (a b c : ℕ) → (c ≡ 0 → ⊥) → without_last_zeros (a ∷ b ∷ c ∷ []) ≡ a ∷ b ∷ c ∷ []
-kept_three a b zero n = absurd (n refl)
-kept_three zero zero (suc c) n = refl
-kept_three zero (suc b) (suc c) n = refl
-kept_three (suc a) zero (suc c) n = refl
-kept_three (suc a) (suc b) (suc c) n = refl
-
 -- ---- words with a space between them are a word and further ones behind spaces
 
 abbrev pub word : ℕ → List ℕ
 word n = codes " " ++ decimal n
-
-behind_two : (old a b : List ℕ) → (old ++ a) ++ b ≡ old ++ (a ++ b)
-behind_two old a b = append_assoc old a b
 
 spaced : (first : List ℕ) (words : List (List ℕ)) → separated (codes " ") (first ∷ words) ≡ first ++ each (λ w. codes " " ++ w) words
 spaced first [] = sym (append-nil first)
@@ -69,14 +40,6 @@ between_text name sign first second =
     spaced name (map decimal first ++ (sign ∷ map decimal second))
     ∙ ap (λ t. name ++ t) (each_numbers first (sign ∷ map decimal second))
     ∙ ap (λ t. name ++ (behind_spaces first ++ ((codes " " ++ sign) ++ t))) (last second)
-  where
-    last : (numbers : List ℕ) → each (λ w. codes " " ++ w) (map decimal numbers) ≡ behind_spaces numbers
-    last [] = refl
-    last (n ∷ numbers) = ap (λ t. (codes " " ++ decimal n) ++ t) (last numbers)
-
--- a name and numbers
-pub alone_text : (name numbers : List ℕ) → separated (codes " ") (name ∷ map decimal numbers) ≡ name ++ behind_spaces numbers
-alone_text name numbers = spaced name (map decimal numbers) ∙ ap (λ t. name ++ t) (last numbers)
   where
     last : (numbers : List ℕ) → each (λ w. codes " " ++ w) (map decimal numbers) ≡ behind_spaces numbers
     last [] = refl

@@ -55,16 +55,17 @@ impl LineReader {
     ///
     /// A line of more than 4,096 bytes is passed over as `TooLong`, and no more bytes of it are kept. `SourceFault` comes exactly where a call of the source
     /// failed, and then no line ends among the bytes that were taken. After an error bytes may be lost, and the reader is
-    /// not to be used. Where the source was found at its end no call of it is made, and the answer is `End`.
+    /// not to be used. Where the source was found at its end no call of it is made, and the answer is `End`; what is read is told
+    /// of a source in which nothing is left then, and so of the one that was found there.
     pub fn next<S: Source>(&mut self, source: &mut S) -> Result<Next, LineFault>
-        requires { IsAtEnd self.old.has_ended (S.left source.old) }
-        ensures reads { IfOk result (ReadsNext (S.left source.old) (S.left source.new) (S.allowance source.old) (S.allowance source.new)
+        ensures reads { IsAtEnd self.old.has_ended (S.left source.old)
+            → IfOk result (ReadsNext (S.left source.old) (S.left source.new) (S.allowance source.old) (S.allowance source.new)
             self.old.pending self.new.pending self.new.line self.new.has_ended) }
         ensures takes { (taken : List ℕ) × Took (S.left source.old) (S.left source.new) taken }
         ensures cuts { CutsLine (S.left source.old) (S.left source.new) self.old.pending self.old.has_ended result }
         ensures counts { CountsLine (S.faults source.old) (S.faults source.new) result }
         ensures later { S.faults source.old ≤ S.faults source.new }
-        ensures rests { self.old.has_ended ≡ true → source.new ≡ source.old }
+        ensures rests { self.old.has_ended ≡ true → (source.new ≡ source.old) × (result ≡ Ok Next.End) }
         ensures short { IfOk result (λ _. length self.new.pending ≤ most_pending) }
         ensures little { IfOk result (λ _. length self.new.line ≤ most_bytes) }
     {
