@@ -3,8 +3,8 @@ use Rattle.std.proofs.Common.{◌≡◌, ℕ, zero, suc, ◌+◌, ◌-◌, ◌<�
 use Rattle.std.proofs.lemmas.List.{take_more, take_all, length-map, map-append, get_or-map, get_or-take, length-take-le}
 use Rattle.sym_model.specs.Partition.{after}
 use Rattle.sym_model.specs.Permutation.{letter}
-use Rattle.sym_model.specs.Growth.{at_corner, growth_shape}
-use Rattle.growth_diagrams.specs.Grids.{grid_line, grid_lines, lines_in}
+use Rattle.sym_model.specs.Growth.{at_corner, grid_line, grid_lines, growth_shape}
+use Rattle.growth_diagrams.specs.Grids.{lines_in}
 
 length-after : (a n : ℕ) → length (after a n) ≡ n
 length-after a zero = refl

@@ -1,13 +1,16 @@
 //! The growth shapes of a permutation.
 ghost use Rattle.std.specs.Prelude.{◌≡◌, ◌-◌, ◌≤◌, IfOk, length};
-ghost use Rattle.sym_model.specs.Growth.{growth_shape};
+ghost use Rattle.sym_model.specs.Growth.{grid_line, growth_shape};
+ghost use Rattle.sym_model.specs.Insertion.{insertion_pair};
 ghost use Rattle.perm_codes.specs.Limits.{IsWithinLimits};
-ghost use Rattle.growth_diagrams.specs.Grids.{grid_line, grid_lines, lines_in};
+ghost use Rattle.row_insertion.specs.Pairs.{HaveOneShape};
 
 use crate::corner::shape_at_corner;
+use crate::edges::{column_tableau, line_tableau};
 use calc_base::NoMemory;
 use partitions::Partition;
 use perm_codes::Perm;
+use skew_shapes::Standard;
 use std::alloc::Global;
 use std::marker::Model;
 
@@ -20,7 +23,8 @@ pub struct Grid {
 
 impl Model for Grid {
     ghost use Rattle.std.specs.Prelude.{◌≡◌, ℕ, List};
-    ghost use Rattle.growth_diagrams.specs.Grids.{grid_lines, lines_in};
+    ghost use Rattle.sym_model.specs.Growth.{grid_lines};
+    ghost use Rattle.growth_diagrams.specs.Grids.{lines_in};
 
     ghost Value = { List ℕ };
 
@@ -45,6 +49,19 @@ impl Grid {
         ensures { result.now ≡ growth_shape self.now i j }
     {
         &self.lines[usize::from(i)][usize::from(j)]
+    }
+
+    /// The insertion tableau and the recording tableau of the permutation, read from the edges of its grid: the chains of
+    /// shapes in the last line and in the last column. Those of the inverse permutation are the same two, exchanged. Want
+    /// of memory is the only error.
+    pub fn pair_of(&self) -> Result<(Standard, Standard), NoMemory>
+        ensures pair { IfOk result (λ pair. (pair.0.rows, pair.1.rows) ≡ insertion_pair self.now) }
+        ensures one_shape { IfOk result (λ pair. HaveOneShape pair.0 pair.1) }
+    {
+        let alloc = *self.lines.allocator();
+        let p = line_tableau(alloc, self)?;
+        let q = column_tableau(alloc, self)?;
+        Ok((p, q))
     }
 }
 

@@ -1,0 +1,7 @@
+use Rattle.std.proofs.Common.{◌≡◌, length}
+use Rattle.sym_model.specs.Growth.{growth_shape, tableau_of_chain}
+use Rattle.row_insertion.specs.RowLists.{rows_in}
+use Rattle.growth_diagrams.proofs.edges.column_tableau.Given as goal
+
+abbrev pub invariant-loop-at : goal.invariant-loop-at
+invariant-loop-at l = rows_in l.rows.items ≡ tableau_of_chain (λ i. growth_shape l.grid i (length l.grid)) l.at
