@@ -3,6 +3,7 @@ use Rattle.std.proofs.Common.{◌≡◌, ℕ, ◌+◌, ◌<◌, ◌≤◌, lengt
 use Rattle.std.specs.Prelude.{codes, decimal, ℤ, pos, negsuc, nat_lt}
 use Rattle.std.specs.Fmt.{digits, signed_decimal}
 use Rattle.std.proofs.lemmas.List.{take_more, length-map, length-take-le, map-append}
+use Rattle.std.proofs.lemmas.Simd.{map-map}
 use Rattle.std.proofs.lemmas.Bool.{eq-eqb, ne_eqb, cond-true, cond-false, lt-ltb}
 use Rattle.sym_model.specs.Expansion.{Fraction, Terms}
 use Rattle.sym_model.specs.NumberText.{numbers_text}
@@ -37,6 +38,17 @@ separated-push separator (other ∷ pieces) piece at later =
     ap (λ t. separated separator (other ∷ pieces) ++ t) (cond-false (at == 0) piece (separator ++ piece) (ne_eqb at 0 (λ e. omega arith)))
     ∙ separated-behind separator piece other pieces
 
+-- one more item of a list
+pub texts-more : {N : Type 0} (separator : List ℕ) (text : N → List ℕ) (items : List N) (at : ℕ) (item : N)
+    → at < length items → item ≡ get_or items at item
+    → separated separator (map text (take at items)) ++ cond (at == 0) (text item) (separator ++ text item)
+    ≡ separated separator (map text (take (at + 1) items))
+texts-more separator text items at item below is =
+    separated-push separator (map text (take at items)) (text item) at
+    (length-map (take at items) text ∙ length-take-le at items (omega arith))
+    ∙ ap (separated separator) (sym (ap (map text) (take_more items at item below ∙ ap (λ y. take at items ++ y ∷ []) (sym is))
+    ∙ map-append text (take at items) (item ∷ [])))
+
 -- one more number of a list
 pub numerals-more : {N : Type 0} (separator : List ℕ) (number : N → ℕ) (numbers : List N) (at : ℕ) (item : N)
     → at < length numbers → item ≡ get_or numbers at item
@@ -44,18 +56,10 @@ pub numerals-more : {N : Type 0} (separator : List ℕ) (number : N → ℕ) (nu
     ++ cond (at == 0) (decimal (number item)) (separator ++ decimal (number item))
     ≡ separated separator (map decimal (map number (take (at + 1) numbers)))
 numerals-more separator number numbers at item below is =
-    separated-push separator (map decimal (map number (take at numbers))) (decimal (number item)) at long
-    ∙ ap (separated separator) (sym one_more)
-  where
-    long : length (map decimal (map number (take at numbers))) ≡ at
-    long = length-map (map number (take at numbers)) decimal ∙ length-map (take at numbers) number
-        ∙ length-take-le at numbers (omega arith)
-
-    one_more : map decimal (map number (take (at + 1) numbers)) ≡ map decimal (map number (take at numbers)) ++ decimal (number item) ∷ []
-    one_more =
-        ap (λ xs. map decimal (map number xs)) (take_more numbers at item below ∙ ap (λ y. take at numbers ++ y ∷ []) (sym is))
-        ∙ ap (map decimal) (map-append number (take at numbers) (item ∷ []))
-        ∙ map-append decimal (map number (take at numbers)) (number item ∷ [])
+    ap (λ pieces. separated separator pieces ++ cond (at == 0) (decimal (number item)) (separator ++ decimal (number item)))
+    (map-map decimal number (take at numbers))
+    ∙ texts-more separator (λ n. decimal (number n)) numbers at item below is
+    ∙ ap (separated separator) (sym (map-map decimal number (take (at + 1) numbers)))
 
 -- where no number is left, all are written
 pub numerals-all : {N : Type 0} (separator : List ℕ) (number : N → ℕ) (numbers : List N) (at : ℕ) → length numbers ≤ at

@@ -1,12 +1,12 @@
 -- The answers of the program as plain answers (this project's own).
 use Rattle.std.specs.Prelude.{ℤ, [], ◌∷◌, cond, nat_lt, nat_abs}
-use Rattle.sym_model.specs.Kind.{Kind as PlainKind, Label, number, expansion, product, pairs, powers, permutations, polynomial}
+use Rattle.sym_model.specs.Kind.{Kind as PlainKind, Label, number, expansion, product, pairs, powers, permutations, polynomial, shifts}
 use Rattle.sym_model.specs.Expansion.{Terms}
 use Rattle.sym_model.specs.Answer.{Answer as PlainAnswer, answer}
 use Rattle.expansion_printer.specs.declared.answer.Kind.{Kind}
 use Rattle.expansion_printer.specs.declared.answer.Kind.TheVariants as kinds
 use Rattle.expansion_printer.specs.declared.answer.Answer.{Answer}
-use Rattle.expansion_printer.specs.declared.answer.Answer.TheVariants.{Number, Expansion, Product, Pairs, Powers, Permutations, Polynomial}
+use Rattle.expansion_printer.specs.declared.answer.Answer.TheVariants.{Number, Expansion, Product, Pairs, Powers, Permutations, Polynomial, Shifts}
 
 -- the plain kind
 abbrev pub kind_of : Kind → PlainKind
@@ -17,6 +17,7 @@ kind_of kinds.Pairs = pairs
 kind_of kinds.Powers = powers
 kind_of kinds.Permutations = permutations
 kind_of kinds.Polynomial = polynomial
+kind_of kinds.Shifts = shifts
 
 -- the one term of a number, and no term for 0
 abbrev pub number_terms : ℤ → Terms (Label number)
@@ -31,6 +32,7 @@ plain_answer (Pairs terms) = answer pairs terms
 plain_answer (Powers terms) = answer powers terms
 plain_answer (Permutations terms) = answer permutations terms
 plain_answer (Polynomial terms) = answer polynomial terms
+plain_answer (Shifts terms) = answer shifts terms
 
 -- the kind of an answer
 abbrev pub kind_of_answer : Answer → PlainKind
@@ -41,3 +43,4 @@ kind_of_answer (Pairs terms) = pairs
 kind_of_answer (Powers terms) = powers
 kind_of_answer (Permutations terms) = permutations
 kind_of_answer (Polynomial terms) = polynomial
+kind_of_answer (Shifts terms) = shifts

@@ -5,7 +5,7 @@ ghost use Rattle.expansion_printer.specs.Answers.{kind_of, kind_of_answer};
 use coeff_rings::{Frac, Int};
 use partitions::Partition;
 use perm_codes::Perm;
-use sparse_polys::{Monomial, Pair, Power, Terms};
+use sparse_polys::{Monomial, Pair, Power, Shifted, Terms};
 
 /// The kinds of answers.
 #[derive(Clone, Copy, Debug, PartialEq, Eq, Hash)]
@@ -24,6 +24,8 @@ pub enum Kind {
     Permutations,
     /// Monomials.
     Polynomial,
+    /// Permutations with a monomial beside them.
+    Shifts,
 }
 
 /// An answer: a number, or a list of terms in the printed order.
@@ -43,6 +45,8 @@ pub enum Answer {
     Permutations { terms: Terms<Perm, Int> },
     /// A polynomial.
     Polynomial { terms: Terms<Monomial, Int> },
+    /// A combination of double Schubert polynomials, with monomials in the variables y.
+    Shifts { terms: Terms<Shifted, Int> },
 }
 
 impl Answer {
@@ -58,6 +62,7 @@ impl Answer {
             Answer::Powers { .. } => Kind::Powers,
             Answer::Permutations { .. } => Kind::Permutations,
             Answer::Polynomial { .. } => Kind::Polynomial,
+            Answer::Shifts { .. } => Kind::Shifts,
         }
     }
 }

@@ -31,6 +31,7 @@ pub fn print<K: Sink>(answer: &Answer, sink: &mut K) -> Result<(), SinkFault>
         Answer::Powers { terms } => put_result(put_terms(true, terms, sink)),
         Answer::Permutations { terms } => put_result(put_terms(true, terms, sink)),
         Answer::Polynomial { terms } => put_result(put_terms(true, terms, sink)),
+        Answer::Shifts { terms } => put_result(put_terms(true, terms, sink)),
     }
 }
 
@@ -47,6 +48,7 @@ pub fn tell_printable(answer: &Answer)
         Answer::Powers { terms } => tell_terms(terms),
         Answer::Permutations { terms } => tell_terms(terms),
         Answer::Polynomial { terms } => tell_terms(terms),
+        Answer::Shifts { terms } => tell_terms(terms),
     }
 }
 

@@ -1,5 +1,5 @@
 //! Answers of commands, and the one place where they are printed: the block of an answer or its one-line form, the line of a
-//! refusal, and the line of an answer that is too large; the lines of words and tableaux, and single labels.
+//! refusal, and the line of an answer that is too large; the lines of words, tableaux and shapes, and single labels.
 //!
 //! A printer puts its text piece by piece to any sink. Where a put fails none follows, and what was put is a prefix of the
 //! text. No memory is taken.
@@ -23,4 +23,4 @@ pub use block::{print, tell_printable};
 pub use line::print_one_line;
 pub use refusal::{print_large, print_refusal};
 pub use tableau::{print_reading, print_tableau};
-pub use words::{print_label, print_letters};
+pub use words::{print_label, print_letters, print_shapes};

@@ -1,13 +1,13 @@
 //! The labels of lines.
 ghost use Rattle.std.specs.Prelude.{List, ℕ};
 ghost use Rattle.calc_base.specs.Puts.{Puts};
-ghost use Rattle.sym_model.specs.Kind.{LabelRules, label_rules, expansion, pairs, powers, permutations, polynomial};
+ghost use Rattle.sym_model.specs.Kind.{LabelRules, label_rules, expansion, pairs, powers, permutations, polynomial, shifts};
 
 use crate::numbers::{put_label, put_number};
 use calc_base::{Sink, put_if};
 use partitions::Partition;
 use perm_codes::Perm;
-use sparse_polys::{Label, Monomial, Pair, Power};
+use sparse_polys::{Label, Monomial, Pair, Power, Shifted};
 
 /// Labels that stand on a line behind its coefficient.
 pub(crate) trait Named: Label {
@@ -63,5 +63,15 @@ impl Named for Monomial {
     fn put_name<K: Sink>(&self, well: bool, sink: &mut K) -> bool {
         let gap = put_if(well, sink, b"  ");
         put_label(gap, self.exponents(), sink)
+    }
+}
+
+impl Named for Shifted {
+    ghost line_rules = { label_rules shifts };
+
+    fn put_name<K: Sink>(&self, well: bool, sink: &mut K) -> bool {
+        let perm = self.perm.put_name(well, sink);
+        let gap = put_if(perm, sink, b" ");
+        put_label(gap, self.y.exponents(), sink)
     }
 }

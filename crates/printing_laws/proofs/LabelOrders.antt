@@ -72,9 +72,6 @@ label_order-total permutations = permutation_order-total
 label_order-total polynomial = printed_order-total
 label_order-total shifts = then_total (on_total (λ (p : List ℕ × List ℕ). p.0) permutation_order-total) (on_total (λ (p : List ℕ × List ℕ). p.1) printed_order-total)
 
-pub shifted_order-total : IsTotalOrder shifted_order
-shifted_order-total = label_order-total shifts
-
 -- ---- labels that tie are the same
 
 partitions-tie : (x y : List ℕ) → is_label x ≡ true → is_label y ≡ true → printed_order x y ≡ Equal → x ≡ y
@@ -145,7 +142,7 @@ powers-tie x y h k e =
     let p = then-equal (nat_cmp x.0 y.0) (printed_order x.1 y.1) e in
     ap₂ (λ a b. (a, b)) (nat_cmp-equal x.0 y.0 p.0) (partitions-tie x.1 y.1 (and_parts _ _ h).1 (and_parts _ _ k).1 p.1)
 
-pub shifted-tie : (x y : List ℕ × List ℕ) → is_shifted_label x ≡ true → is_shifted_label y ≡ true → shifted_order x y ≡ Equal → x ≡ y
+shifted-tie : (x y : List ℕ × List ℕ) → is_shifted_label x ≡ true → is_shifted_label y ≡ true → shifted_order x y ≡ Equal → x ≡ y
 shifted-tie x y h k e =
     let p = then-equal (permutation_order x.0 y.0) (printed_order x.1 y.1) e in
     let first = permutations-tie x.0 y.0 (and_parts _ _ h).0 (and_parts _ _ k).0 p.0 in

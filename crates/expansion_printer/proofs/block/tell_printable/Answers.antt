@@ -1,5 +1,5 @@
-use Rattle.sym_model.specs.LabelLimits.{is_label, is_pair_label, is_power_label, is_permutation_label, is_monomial_label}
-use Rattle.sym_model.specs.PrintedOrder.{printed_order, pair_order, power_order, permutation_order}
+use Rattle.sym_model.specs.LabelLimits.{is_label, is_pair_label, is_power_label, is_permutation_label, is_monomial_label, is_shifted_label}
+use Rattle.sym_model.specs.PrintedOrder.{printed_order, pair_order, power_order, permutation_order, shifted_order}
 use Rattle.expansion_printer.proofs.PrintableTerms.{whole-printable, fractions-printable}
 use Rattle.expansion_printer.proofs.block.tell_printable.Goals as goal
 
@@ -32,3 +32,8 @@ pub returns-in-Polynomial : goal.returns-in-Polynomial
 returns-in-Polynomial c =
     let e = c.tell_terms-in-Polynomial.ensures in
     rw c.in-Polynomial.is (whole-printable printed_order is_monomial_label c.in-Polynomial.terms e.held e.canonical)
+
+pub returns-in-Shifts : goal.returns-in-Shifts
+returns-in-Shifts c =
+    let e = c.tell_terms-in-Shifts.ensures in
+    rw c.in-Shifts.is (whole-printable shifted_order is_shifted_label c.in-Shifts.terms e.held e.canonical)
