@@ -1,5 +1,5 @@
 -- What the reader builds, tied to the phrase that is read.
-use Rattle.std.proofs.Common.{◌≡◌, ℕ, zero, suc, ◌+◌, ◌*◌, ◌<◌, ◌≤◌, List, [], ◌∷◌, ◌++◌, length, refl, sym, ap, ◌∙◌, arith, None}
+use Rattle.std.proofs.Common.{◌≡◌, ℕ, zero, suc, ◌*◌, ◌<◌, ◌≤◌, List, [], ◌∷◌, ◌++◌, length, refl, sym, ap, ◌∙◌, arith, None}
 use Rattle.sym_model.specs.Partition.{Falls, size, rows, without_last_zeros, in_front}
 use Rattle.sym_model.proofs.Parts.{length-without_last_zeros, size-in_front}
 use Rattle.expression_laws.specs.LeftToRight.{Opened, outermost, inside, BeforeTerm, no_term, BeforeFactor, no_factor, State, at, awaited, closed, opens, closes, join, Piece, found, after_factor, before_factor}
@@ -10,11 +10,6 @@ use Rattle.calc_expressions.specs.Building.{Built, builds, terms_in, factors_in,
 pub opened-snoc : (o : Opened Built) (fs : List Frame) (f : Frame) → opened_from o (fs ++ f ∷ []) ≡ inside (opened_from o fs) (terms_in f.terms) (factors_in f.factors)
 opened-snoc o [] f = refl
 opened-snoc o (g ∷ fs) f = opened-snoc (inside o (terms_in g.terms) (factors_in g.factors)) fs f
-
-length-in_front : (a : ℕ) (xs : List ℕ) → length (in_front a xs) ≤ length xs + 1
-length-in_front zero [] = omega arith
-length-in_front zero (b ∷ xs) = omega arith
-length-in_front (suc a) xs = omega arith
 
 size-within : (ns : List ℕ) → AreAtMost 20 ns → size (without_last_zeros ns) ≤ 20 * length ns
 size-within [] h = omega arith

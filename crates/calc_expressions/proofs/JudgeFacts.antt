@@ -5,15 +5,16 @@ use Rattle.std.proofs.lemmas.Bool.{cases_lt, or_cases}
 use Rattle.std.specs.Prelude.{codes, Result, Ok, Err, IfOk}
 use Rattle.std.specs.Bool.{then_some}
 use Rattle.sym_model.specs.Sum.{each}
-use Rattle.sym_model.specs.Expansion.{Basis, monomials, elementaries, completes, power_sums, schurs}
+use Rattle.sym_model.specs.Expansion.{Basis}
 use Rattle.sym_model.specs.Partition.{size, without_last_zeros}
 use Rattle.sym_model.specs.Expression.{Tree, degree, nesting}
 use Rattle.sym_model.specs.PrintedBlock.{decimal_value}
 use Rattle.sym_model.specs.NumberWord.{AreNumberWords, comma_separated}
-use Rattle.sym_model.specs.Phrase.{Operator, plus, minus, times, Phrase, numeral, ratio, label, brackets, minus_first, operation, Level, expression, term, level_of, level_after, Is, tree, join_trees, sign, spelling, SpellsPhrase}
-use Rattle.sym_model.specs.ExpressionOffence.{OffenceKind, range, Mark, marks, entry_marks, offences_at, offences_of_whole, offences, WordOffence, earlier, first_of, comes_first, degree_limit}
+use Rattle.sym_model.specs.Phrase.{Operator, plus, minus, times, Phrase, numeral, ratio, label, brackets, minus_first, operation, Level, expression, term, level_of, level_after, Is, tree, join_trees, spelling, SpellsPhrase}
+use Rattle.sym_model.specs.ExpressionOffence.{OffenceKind, range, Mark, marks, entry_marks, offences_at, offences_of_whole_within, offences_within, WordOffence, earlier, first_of, comes_first}
 use Rattle.sym_model.proofs.Parts.{size-in_front}
 use Rattle.sym_model.proofs.Numbers.{nat_lt-false}
+use Rattle.expression_laws.proofs.SignRuns.{joined-length}
 use Rattle.calc_expressions.specs.declared.reading.ExpressionFault.{ExpressionFault}
 use Rattle.calc_expressions.specs.declared.reading.ExpressionFault.TheVariants.{Syntax, Literal, Range as FRange, Shape, NoMemory}
 use Rattle.calc_expressions.specs.declared.formula.Formula.{Formula}
@@ -22,7 +23,7 @@ use Rattle.calc_expressions.specs.declared.offence.Kind.TheVariants.{Range}
 use Rattle.calc_expressions.specs.declared.scan.Scan.{Scan}
 use Rattle.calc_expressions.specs.declared.expr.Expr.{Expr}
 use Rattle.calc_expressions.specs.Trees.{tree_of, IsFormula}
-use Rattle.calc_expressions.specs.Reading.{IsRead, IsFaultOf}
+use Rattle.calc_expressions.specs.Reading.{IsReadBy, IsFaultOf}
 use Rattle.calc_expressions.specs.Offences.{first_kind, offence_in}
 use Rattle.calc_expressions.specs.ScanSteps.{any_high, is_high}
 use Rattle.calc_expressions.specs.Building.{Built, built_of, AreMild}
@@ -103,14 +104,6 @@ nesting-joined : (operator : Operator) (e f : Tree) → nesting (join_trees oper
 nesting-joined plus e f = refl
 nesting-joined minus e f = refl
 nesting-joined times e f = refl
-
-sign-length : (operator : Operator) → length (sign operator) ≡ 1
-sign-length plus = refl
-sign-length minus = refl
-sign-length times = refl
-
-joined-length : (operator : Operator) (l r : Phrase) → length (spelling (operation operator l r)) ≡ length (spelling l) + 1 + length (spelling r)
-joined-length operator l r = simp length-append (omega (arith, sign-length operator))
 
 -- a phrase is no longer than it is nested
 pub nesting-within : (level : Level) (e : Phrase) → Is level e → nesting (tree e) ≤ length (spelling e)
@@ -223,14 +216,14 @@ abbrev pub first_before_degree : Phrase → Option WordOffence
 first_before_degree e = earlier (first_of (each offences_at (marks 0 0 e))) (long_offence (length (spelling e)))
 
 -- the offence of too high a degree
-abbrev high_offence : Basis → Phrase → Option WordOffence
-high_offence target e = cond (nat_lt (degree_limit target) (degree (tree e))) (Some (length (spelling e), range)) None
+abbrev high_offence : ℕ → Phrase → Option WordOffence
+high_offence limit e = cond (nat_lt limit (degree (tree e))) (Some (length (spelling e), range)) None
 
-all_offences : (target : Basis) (e : Phrase) → first_of (offences target e) ≡ earlier (first_before_degree e) (high_offence target e)
-all_offences target e =
-    first_of-append (each offences_at (marks 0 0 e)) (offences_of_whole target e)
+all_offences : (limit : ℕ) (e : Phrase) → first_of (offences_within limit e) ≡ earlier (first_before_degree e) (high_offence limit e)
+all_offences limit e =
+    first_of-append (each offences_at (marks 0 0 e)) (offences_of_whole_within limit e)
     ∙ ap (earlier (first_of (each offences_at (marks 0 0 e))))
-    (first_of_whole (nat_lt 4096 (length (spelling e))) (nat_lt (degree_limit target) (degree (tree e))) (4096, range) (length (spelling e), range))
+    (first_of_whole (nat_lt 4096 (length (spelling e))) (nat_lt limit (degree (tree e))) (4096, range) (length (spelling e), range))
     ∙ sym (earlier-assoc (first_of (each offences_at (marks 0 0 e))) (long_offence (length (spelling e))) _)
 
 long_is : (n : ℕ) (o : WordOffence) (b : Bool) → nat_lt 4096 n ≡ b → cond b (Some (4096, range)) None ≡ Some o → o.0 < n
@@ -247,45 +240,38 @@ first_stays : (o : WordOffence) (n : ℕ) (h : Bool) → o.0 < n → earlier (So
 first_stays o n true l = ap (λ c. cond c (Some o) (Some (n, range))) (before-end n o.0 o.1 l)
 first_stays o n false l = refl
 
-pub judge-some : (target : Basis) (e : Phrase) (o : WordOffence) → Is expression e → first_before_degree e ≡ Some o → first_of (offences target e) ≡ Some o
-judge-some target e o a h =
+pub judge-some : (limit : ℕ) (e : Phrase) (o : WordOffence) → Is expression e → first_before_degree e ≡ Some o → first_of (offences_within limit e) ≡ Some o
+judge-some limit e o a h =
     let n = length (spelling e) in
     let below : o.0 < n =
     ⊎_elim
     (λ mark. first-below n (marks 0 0 e) o (below-more (0 + n) n (marks 0 0 e) (omega arith) (marks-below expression 0 0 e a)) mark)
     (λ long. long_is n o (nat_lt 4096 n) refl long)
     (first_is (first_of (each offences_at (marks 0 0 e))) (long_offence n) o h) in
-    all_offences target e ∙ ap (λ f. earlier f (high_offence target e)) h
-    ∙ first_stays o n (nat_lt (degree_limit target) (degree (tree e))) below
+    all_offences limit e ∙ ap (λ f. earlier f (high_offence limit e)) h
+    ∙ first_stays o n (nat_lt limit (degree (tree e))) below
 
 high_test : (l d : ℕ) → l < d → nat_lt l d ≡ true
 high_test l d h = grind (arith, nat_tests)
 
-pub judge-high : (target : Basis) (e : Phrase) → first_before_degree e ≡ None → degree_limit target < degree (tree e) → first_of (offences target e) ≡ Some (length (spelling e), range)
-judge-high target e h k =
-    all_offences target e ∙ ap (λ f. earlier f (high_offence target e)) h
-    ∙ ap (λ b. cond b (Some (length (spelling e), range)) None) (high_test (degree_limit target) (degree (tree e)) k)
+pub judge-high : (limit : ℕ) (e : Phrase) → first_before_degree e ≡ None → limit < degree (tree e) → first_of (offences_within limit e) ≡ Some (length (spelling e), range)
+judge-high limit e h k =
+    all_offences limit e ∙ ap (λ f. earlier f (high_offence limit e)) h
+    ∙ ap (λ b. cond b (Some (length (spelling e), range)) None) (high_test limit (degree (tree e)) k)
 
-pub judge-none : (target : Basis) (e : Phrase) → first_before_degree e ≡ None → degree (tree e) ≤ degree_limit target → first_of (offences target e) ≡ None
-judge-none target e h k =
-    all_offences target e ∙ ap (λ f. earlier f (high_offence target e)) h
-    ∙ ap (λ b. cond b (Some (length (spelling e), range)) None) (nat_lt-false (degree_limit target) (degree (tree e)) k)
+pub judge-none : (limit : ℕ) (e : Phrase) → first_before_degree e ≡ None → degree (tree e) ≤ limit → first_of (offences_within limit e) ≡ None
+judge-none limit e h k =
+    all_offences limit e ∙ ap (λ f. earlier f (high_offence limit e)) h
+    ∙ ap (λ b. cond b (Some (length (spelling e), range)) None) (nat_lt-false limit (degree (tree e)) k)
 
 -- no degree past the limit where there is no offence
-pub none-low : (target : Basis) (e : Phrase) → first_of (offences target e) ≡ None → degree (tree e) ≤ degree_limit target
-none-low target e h = by (nat_lt (degree_limit target) (degree (tree e))) refl (none_right (first_before_degree e) _ (sym (all_offences target e) ∙ h))
+pub none-low : (limit : ℕ) (e : Phrase) → first_of (offences_within limit e) ≡ None → degree (tree e) ≤ limit
+none-low limit e h = by (nat_lt limit (degree (tree e))) refl (none_right (first_before_degree e) _ (sym (all_offences limit e) ∙ h))
   where
-    by : (b : Bool) → nat_lt (degree_limit target) (degree (tree e)) ≡ b → ◌≡◌ {A = Option WordOffence} (cond b (Some (length (spelling e), range)) None) None
-        → degree (tree e) ≤ degree_limit target
+    by : (b : Bool) → nat_lt limit (degree (tree e)) ≡ b → ◌≡◌ {A = Option WordOffence} (cond b (Some (length (spelling e), range)) None) None
+        → degree (tree e) ≤ limit
     by true k n = cc
     by false k n = grind (arith, nat_tests)
-
-limit-within : (target : Basis) → degree_limit target ≤ 20
-limit-within monomials = omega arith
-limit-within elementaries = omega arith
-limit-within completes = omega arith
-limit-within power_sums = omega arith
-limit-within schurs = omega arith
 
 pub no_mark-offence : (e : Phrase) → first_before_degree e ≡ None → first_of (each offences_at (marks 0 0 e)) ≡ None
 no_mark-offence e h = none_left _ _ h
@@ -312,22 +298,22 @@ kept-first w e s l r h f k m =
     ∙ ap (earlier (first_of (each offences_at (marks 0 0 e))))
     (ap (option_map offence_in) k ∙ long_kept (nat_lt 4096 (length w)) ∙ ap (λ v. long_offence (length v)) h.spelled)
 
-pub fault-judged : (target : Basis) (w : List ℕ) (e : Phrase) (o : WordOffence) (f : ExpressionFault) → SpellsPhrase w e → first_of (offences target e) ≡ Some o → IsFaultOf o f → IsRead target w (Err f)
-fault-judged target w e o (Literal byte) h k l = (e, h, k ∙ ap Some l)
-fault-judged target w e o (FRange byte) h k l = (e, h, k ∙ ap Some l)
-fault-judged target w e o (Shape byte) h k l = (e, h, k ∙ ap Some l)
-fault-judged target w e o (Syntax byte) h k l = absurd l
-fault-judged target w e o NoMemory h k l = absurd l
+pub fault-judged : (limit : ℕ) (w : List ℕ) (e : Phrase) (o : WordOffence) (f : ExpressionFault) → SpellsPhrase w e → first_of (offences_within limit e) ≡ Some o → IsFaultOf o f → IsReadBy (offences_within limit) w (Err f)
+fault-judged limit w e o (Literal byte) h k l = (e, h, k ∙ ap Some l)
+fault-judged limit w e o (FRange byte) h k l = (e, h, k ∙ ap Some l)
+fault-judged limit w e o (Shape byte) h k l = (e, h, k ∙ ap Some l)
+fault-judged limit w e o (Syntax byte) h k l = absurd l
+fault-judged limit w e o NoMemory h k l = absurd l
 
 -- an expression of a high degree, and one that is a formula
-past-judged : (target : Basis) (w : List ℕ) (e : Phrase) (f : ExpressionFault) → SpellsPhrase w e → first_before_degree e ≡ None → degree_limit target < degree (tree e)
-    → IsFaultOf (length w, range) f → IsRead target w (Err f)
-past-judged target w e f h k d l =
-    fault-judged target w e (length w, range) f h (judge-high target e k d ∙ ap (λ v. Some (length v, range)) (sym h.spelled)) l
+past-judged : (limit : ℕ) (w : List ℕ) (e : Phrase) (f : ExpressionFault) → SpellsPhrase w e → first_before_degree e ≡ None → limit < degree (tree e)
+    → IsFaultOf (length w, range) f → IsReadBy (offences_within limit) w (Err f)
+past-judged limit w e f h k d l =
+    fault-judged limit w e (length w, range) f h (judge-high limit e k d ∙ ap (λ v. Some (length v, range)) (sym h.spelled)) l
 
-pub high-judged : (target : Basis) (w : List ℕ) (e : Phrase) (f : ExpressionFault) → SpellsPhrase w e → first_before_degree e ≡ None → 20 < degree (tree e)
-    → IsFaultOf (length w, range) f → IsRead target w (Err f)
-high-judged target w e f h k d l = past-judged target w e f h k (omega (arith, limit-within target, d)) l
+pub high-judged : (limit : ℕ) (w : List ℕ) (e : Phrase) (f : ExpressionFault) → limit ≤ 20 → SpellsPhrase w e → first_before_degree e ≡ None → 20 < degree (tree e)
+    → IsFaultOf (length w, range) f → IsReadBy (offences_within limit) w (Err f)
+high-judged limit w e f m h k d l = past-judged limit w e f h k (omega (arith, m, d)) l
 
 formula-is : (x : Expr) (e : Phrase) → built_of x ≡ (tree e, true) → Is expression e → length (spelling e) ≤ 4096 → degree (tree e) ≤ 20 → IsFormula x
 formula-is x e b a h d =
@@ -338,30 +324,30 @@ formula-is x e b a h d =
       low = omega (arith, ap degree t, d);
     }
 
-pub refused-judged : (target : Basis) (w : List ℕ) (e : Phrase) (x : Expr) (f : ExpressionFault) → SpellsPhrase w e → first_before_degree e ≡ None → built_of x ≡ (tree e, true)
-    → (IsFormula x → ⊥) → IsFaultOf (length w, range) f → IsRead target w (Err f)
-refused-judged target w e x f h k b n l =
+pub refused-judged : (limit : ℕ) (w : List ℕ) (e : Phrase) (x : Expr) (f : ExpressionFault) → limit ≤ 20 → SpellsPhrase w e → first_before_degree e ≡ None → built_of x ≡ (tree e, true)
+    → (IsFormula x → ⊥) → IsFaultOf (length w, range) f → IsReadBy (offences_within limit) w (Err f)
+refused-judged limit w e x f m h k b n l =
     ⊎_elim
-    (λ d. high-judged target w e f h k d l)
+    (λ d. high-judged limit w e f m h k d l)
     (λ d. absurd (n (formula-is x e b h.allowed (short e k) d)))
     (cases_lt 20 (degree (tree e)))
 
-pub degree-judged : (target : Basis) (w : List ℕ) (e : Phrase) (x y : Expr) (f : ExpressionFault) → SpellsPhrase w e → first_before_degree e ≡ None → built_of x ≡ (tree e, true)
-    → y ≡ x → degree_limit target < degree (tree_of y) → IsFaultOf (length w, range) f → IsRead target w (Err f)
-degree-judged target w e x y f h k b s d l =
+pub degree-judged : (limit : ℕ) (w : List ℕ) (e : Phrase) (x y : Expr) (f : ExpressionFault) → SpellsPhrase w e → first_before_degree e ≡ None → built_of x ≡ (tree e, true)
+    → y ≡ x → limit < degree (tree_of y) → IsFaultOf (length w, range) f → IsReadBy (offences_within limit) w (Err f)
+degree-judged limit w e x y f h k b s d l =
     let t : tree_of y ≡ tree e = ap tree_of s ∙ ap (λ (z : Built). z.0) b in
-    past-judged target w e f h k (omega (arith, ap degree t, d)) l
+    past-judged limit w e f h k (omega (arith, ap degree t, d)) l
 
-pub formula-judged : (target : Basis) (w : List ℕ) (e : Phrase) (x : Expr) (f : Formula) → SpellsPhrase w e → first_before_degree e ≡ None → built_of x ≡ (tree e, true)
-    → f.tree ≡ x → degree (tree_of f.tree) ≤ degree_limit target → IsRead target w (Ok f)
-formula-judged target w e x f h k b s d =
+pub formula-judged : (limit : ℕ) (w : List ℕ) (e : Phrase) (x : Expr) (f : Formula) → SpellsPhrase w e → first_before_degree e ≡ None → built_of x ≡ (tree e, true)
+    → f.tree ≡ x → degree (tree_of f.tree) ≤ limit → IsReadBy (offences_within limit) w (Ok f)
+formula-judged limit w e x f h k b s d =
     let t : tree_of f.tree ≡ tree e = ap tree_of s ∙ ap (λ (z : Built). z.0) b in
-    (e, h, judge-none target e k (omega (arith, ap degree t, d)), t)
+    (e, h, judge-none limit e k (omega (arith, ap degree t, d)), t)
 
 -- an expression without offence has a degree within the limit
-read-low : (target : Basis) (w : List ℕ) (f : Formula) → IsRead target w (Ok f) → degree (tree_of f.tree) ≤ degree_limit target
-read-low target w f h = omega (arith, ap degree h.3, none-low target h.0 h.2)
+read-low : (limit : ℕ) (w : List ℕ) (f : Formula) → IsReadBy (offences_within limit) w (Ok f) → degree (tree_of f.tree) ≤ limit
+read-low limit w f h = omega (arith, ap degree h.3, none-low limit h.0 h.2)
 
-pub result-low : (target : Basis) (w : List ℕ) (r : Result Formula ExpressionFault) → IsRead target w r → IfOk r (λ f. degree (tree_of f.tree) ≤ degree_limit target)
-result-low target w (Ok f) h = read-low target w f h
-result-low target w (Err e) h = tt
+pub result-low : (limit : ℕ) (w : List ℕ) (r : Result Formula ExpressionFault) → IsReadBy (offences_within limit) w r → IfOk r (λ f. degree (tree_of f.tree) ≤ limit)
+result-low limit w (Ok f) h = read-low limit w f h
+result-low limit w (Err e) h = tt

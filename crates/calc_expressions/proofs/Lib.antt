@@ -7,3 +7,4 @@ pub mod ScanRuns
 pub mod BuildFacts
 pub mod BuildRuns
 pub mod JudgeFacts
+pub mod SignJudging

@@ -6,3 +6,4 @@ pub mod Offences
 pub mod ScanSteps
 pub mod Building
 pub mod Reading
+pub mod Signs

@@ -2,11 +2,11 @@
 ghost use Rattle.std.specs.Prelude.{◌≡◌, ◌≤◌, IfOk, MatchOption};
 ghost use Rattle.sym_model.specs.Phrase.{Phrase, SpellsPhrase};
 ghost use Rattle.sym_model.specs.Expression.{degree};
-ghost use Rattle.sym_model.specs.ExpressionOffence.{degree_limit};
+ghost use Rattle.sym_model.specs.ExpressionOffence.{degree_limit, offences_within};
 ghost use Rattle.calc_expressions.specs.Trees.{basis_of, tree_of};
 ghost use Rattle.calc_expressions.specs.Offences.{offence_in};
 ghost use Rattle.calc_expressions.specs.ScanSteps.{IsScanned};
-ghost use Rattle.calc_expressions.specs.Reading.{IsRead, IsWrongByte, IsFaultOf};
+ghost use Rattle.calc_expressions.specs.Reading.{IsRead, IsReadBy, IsWrongByte, IsFaultOf};
 ghost use Rattle.calc_expressions.specs.declared.reading.ExpressionFault.TheVariants.{NoMemory as no_memory};
 
 use crate::Formula;
@@ -57,10 +57,11 @@ fn fault_of(offence: Offence) -> ExpressionFault
     }
 }
 
-/// The expression of a word that has been scanned, or its first offence.
-fn judged(alloc: Global, target: Basis, word: &[u8], scan: Scan) -> Result<Formula, ExpressionFault>
-    requires { IsScanned word.now (Ok scan) }
-    ensures { IsRead (basis_of target) word.now result }
+/// The expression of a word that has been scanned, whose degree is to be at most the limit, or its first offence.
+fn judged(alloc: Global, limit: u16, word: &[u8], scan: Scan) -> Result<Formula, ExpressionFault>
+    requires scanned { IsScanned word.now (Ok scan) }
+    requires low { limit ≤ 20 }
+    ensures { IsReadBy (offences_within limit) word.now result }
 {
     let len = word.len() as u64;
     let past = Offence {
@@ -81,7 +82,7 @@ fn judged(alloc: Global, target: Basis, word: &[u8], scan: Scan) -> Result<Formu
     let Ok(formula) = Formula::from_tree(tree) else {
         return Err(fault_of(past));
     };
-    if formula.degree() > degree_limit(target) {
+    if formula.degree() > limit {
         return Err(fault_of(past));
     }
     Ok(formula)
@@ -95,6 +96,22 @@ pub fn wrong_byte(word: &[u8]) -> Option<u64>
     match scan_word(word) {
         Ok(_) => None,
         Err(byte) => Some(byte),
+    }
+}
+
+/// Reads a word as an expression whose degree is to be at most the limit.
+pub(crate) fn read_within(
+    alloc: Global,
+    limit: u16,
+    word: &[u8],
+) -> Result<Formula, ExpressionFault>
+    requires { limit ≤ 20 }
+    ensures read { IsReadBy (offences_within limit) word.now result }
+    ensures low { IfOk result (λ f. degree (tree_of f.tree) ≤ limit) }
+{
+    match scan_word(word) {
+        Err(byte) => Err(ExpressionFault::Syntax { byte }),
+        Ok(scan) => judged(alloc, limit, word, scan),
     }
 }
 
@@ -112,8 +129,5 @@ pub fn read_expression(
     ensures read { IsRead (basis_of target) word.now result }
     ensures low { IfOk result (λ f. degree (tree_of f.tree) ≤ degree_limit (basis_of target)) }
 {
-    match scan_word(word) {
-        Err(byte) => Err(ExpressionFault::Syntax { byte }),
-        Ok(scan) => judged(alloc, target, word, scan),
-    }
+    read_within(alloc, degree_limit(target), word)
 }

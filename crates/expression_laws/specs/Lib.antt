@@ -1,2 +1,3 @@
 -- The machine by which expressions are read.
 pub mod LeftToRight
+pub mod Signs

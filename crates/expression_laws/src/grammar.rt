@@ -5,8 +5,9 @@ ghost use Rattle.sym_model.specs.Expansion.{monomials, power_sums};
 ghost use Rattle.sym_model.specs.Expression.{Tree, number, fraction, negation, sum, difference, denominator};
 ghost use Rattle.sym_model.specs.Weight.{numerator, growth};
 ghost use Rattle.sym_model.specs.Phrase.{Phrase, numeral, ratio, label, times, operation, SpellsPhrase, SpellsTree, BeginsExpression};
-ghost use Rattle.sym_model.specs.ExpressionOffence.{shape, range, first_of, offences};
+ghost use Rattle.sym_model.specs.ExpressionOffence.{shape, range, first_of, offences, sign_offences};
 ghost use Rattle.expression_laws.specs.LeftToRight.{run, start, phrases, found, is_live};
+ghost use Rattle.expression_laws.specs.Signs.{first_sign};
 
 /// No word spells two phrases or two expressions.
 pub fn grammar_law()
@@ -20,6 +21,11 @@ pub fn left_to_right_law()
     ensures begins { (word : List ℕ) → BeginsExpression word ↔ IsTrue (is_live (run phrases word start)) }
     ensures finds { (word : List ℕ) (phrase : Phrase) → SpellsPhrase word phrase
         ↔ (found phrases (run phrases word start) ≡ Some phrase) }
+{}
+
+/// The first minus or fraction of an expression is found byte by byte from the left.
+pub fn first_sign_law()
+    ensures { (word : List ℕ) (phrase : Phrase) → SpellsPhrase word phrase → first_sign 0 0 word ≡ first_of (sign_offences 0 phrase) }
 {}
 
 /// Worked examples of expressions, of their weights, and of where a word offends.

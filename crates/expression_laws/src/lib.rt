@@ -8,4 +8,4 @@ mod first_offence;
 mod grammar;
 
 pub use first_offence::first_offence_law;
-pub use grammar::{expression_examples_law, grammar_law, left_to_right_law};
+pub use grammar::{expression_examples_law, first_sign_law, grammar_law, left_to_right_law};
