@@ -42,13 +42,21 @@ impl Grid {
         self.permutation.len()
     }
 
+    /// The growth shapes at (i, 0), .., (i, n).
+    pub fn line(&self, i: u16) -> &[Partition]
+        requires { i ≤ length self.now }
+        ensures { result.now ≡ grid_line self.now i }
+    {
+        self.lines[usize::from(i)].as_slice()
+    }
+
     /// The growth shape at (i, j).
     pub fn shape_at(&self, i: u16, j: u16) -> &Partition
         requires i { i ≤ length self.now }
         requires j { j ≤ length self.now }
         ensures { result.now ≡ growth_shape self.now i j }
     {
-        &self.lines[usize::from(i)][usize::from(j)]
+        &self.line(i)[usize::from(j)]
     }
 
     /// The insertion tableau and the recording tableau of the permutation, read from the edges of its grid: the chains of
