@@ -4,5 +4,4 @@ pub mod Reading
 pub mod Heard
 pub mod Ends
 pub mod Parts
-pub mod Kept
 pub mod Totals

@@ -2,7 +2,6 @@
 //! `work` runs, and the sums over their blocks.
 #![tactic(auto)]
 
-mod block_text;
 mod draws;
 mod ends;
 mod feed;
@@ -17,7 +16,6 @@ mod progress;
 mod reader;
 mod sums;
 
-pub use block_text::BlockText;
 pub use ends::{finished, put_separator, status_if};
 pub use laws::{blocks_law, lines_read_law};
 pub use line::work_line;

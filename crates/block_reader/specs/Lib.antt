@@ -2,6 +2,5 @@
 pub mod Parts
 pub mod Fitting
 pub mod Readings
-pub mod Growing
 -- The definitions that the contracts cite.
 pub mod Lines

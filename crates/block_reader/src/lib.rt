@@ -4,7 +4,6 @@
 mod coefficients;
 mod cutting;
 mod fault;
-mod growing_sink;
 mod labels;
 mod lines;
 mod lists;

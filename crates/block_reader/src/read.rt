@@ -9,10 +9,9 @@ ghost use Rattle.block_reader.specs.Readings.{IsReading};
 
 use crate::ReadBackFault;
 use crate::cutting::cut;
-use crate::growing_sink::GrowingSink;
 use crate::lines::read_terms;
 use crate::numbers::signed_of;
-use calc_base::{CountSink, NoMemory};
+use calc_base::{CountSink, GrowingSink, NoMemory};
 use coeff_rings::Int;
 use expansion_printer::{Answer, Kind, print};
 use std::alloc::Global;

@@ -19,7 +19,7 @@ use Rattle.sym_model.specs.Entry.{SpellsWithoutOffence}
 use Rattle.sym_model.specs.Partition.{size}
 use Rattle.sym_model.specs.Workload.{terms_in, work_line, after_line, work_lines}
 use Rattle.batch_lines.specs.declared.sums.Sums.{Sums}
-use Rattle.batch_lines.specs.Kept.{Kept, kept_bytes, kept_length}
+use Rattle.calc_base.specs.Growing.{Growing, growing_bytes, growing_length}
 use Rattle.batch_lines.specs.Totals.{sums_over, sums_with, AreSmall, sums_text}
 use Rattle.calc_replies.specs.declared.outcome.Outcome.{Outcome}
 use Rattle.calc_app.specs.Batch.{ComesOfLine}
@@ -31,7 +31,7 @@ use Rattle.calc_app.proofs.Outcomes.{told_input, no_front}
 
 -- ---- one line
 
-pub kept_text : (old new : Kept) (text : List ℕ) → Appends kept_bytes kept_length old new text → old.bytes ≡ [] → new.bytes ≡ text
+pub kept_text : (old new : Growing) (text : List ℕ) → Appends growing_bytes growing_length old new text → old.bytes ≡ [] → new.bytes ≡ text
 kept_text old new text appends none =
     let e : ◌≡◌ {A = Option (List ℕ)} (Some new.bytes) (Some (old.bytes ++ text)) = appends.bytes in
     let h : new.bytes ≡ old.bytes ++ text = cc in

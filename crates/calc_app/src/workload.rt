@@ -7,8 +7,8 @@ ghost use Rattle.calc_replies.specs.Computed.{text_of, HasText, HasBlock};
 ghost use Rattle.calc_app.specs.Work.{AddsLine, AreSumsOf, PutsSums, EndsWork};
 
 use crate::batch::{line_outcome, new_memo};
-use batch_lines::{BlockText, LineBuf, Sums, put_summary, status_if, work_line};
-use calc_base::{NoMemory, Sink, Status, finish_if};
+use batch_lines::{LineBuf, Sums, put_summary, status_if, work_line};
+use calc_base::{GrowingSink, NoMemory, Sink, Status, finish_if};
 use calc_replies::{Outcome, put_text};
 use schubert_transition::Memo;
 use std::alloc::Global;
@@ -41,7 +41,7 @@ fn sums_of(alloc: Global, lines: u16, seed: u32) -> Result<Sums, NoMemory>
 {
     let mut state = seed;
     let mut line = LineBuf::new();
-    let mut text = BlockText::new(alloc);
+    let mut text = GrowingSink::new(alloc);
     let mut sums = Sums::new();
     let mut memo = new_memo(alloc)?;
     for _index in 0..lines {
@@ -59,7 +59,7 @@ fn add_line(
     alloc: Global,
     memo: &mut Memo,
     line: &[u8],
-    text: &mut BlockText,
+    text: &mut GrowingSink,
     sums: &mut Sums,
 ) -> Result<(), NoMemory>
     requires small { AreSmall sums.old }
@@ -74,7 +74,7 @@ fn add_line(
 }
 
 /// Adds the block of an outcome.
-fn add_block(outcome: Outcome, text: &mut BlockText, sums: &mut Sums) -> Result<(), NoMemory>
+fn add_block(outcome: Outcome, text: &mut GrowingSink, sums: &mut Sums) -> Result<(), NoMemory>
     requires has_text { HasText outcome }
     requires small { AreSmall sums.old }
     requires room { sums.old.lines < 65536 }

@@ -8,4 +8,5 @@ pub mod Supply
 pub mod Store
 pub mod Edge
 pub mod Fixed
+pub mod Growing
 pub mod Tally

@@ -79,10 +79,6 @@ length-put [] (c ∷ lines) h = absurd (omega arith)
 length-put (x ∷ row) [] h = ap suc (length-put row [] (omega arith))
 length-put (x ∷ row) (c ∷ lines) h = ap suc (length-put row lines (omega arith))
 
-length-replicate : (k : ℕ) (x : Bool) → length (replicate k x) ≡ k
-length-replicate zero x = refl
-length-replicate (suc k) x = ap suc (length-replicate k x)
-
 pub length-lines : (outer inner : List ℕ) → Falls outer → contains outer inner ≡ true → length (column_lines outer inner) ≡ columns outer
 length-lines [] inner f h = refl
 length-lines (a ∷ []) inner f h =

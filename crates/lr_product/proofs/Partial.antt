@@ -345,12 +345,6 @@ large_at k i factors next product f one at few h r = by (take i factors) refl h
 
 -- ---- the rows of the factors so far
 
-pub take_all : (i : ℕ) (xs : List (List ℕ)) → length xs ≤ i → take i xs ≡ xs
-take_all zero [] h = refl
-take_all (suc i) [] h = refl
-take_all zero (x ∷ xs) h = absurd (omega arith)
-take_all (suc i) (x ∷ xs) h = ap (λ l. x ∷ l) (take_all i xs (omega arith))
-
 -- ---- the first two places
 
 pub record BeginWith (factors : List (List ℕ)) (left right : List ℕ) : Type 0 where

@@ -100,12 +100,3 @@ Same-more old new label c is w also more = Same-found new (numerators old ++ (la
 -- a list with the coefficients of a table
 pub Same-coefficients : (table out : Terms (List ℕ)) → IsTable table → AreWhole table → IsTable out → HasSameCoefficients equal table out → Same (numerators out) (numerators table)
 Same-coefficients table out is w also e = Same-found out (numerators table) also (λ label. e label ∙ found table is w label)
-
--- a list that has the coefficients of the empty one
-pub same_as_none : (terms : Terms (List ℕ)) → IsTable terms → HasSameCoefficients equal [] terms → terms ≡ []
-same_as_none terms is e =
-    by terms (length_same nat_list_eq_equiv equal_tells terms [] is (IsCombination-empty equal is_label) (λ label. sym (e label)))
-  where
-    by : (ts : Terms (List ℕ)) → length ts ≤ 0 → ts ≡ []
-    by [] h = refl
-    by (t ∷ ts) h = absurd (omega arith)

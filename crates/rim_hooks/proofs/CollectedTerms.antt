@@ -23,10 +23,6 @@ use Rattle.rim_hooks.proofs.Reducing.{signed_size}
 
 -- ---- absolute values
 
-past_bound : (z : ℤ) → fits_128_bits z ≡ false → 2 ^ 127 ≤ nat_abs z
-past_bound (pos n) e = grind (arith, nat_tests)
-past_bound (negsuc n) e = let h : 2 ^ 127 ≤ n = grind (arith, nat_tests) in omega arith
-
 module _ {L : Type 0} (eq : L → L → Bool) where
   coefficient-push : (before : WholeTermsOf L) (label : L) (z : ℤ) (other : L)
       → coefficient_by eq (before ++ (label, z) ∷ []) other ≡ coefficient_by eq before other +ℤ cond (eq label other) z (pos 0)

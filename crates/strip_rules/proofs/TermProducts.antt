@@ -107,18 +107,6 @@ list_value f n terms φ =
 
 -- ---- what a list stands for
 
-exchanged : (x : ℤ) (d q r : ℕ) → r ∣ d → r ∣ q → pos d *ℤ (x *ℤ pos (q / r)) ≡ pos q *ℤ (x *ℤ pos (d / r))
-exchanged x d q r h k =
-    let a = div-mul_cancel r h in
-    let b = div-mul_cancel r k in
-    swap (pos d) x (pos (q / r)) ∙ ap (λ n. x *ℤ pos n) (by (d / r) (q / r) a b) ∙ sym (swap (pos q) x (pos (d / r)))
-  where
-    swap : (y x z : ℤ) → y *ℤ (x *ℤ z) ≡ x *ℤ (y *ℤ z)
-    swap y x z = sym (product_assoc y x z) ∙ ap (λ w. w *ℤ z) (*ℤ_comm y x) ∙ product_assoc x y z
-
-    by : (a b : ℕ) → a * r ≡ d → b * r ≡ q → d * b ≡ q * a
-    by a b e f = ap (λ n. n * b) (sym e) ∙ (let s : (a * r) * b ≡ (b * r) * a = omega arith in s) ∙ ap (λ n. n * a) f
-
 pub expansion : (terms : Terms (List ℕ)) (d n : ℕ) (f : Poly) → IsTable terms → ((t : List ℕ × Fraction) → Among t terms → t.1.1 ∣ d)
     → ((φ : List ℕ → ℤ) → in_schurs d n φ terms ≡ pair f φ) → IsExpansionOf Basis.schurs terms n f d
 expansion terms d n f is divides sums =

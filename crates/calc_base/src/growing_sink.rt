@@ -1,38 +1,37 @@
-//! A sink that keeps one block.
-
+//! A sink into memory that grows.
 ghost use Rattle.std.specs.Prelude.{◌≡◌, [], false, OnOk, OnErr, is_ok, refl};
 ghost use Rattle.calc_base.specs.Fault.{CountsFaults};
 ghost use Rattle.calc_base.specs.Sink.{Appends, AppendsPrefix};
-ghost use Rattle.batch_lines.specs.Kept.{kept_bytes, kept_length};
+ghost use Rattle.calc_base.specs.Growing.{growing_bytes, growing_length};
 
-use calc_base::{Sink, SinkFault};
+use crate::{Sink, SinkFault};
 use std::alloc::Global;
 use std::marker::Model;
 
-/// A sink that keeps the bytes of one block. A put fails only where memory is refused, and then appends nothing.
+/// A sink into memory that grows. A put fails only where memory is refused, and then appends nothing.
 #[derive(Drop)]
-pub struct BlockText {
+pub struct GrowingSink {
     bytes: Vec<u8>,
     faults: u64,
     finished: bool,
 }
 
-impl Model for BlockText {
-    ghost use Rattle.batch_lines.specs.Kept.{Kept};
+impl Model for GrowingSink {
+    ghost use Rattle.calc_base.specs.Growing.{Growing};
 
-    ghost Value = { Kept };
+    ghost Value = { Growing };
 
     ghost view = { λ t. record { bytes = t.bytes.items; failed = t.faults; finished = t.finished } };
 }
 
-impl BlockText {
+impl GrowingSink {
     /// A sink without bytes, which takes no memory yet.
-    pub fn new(alloc: Global) -> BlockText
+    pub fn new(alloc: Global) -> GrowingSink
         ensures bytes { result.bytes ≡ [] }
         ensures faults { result.failed ≡ 0 }
         ensures settled { result.finished ≡ false }
     {
-        BlockText {
+        GrowingSink {
             bytes: Vec::new(alloc),
             faults: 0,
             finished: false,
@@ -56,18 +55,18 @@ impl BlockText {
     }
 }
 
-impl Sink for BlockText {
-    ghost written = { kept_bytes };
+impl Sink for GrowingSink {
+    ghost written = { growing_bytes };
 
-    ghost length = { kept_length };
+    ghost length = { growing_length };
 
     ghost faults = { λ t. t.failed };
 
     ghost settled = { λ t. t.finished };
 
     fn put(&mut self, bytes: &[u8]) -> Result<(), SinkFault>
-        ensures ok { OnOk result (Appends kept_bytes kept_length self.old self.new bytes.now) }
-        ensures err { OnErr result (AppendsPrefix kept_bytes kept_length self.old self.new bytes.now) }
+        ensures ok { OnOk result (Appends growing_bytes growing_length self.old self.new bytes.now) }
+        ensures err { OnErr result (AppendsPrefix growing_bytes growing_length self.old self.new bytes.now) }
         ensures counts { CountsFaults self.old.failed self.new.failed result }
         ensures settled { self.new.finished ≡ false }
     {
@@ -80,7 +79,7 @@ impl Sink for BlockText {
     }
 
     fn finish(&mut self) -> Result<(), SinkFault>
-        ensures same { Appends kept_bytes kept_length self.old self.new [] }
+        ensures same { Appends growing_bytes growing_length self.old self.new [] }
         ensures counts { CountsFaults self.old.failed self.new.failed result }
         ensures settled { self.new.finished ≡ is_ok result }
     {
