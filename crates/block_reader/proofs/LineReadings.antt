@@ -12,7 +12,7 @@ use Rattle.printing_laws.proofs.LegibleKinds.{legible, is_label-short}
 use Rattle.printing_laws.proofs.OneLines.{are_readable}
 use Rattle.printing_laws.proofs.PrintedForms.{read_in-tells}
 use Rattle.expansion_printer.specs.declared.answer.Answer.{Answer}
-use Rattle.expansion_printer.specs.declared.answer.Answer.TheVariants.{Number, Expansion, Product, Pairs, Powers, Permutations, Polynomial}
+use Rattle.expansion_printer.specs.declared.answer.Answer.TheVariants.{Number, Expansion, Product, Pairs, Powers, Permutations, Polynomial, Shifts}
 use Rattle.expansion_printer.specs.Answers.{kind_of_answer, plain_answer}
 use Rattle.block_reader.specs.Lines.{HasAtoms, block_from}
 use Rattle.block_reader.proofs.Blocks.{line-rewritten}
@@ -30,6 +30,7 @@ plain_kind-is (Pairs terms) = refl
 plain_kind-is (Powers terms) = refl
 plain_kind-is (Permutations terms) = refl
 plain_kind-is (Polynomial terms) = refl
+plain_kind-is (Shifts terms) = refl
 
 -- where a line is read as a list, so is the block that it comes to
 reads-block : (basis : Basis) (kind : Kind) → HasAtoms kind → (text : List ℕ) (terms : Terms (Label kind))

@@ -1,6 +1,6 @@
 //! Labels, read back from their texts.
 ghost use Rattle.std.specs.Prelude.{◌≡◌, ◌^◌, ◌<◌, ℕ, List, false, IfOk, MatchOption, SomeIff};
-ghost use Rattle.sym_model.specs.Kind.{LabelRules, label_rules, expansion, pairs, powers, permutations, polynomial};
+ghost use Rattle.sym_model.specs.Kind.{LabelRules, label_rules, expansion, pairs, powers, permutations, polynomial, shifts};
 ghost use Rattle.sym_model.specs.LabelLimits.{is_label, is_monomial_label, is_permutation_label};
 ghost use Rattle.sym_model.specs.Partition.{without_last_zeros};
 ghost use Rattle.sym_model.specs.Permutation.{kept};
@@ -12,7 +12,7 @@ use crate::numbers::number_of;
 use calc_base::NoMemory;
 use partitions::{PartFault, Partition};
 use perm_codes::{Perm, PermFault};
-use sparse_polys::{Label, MonoFault, Monomial, Pair, Power};
+use sparse_polys::{Label, MonoFault, Monomial, Pair, Power, Shifted};
 use std::alloc::Global;
 
 /// Labels that can be read back.
@@ -68,10 +68,7 @@ impl Spelled for Perm {
     ghost line_rules = { label_rules permutations };
 
     fn spelled(alloc: Global, text: &[u8]) -> Result<Option<Perm>, NoMemory> {
-        match list_of(alloc, after_first_two(text))? {
-            Some(letters) => permutation_of(alloc, &letters),
-            None => Ok(None),
-        }
+        labelled_permutation(alloc, after_first_two(text))
     }
 }
 
@@ -79,10 +76,22 @@ impl Spelled for Monomial {
     ghost line_rules = { label_rules polynomial };
 
     fn spelled(alloc: Global, text: &[u8]) -> Result<Option<Monomial>, NoMemory> {
-        match list_of(alloc, after_first_two(text))? {
-            Some(exponents) => monomial_of(alloc, &exponents),
-            None => Ok(None),
-        }
+        labelled_monomial(alloc, after_first_two(text))
+    }
+}
+
+impl Spelled for Shifted {
+    ghost line_rules = { label_rules shifts };
+
+    fn spelled(alloc: Global, text: &[u8]) -> Result<Option<Shifted>, NoMemory> {
+        let (perm, rest) = cut(after_first_two(text), b' ');
+        let Some(perm) = labelled_permutation(alloc, perm)? else {
+            return Ok(None);
+        };
+        let Some(y) = labelled_monomial(alloc, after_first(rest))? else {
+            return Ok(None);
+        };
+        Ok(Some(Shifted { perm, y }))
     }
 }
 
@@ -120,6 +129,16 @@ fn whole_shape(shape: Partition, parts: &[u16]) -> Option<Partition>
     None
 }
 
+/// The permutation of a label, or `None` where that is not within the limits.
+fn labelled_permutation(alloc: Global, label: &[u8]) -> Result<Option<Perm>, NoMemory>
+    ensures { IfOk result (λ found. MatchOption found (is_permutation_label (label_of label.now) ≡ false) (λ w. w ≡ label_of label.now)) }
+{
+    match list_of(alloc, label)? {
+        Some(letters) => permutation_of(alloc, &letters),
+        None => Ok(None),
+    }
+}
+
 /// The permutation with these letters, or `None` where they are not one as it is kept.
 fn permutation_of(alloc: Global, letters: &[u16]) -> Result<Option<Perm>, NoMemory>
     ensures { IfOk result (λ found. MatchOption found (is_permutation_label letters.now ≡ false) (λ w. w ≡ letters.now)) }
@@ -142,6 +161,16 @@ fn whole_permutation(w: Perm, letters: &[u16]) -> Option<Perm>
         return Some(w);
     }
     None
+}
+
+/// The monomial of a label, or `None` where that is not within the limits.
+fn labelled_monomial(alloc: Global, label: &[u8]) -> Result<Option<Monomial>, NoMemory>
+    ensures { IfOk result (λ found. MatchOption found (is_monomial_label (label_of label.now) ≡ false) (λ m. m ≡ label_of label.now)) }
+{
+    match list_of(alloc, label)? {
+        Some(exponents) => monomial_of(alloc, &exponents),
+        None => Ok(None),
+    }
 }
 
 /// The monomial with these exponents, or `None` where they are not one without zeros at the end.

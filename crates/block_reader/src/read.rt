@@ -2,7 +2,7 @@
 ghost use Rattle.std.specs.Prelude.{◌≡◌, ◌≢◌, None, IfOk, IsErrOf, MatchBool};
 ghost use Rattle.std.specs.Bool.{OnFalse};
 ghost use Rattle.sym_model.specs.Answer.{answer_text, IsPrintable};
-ghost use Rattle.sym_model.specs.Kind.{label_rules, number, expansion, product, pairs, powers, permutations, polynomial};
+ghost use Rattle.sym_model.specs.Kind.{label_rules, number, expansion, product, pairs, powers, permutations, polynomial, shifts};
 ghost use Rattle.sym_model.specs.PrintedBlock.{read_by};
 ghost use Rattle.expansion_printer.specs.Answers.{kind_of, kind_of_answer, plain_answer};
 ghost use Rattle.block_reader.specs.Readings.{IsReading};
@@ -84,6 +84,7 @@ fn candidate(alloc: Global, text: &[u8], kind: Kind) -> Result<Answer, ReadBackF
         Kind::Powers => read_powers(alloc, text),
         Kind::Permutations => read_permutations(alloc, text),
         Kind::Polynomial => read_polynomial(alloc, text),
+        Kind::Shifts => read_shifts(alloc, text),
     }
 }
 
@@ -156,6 +157,16 @@ fn read_polynomial(alloc: Global, text: &[u8]) -> Result<Answer, ReadBackFault>
 {
     match read_terms(alloc, text) {
         Ok(terms) => Ok(Answer::Polynomial { terms }),
+        Err(fault) => Err(fault),
+    }
+}
+
+/// Permutations with a monomial beside them.
+fn read_shifts(alloc: Global, text: &[u8]) -> Result<Answer, ReadBackFault>
+    ensures { IsReading shifts text.now result }
+{
+    match read_terms(alloc, text) {
+        Ok(terms) => Ok(Answer::Shifts { terms }),
         Err(fault) => Err(fault),
     }
 }
