@@ -10,7 +10,7 @@ use Rattle.schubert_transition.proofs.TodoLists.{among_set, total_set}
 use Rattle.monk_product.specs.declared.pending.Pending.{Pending}
 use Rattle.monk_product.specs.Monk.{mass, AreShort}
 use Rattle.monk_product.specs.Pending.{value_of, growth, steps, IsPending, ArePending}
-use Rattle.monk_product.proofs.Weights.{weigh_set, weigh_at}
+use Rattle.schubert_transition.proofs.Weights.{weigh_set, weigh_at}
 use native.Mathlib.Nat.{mul-le-mul_left, pow-suc}
 use Rattle.std.proofs.Math.Nat.{pow-zero}
 

@@ -1,9 +1,6 @@
-pub mod Weights
 pub mod Masses
-pub mod Covers
 pub mod MassSums
 pub mod Dividing
-pub mod Labels
 pub mod MonkSteps
 pub mod EntrySums
 pub mod ProductSteps

@@ -19,7 +19,7 @@ use Rattle.schubert_transition.specs.TermLists.{over, IsTable}
 use Rattle.schubert_transition.specs.Transitions.{acted}
 use Rattle.schubert_transition.proofs.Monomials.{unit, pair_variable}
 use Rattle.monk_product.specs.Monk.{over_covers}
-use Rattle.monk_product.proofs.Labels.{label_one_line}
+use Rattle.schubert_transition.proofs.Labels.{label_one_line}
 
 pub pair_monk : (n r : ℕ) (w : List ℕ) (φ : List ℕ → ℤ) → IsOneLine w → 1 ≤ r → pair (times (variable_in r n) (schubert_in w n)) φ ≡ over_covers r (λ x. pair (schubert_in x n) φ) w
 pair_monk n r w φ o h =

@@ -28,7 +28,7 @@ use Rattle.schubert_laws.proofs.FixedLetters.{In_schubert}
 use Rattle.monk_product.specs.declared.pending.Pending.{Pending}
 use Rattle.monk_product.specs.Monk.{mass, AreShort}
 use Rattle.monk_product.specs.Pending.{value_of, growth, steps, IsPending, ArePending}
-use Rattle.monk_product.proofs.Weights.{weigh_append}
+use Rattle.schubert_transition.proofs.Weights.{weigh_append}
 use Rattle.monk_product.proofs.EntrySums.{power_positive}
 use native.Mathlib.Nat.{mul-le-mul_left}
 use lib.IntN.{+ℤ_idr, +ℤ_idl}

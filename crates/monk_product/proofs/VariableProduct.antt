@@ -14,7 +14,7 @@ use Rattle.sym_model.proofs.Sums.{total_among, total_map}
 use Rattle.sym_model.proofs.WholeTerms.{pair_of_combined, represents-whole}
 use Rattle.schubert_transition.specs.TermLists.{over, IsTable}
 use Rattle.monk_product.specs.Monk.{over_covers}
-use Rattle.monk_product.proofs.Labels.{label_one_line}
+use Rattle.schubert_transition.proofs.Labels.{label_one_line}
 use Rattle.monk_product.proofs.MonkSteps.{pair_monk}
 
 -- a list of permutations, paired with a test function

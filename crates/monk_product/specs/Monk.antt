@@ -1,14 +1,10 @@
 -- Lists of permutations with whole coefficients, and Monk's rule on them.
 use Rattle.std.specs.Prelude.{ℕ, ◌+◌, ◌≤◌, ◌-ℤ◌, ℤ, cond, max, nat_abs, List, [], ◌∷◌, length}
+pub use Rattle.sparse_polys.specs.WholeTables.{mass}
 use Rattle.sym_model.specs.Sum.{total, Among}
 use Rattle.sym_model.specs.Expansion.{Fraction, Terms}
 use Rattle.sym_model.specs.Polynomial.{same}
 use Rattle.sym_model.specs.Permutation.{covers_up, covers_down}
-
--- the sum of the absolute values of the coefficients
-abbrev pub mass : Terms (List ℕ) → ℕ
-mass [] = 0
-mass (t ∷ terms) = nat_abs t.1.0 + mass terms
 
 -- each label has at most so many letters
 abbrev pub AreShort : ℕ → Terms (List ℕ) → Type 0

@@ -4,17 +4,13 @@ use Rattle.sym_model.specs.Sum.{total, Among}
 use Rattle.sym_model.specs.Partition.{size}
 use Rattle.schubert_transition.specs.TermLists.{over}
 use Rattle.schubert_transition.specs.Transitions.{acted}
+pub use Rattle.schubert_transition.specs.Todo.{weigh}
 use Rattle.monk_product.specs.declared.pending.Pending.{Pending}
 use Rattle.monk_product.specs.Monk.{mass, AreShort}
 
 -- the sum of the products, paired with a test function, in n variables
 abbrev pub value_of : ℕ → (List ℕ → ℤ) → List Pending → ℤ
 value_of n φ todo = total (λ (p : Pending). over (λ w. acted n φ w p.monomial) p.list) todo
-
--- the sum of a number for each element of a list
-abbrev pub weigh : {A : Type 0} → (A → ℕ) → List A → ℕ
-weigh f [] = 0
-weigh f (x ∷ xs) = f x + weigh f xs
 
 -- what the masses can grow to, where each variable makes up to `base` terms of one
 abbrev pub growth : ℕ → List Pending → ℕ

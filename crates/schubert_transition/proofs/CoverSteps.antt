@@ -54,13 +54,13 @@ covers_large n i r lower terms old cur short first before last natural cover so_
     (γ, omega (arith, ints))
 
 -- a sum over a table of sums
-over_sum : (f : List ℕ → ℤ) (g : List ℕ → List ℕ → ℤ) (xs : List (List ℕ)) (terms : Terms (List ℕ))
+pub over_sum : {L : Type 0} (f : L → ℤ) (g : List ℕ → L → ℤ) (xs : List (List ℕ)) (terms : Terms L)
     → over (λ e. f e +ℤ total (λ (x : List ℕ). g x e) xs) terms ≡ over f terms +ℤ total (λ (x : List ℕ). over (g x) terms) xs
-over_sum f g xs terms =
-    total_ext (λ (t : List ℕ × Fraction). t.1.0 *ℤ (f t.0 +ℤ total (λ (x : List ℕ). g x t.0) xs)) (λ (t : List ℕ × Fraction). t.1.0 *ℤ f t.0 +ℤ total (λ (x : List ℕ). t.1.0 *ℤ g x t.0) xs)
+over_sum {L} f g xs terms =
+    total_ext (λ (t : L × Fraction). t.1.0 *ℤ (f t.0 +ℤ total (λ (x : List ℕ). g x t.0) xs)) (λ (t : L × Fraction). t.1.0 *ℤ f t.0 +ℤ total (λ (x : List ℕ). t.1.0 *ℤ g x t.0) xs)
     (λ t. distributes_left t.1.0 (f t.0) (total (λ (x : List ℕ). g x t.0) xs) ∙ ap (λ z. t.1.0 *ℤ f t.0 +ℤ z) (sym (total_scale t.1.0 (λ (x : List ℕ). g x t.0) xs))) terms
-    ∙ total_add (λ (t : List ℕ × Fraction). t.1.0 *ℤ f t.0) (λ (t : List ℕ × Fraction). total (λ (x : List ℕ). t.1.0 *ℤ g x t.0) xs) terms
-    ∙ ap (λ z. over f terms +ℤ z) (total_exchange (λ (t : List ℕ × Fraction) (x : List ℕ). t.1.0 *ℤ g x t.0) terms xs)
+    ∙ total_add (λ (t : L × Fraction). t.1.0 *ℤ f t.0) (λ (t : L × Fraction). total (λ (x : List ℕ). t.1.0 *ℤ g x t.0) xs) terms
+    ∙ ap (λ z. over f terms +ℤ z) (total_exchange (λ (t : L × Fraction) (x : List ℕ). t.1.0 *ℤ g x t.0) terms xs)
 
 -- the transition rule on all terms of a polynomial
 pub over_step : (n r s : ℕ) (φ : List ℕ → ℤ) (w : List ℕ) (terms : Terms (List ℕ)) → IsOneLine w → IsTransition w r s

@@ -12,3 +12,7 @@ pub mod CoverSteps
 pub mod FinalSums
 pub mod LoopSteps
 pub mod KeptEntries
+pub mod Covers
+pub mod Labels
+pub mod Weights
+pub mod ListWeights

@@ -7,7 +7,7 @@ use Rattle.sym_model.specs.Sum.{total, Among}
 use Rattle.sym_model.proofs.Sums.{total_append, Among_from_append, Among-append_left, Among-append_right}
 use Rattle.schubert_transition.specs.declared.todo.Waiting.{Waiting}
 use Rattle.schubert_transition.specs.Transitions.{weight}
-use Rattle.schubert_transition.specs.Todo.{load}
+use Rattle.schubert_transition.specs.Todo.{load, HasPermutation, MayGain}
 
 -- ---- one entry more
 
@@ -18,11 +18,11 @@ total_insert f todo i w =
     let c = total_append f (take i todo) (drop i todo) in
     omega (arith, ints)
 
-pub load_append : (xs ys : List Waiting) → load (xs ++ ys) ≡ load xs + load ys
+pub load_append : {F : Type 0} (xs ys : List (Waiting F)) → load (xs ++ ys) ≡ load xs + load ys
 load_append [] ys = omega arith
 load_append (x ∷ xs) ys = let h = load_append xs ys in omega arith
 
-pub load_insert : (todo : List Waiting) (i : ℕ) (w : Waiting) → load (insert todo i w) ≡ load todo + weight w.perm
+pub load_insert : {F : Type 0} (todo : List (Waiting F)) (i : ℕ) (w : Waiting F) → load (insert todo i w) ≡ load todo + weight w.perm
 load_insert todo i w =
     let a = load_append (take i todo) (w ∷ drop i todo) in
     let b = ap load (take-append-drop i todo) in
@@ -51,6 +51,30 @@ length_insert [] (suc i) w h = absurd (omega arith)
 length_insert (y ∷ todo) zero w h = omega arith
 length_insert (y ∷ todo) (suc i) w h = let r = length_insert todo i w (omega arith) in omega arith
 
+-- one that may be there in advance
+
+pub total_gain : {A : Type 0} (f : A → ℤ) (old new : List A) (w : A) → MayGain old w new → f w ≡ pos 0 → total f new ≡ total f old
+total_gain f old new w (inl e) z = ap (total f) e
+total_gain f old new w (inr (i, e)) z = let a = ap (total f) e in let b = total_insert f old i w in omega (arith, ints)
+
+pub load_gain : {F : Type 0} (old new : List (Waiting F)) (w : Waiting F) → MayGain old w new → load new ≤ load old + weight w.perm
+load_gain old new w (inl e) = let a = ap load e in omega arith
+load_gain old new w (inr (i, e)) = let a = ap load e in let b = load_insert old i w in omega arith
+
+pub among_gain : {A : Type 0} (P : A → Type 0) (old new : List A) (w : A) → MayGain old w new → P w → ((x : A) → Among x old → P x) → (x : A) → Among x new → P x
+among_gain P old new w (inl e) here all x m = all x (subst (Among x) e m)
+among_gain P old new w (inr (i, e)) here all x m = elim (among_insert old i w x (subst (Among x) e m)) [ inl s ↦ subst P (sym s) here | inr k ↦ all x k ]
+
+-- the entry at an index has the permutation
+
+pub has_inserted : {F : Type 0} (todo new : List (Waiting F)) (at : ℕ) (w : Waiting F) → at ≤ length todo → new ≡ insert todo at w → (at < length new) × HasPermutation w.perm new at
+has_inserted {F} todo new at w h e =
+    let l = ap length e in
+    let m = length_insert todo at w h in (
+      omega arith,
+      λ x is. ap (λ (y : Waiting F). y.perm) (inserted_at todo at w x h (is ∙ ap (λ (xs : List (Waiting F)). get_or xs at x) e)),
+    )
+
 -- ---- another entry in the place of one
 
 pub same_at : {A : Type 0} (todo : List A) (i : ℕ) (w v : A) → i < length todo → w ≡ get_or todo i w → v ≡ get_or todo i v → v ≡ w
@@ -58,15 +82,18 @@ same_at [] i w v h e f = absurd (omega arith)
 same_at (x ∷ todo) zero w v h e f = f ∙ sym e
 same_at (x ∷ todo) (suc i) w v h e f = same_at todo i w v (omega arith) e f
 
+pub has_found : {F : Type 0} (todo : List (Waiting F)) (at : ℕ) (w : Waiting F) (perm : List ℕ) → at < length todo → w ≡ get_or todo at w → (get_or todo at w).perm ≡ perm → HasPermutation perm todo at
+has_found {F} todo at w perm h is same x e = ap (λ (y : Waiting F). y.perm) (same_at todo at w x h is e ∙ is) ∙ same
+
 pub total_set : {A : Type 0} (f : A → ℤ) (todo : List A) (i : ℕ) (w v : A) → i < length todo → w ≡ get_or todo i w
     → total f (set todo i v) +ℤ f w ≡ total f todo +ℤ f v
 total_set f [] i w v h e = absurd (omega arith)
 total_set f (x ∷ todo) zero w v h e = let p = ap f e in omega (arith, ints)
 total_set f (x ∷ todo) (suc i) w v h e = let r = total_set f todo i w v (omega arith) e in omega (arith, ints)
 
-pub load_set : (todo : List Waiting) (i : ℕ) (w v : Waiting) → i < length todo → w ≡ get_or todo i w → v.perm ≡ w.perm → load (set todo i v) ≡ load todo
+pub load_set : {F : Type 0} (todo : List (Waiting F)) (i : ℕ) (w v : Waiting F) → i < length todo → w ≡ get_or todo i w → v.perm ≡ w.perm → load (set todo i v) ≡ load todo
 load_set [] i w v h e p = absurd (omega arith)
-load_set (x ∷ todo) zero w v h e p = let q = ap weight (p ∙ ap (λ (y : Waiting). y.perm) e) in omega arith
+load_set {F} (x ∷ todo) zero w v h e p = let q = ap weight (p ∙ ap (λ (y : Waiting F). y.perm) e) in omega arith
 load_set (x ∷ todo) (suc i) w v h e p = ap (λ n. weight x.perm + n) (load_set todo i w v (omega arith) e p)
 
 pub among_set : {A : Type 0} (todo : List A) (i : ℕ) (v x : A) → Among x (set todo i v) → (x ≡ v) ⊎ Among x todo

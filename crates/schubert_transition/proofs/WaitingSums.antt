@@ -6,30 +6,29 @@ use Rattle.sym_model.specs.PlaceOrders.{inversions}
 use Rattle.sym_model.specs.Expansion.{Terms}
 use Rattle.sym_model.proofs.Exponents.{fits_in_length}
 use Rattle.sym_model.proofs.Sums.{Among-get_or}
-use Rattle.schubert_transition.specs.declared.todo.Waiting.{Waiting}
 use Rattle.schubert_transition.specs.TermLists.{over, only, AreTerms, HasLarge}
 use Rattle.schubert_transition.specs.Transitions.{acted}
-use Rattle.schubert_transition.specs.Todo.{value_of, IsWaiting, AreWaiting, HasLargeValue}
+use Rattle.schubert_transition.specs.Todo.{WithPolynomial, value_of, IsWaiting, AreWaiting, HasLargeValue}
 use Rattle.schubert_transition.proofs.TermSums.{AreNatural, over_natural, over_within}
 use Rattle.schubert_transition.proofs.Monomials.{schubert_monomials}
 use Rattle.schubert_transition.proofs.Acted.{acted_natural, acted_at, at_only_natural}
 use Rattle.schubert_transition.proofs.TodoLists.{among_set, total_set, one_at_most}
 
 -- the entry with another polynomial
-abbrev pub entry : Waiting → Terms (List ℕ) → Waiting
+abbrev pub entry : WithPolynomial → Terms (List ℕ) → WithPolynomial
 entry w factor = record { perm = w.perm; factor = factor }
 
-pub set_value : (n : ℕ) (φ : List ℕ → ℤ) (h : List ℕ → List ℕ) (todo : List Waiting) (at : ℕ) (w : Waiting) (factor terms : Terms (List ℕ)) (perm : List ℕ)
+pub set_value : (n : ℕ) (φ : List ℕ → ℤ) (h : List ℕ → List ℕ) (todo : List WithPolynomial) (at : ℕ) (w : WithPolynomial) (factor terms : Terms (List ℕ)) (perm : List ℕ)
     → at < length todo → w ≡ get_or todo at w → w.perm ≡ perm
     → ((ψ : List ℕ → ℤ) → over ψ factor ≡ over ψ w.factor +ℤ over (λ e. ψ (h e)) terms)
     → value_of n φ (set todo at (entry w factor)) ≡ value_of n φ todo +ℤ over (λ e. acted n φ perm (h e)) terms
 set_value n φ h todo at w factor terms perm inside is same sums =
-    let a = total_set (λ (x : Waiting). over (acted n φ x.perm) x.factor) todo at w (entry w factor) inside is in
+    let a = total_set (λ (x : WithPolynomial). over (acted n φ x.perm) x.factor) todo at w (entry w factor) inside is in
     let b = sums (acted n φ w.perm) in
     let c = ap (λ p. over (λ e. acted n φ p (h e)) terms) same in
     omega (arith, ints)
 
-pub set_waiting : (n d : ℕ) (todo : List Waiting) (at : ℕ) (w : Waiting) (factor : Terms (List ℕ))
+pub set_waiting : (n d : ℕ) (todo : List WithPolynomial) (at : ℕ) (w : WithPolynomial) (factor : Terms (List ℕ))
     → at < length todo → w ≡ get_or todo at w → AreWaiting n d todo → AreTerms n (d - inversions w.perm) factor → AreWaiting n d (set todo at (entry w factor))
 set_waiting n d todo at w factor inside is waiting terms x m = elim (among_set todo at (entry w factor) x m) [
   | inl e ↦
@@ -39,12 +38,12 @@ set_waiting n d todo at w factor inside is waiting terms x m = elim (among_set t
 ]
 
 -- no entry has a negative coefficient
-pub value_natural : (n d : ℕ) (γ : List ℕ) (x : Waiting) → IsWaiting n d x → pos 0 ≤ℤ over (acted n (only γ) x.perm) x.factor
+pub value_natural : (n d : ℕ) (γ : List ℕ) (x : WithPolynomial) → IsWaiting n d x → pos 0 ≤ℤ over (acted n (only γ) x.perm) x.factor
 value_natural n d γ x is =
     over_natural (acted n (only γ) x.perm) x.factor (λ t m. (is.terms t m).natural)
     (λ e. acted_natural n (only γ) x.perm e (schubert_monomials n x.perm is.short) (at_only_natural γ))
 
-pub set_large : (n d : ℕ) (h : List ℕ → List ℕ) (todo : List Waiting) (at : ℕ) (w : Waiting) (terms : Terms (List ℕ)) (perm : List ℕ)
+pub set_large : (n d : ℕ) (h : List ℕ → List ℕ) (todo : List WithPolynomial) (at : ℕ) (w : WithPolynomial) (terms : Terms (List ℕ)) (perm : List ℕ)
     → at < length todo → w ≡ get_or todo at w → w.perm ≡ perm → AreWaiting n d todo → AreNatural terms
     → HasLarge n (λ ψ. over ψ w.factor +ℤ over (λ e. ψ (h e)) terms)
     → HasLargeValue (λ φ. value_of n φ todo +ℤ over (λ e. acted n φ perm (h e)) terms)
@@ -56,7 +55,7 @@ set_large n d h todo at w terms perm inside is same waiting natural (α, few, la
     let γ : List ℕ = join (resize n α) monomials.first in
     let a = over_within (only α) (acted n (only (join (resize n α) monomials.first)) w.perm) w.factor (λ t m. (was.terms t m).natural) (λ e. acted_at n w.perm α e monomials fits) in
     let b = over_within (λ e. only α (h e)) (λ e. acted n (only (join (resize n α) monomials.first)) w.perm (h e)) terms natural (λ e. acted_at n w.perm α (h e) monomials fits) in
-    let c = one_at_most (λ (x : Waiting). over (acted n (only (join (resize n α) monomials.first)) x.perm) x.factor) todo w here
+    let c = one_at_most (λ (x : WithPolynomial). over (acted n (only (join (resize n α) monomials.first)) x.perm) x.factor) todo w here
     (λ x m. value_natural n d (join (resize n α) monomials.first) x (waiting x m)) in
     let e = ap (λ p. over (λ e. acted n (only (join (resize n α) monomials.first)) p (h e)) terms) same in
     (join (resize n α) monomials.first, omega (arith, ints))

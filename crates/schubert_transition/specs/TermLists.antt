@@ -2,14 +2,11 @@
 use Rattle.std.specs.Prelude.{ℕ, ◌^◌, ◌≤◌, ◌≤ℤ◌, ◌<ℤ◌, ◌*ℤ◌, cond, Bool, nat_eq, ℤ, pos, List, length}
 use Rattle.std.specs.Cmp.Lexicographic.{pointwise}
 use Rattle.sparse_polys.specs.Combination.{IsCombination}
+pub use Rattle.sparse_polys.specs.WholeTables.{over}
 use Rattle.sym_model.specs.Polynomial.{same}
 use Rattle.sym_model.specs.Sum.{total, Among}
 use Rattle.sym_model.specs.Expansion.{Fraction, Terms}
 use Rattle.sym_model.specs.Partition.{size}
-
--- the sum over the terms of coefficient times the value of a test function at the label
-abbrev pub over : (List ℕ → ℤ) → Terms (List ℕ) → ℤ
-over φ terms = total (λ (t : List ℕ × Fraction). t.1.0 *ℤ φ t.0) terms
 
 -- a term in at most n variables and of at most degree d, with a coefficient that is not negative and below 2^127
 pub record IsTerm (n d : ℕ) (t : List ℕ × Fraction) : Type 0 where

@@ -1,33 +1,48 @@
 -- Permutations that wait for the transition rule, each with the polynomial that its Schubert polynomial is multiplied by.
-use Rattle.std.specs.Prelude.{◌≡◌, ℕ, ◌+◌, ◌-◌, ◌^◌, ◌≤◌, ◌≤ℤ◌, ℤ, pos, List, [], ◌∷◌, slice_index_or}
+use Rattle.std.specs.Prelude.{◌≡◌, ◌⊎◌, ℕ, ◌+◌, ◌-◌, ◌^◌, ◌≤◌, ◌≤ℤ◌, ℤ, pos, List, [], ◌∷◌, slice_index_or}
+use Rattle.std.specs.List.{insert}
 use Rattle.sym_model.specs.Sum.{total, Among}
 use Rattle.sym_model.specs.PlaceOrders.{inversions}
 use Rattle.schubert_transition.specs.declared.todo.Waiting.{Waiting}
 use Rattle.schubert_transition.specs.TermLists.{over, only, AreTerms}
 use Rattle.schubert_transition.specs.Transitions.{IsShort, acted, weight}
+use Rattle.sym_model.specs.Expansion.{Terms}
+
+-- the sum of a number for each element of a list
+abbrev pub weigh : {A : Type 0} → (A → ℕ) → List A → ℕ
+weigh f [] = 0
+weigh f (x ∷ xs) = f x + weigh f xs
+
+-- a permutation with the polynomial that its Schubert polynomial is multiplied by
+abbrev pub WithPolynomial : Type 0
+WithPolynomial = Waiting (Terms (List ℕ))
 
 -- the sum of the products, paired with a test function, in n variables
-abbrev pub value_of : ℕ → (List ℕ → ℤ) → List Waiting → ℤ
-value_of n φ todo = total (λ (w : Waiting). over (acted n φ w.perm) w.factor) todo
+abbrev pub value_of : ℕ → (List ℕ → ℤ) → List WithPolynomial → ℤ
+value_of n φ todo = total (λ (w : WithPolynomial). over (acted n φ w.perm) w.factor) todo
 
 -- the sum of the weights of the permutations: it falls with each step
-abbrev pub load : List Waiting → ℕ
+abbrev pub load : {F : Type 0} → List (Waiting F) → ℕ
 load [] = 0
 load (w ∷ todo) = weight w.perm + load todo
 
 -- in n variables and with products of degree d at most: the permutation and the terms of the polynomial
-pub record IsWaiting (n d : ℕ) (w : Waiting) : Type 0 where
+pub record IsWaiting (n d : ℕ) (w : WithPolynomial) : Type 0 where
   pub short : IsShort n w.perm
   pub inside : inversions w.perm ≤ d
   pub terms : AreTerms n (d - inversions w.perm) w.factor
 
-abbrev pub AreWaiting : ℕ → ℕ → List Waiting → Type 0
-AreWaiting n d todo = (w : Waiting) → Among w todo → IsWaiting n d w
+abbrev pub AreWaiting : ℕ → ℕ → List WithPolynomial → Type 0
+AreWaiting n d todo = (w : WithPolynomial) → Among w todo → IsWaiting n d w
 
 -- some coefficient of a polynomial, given by its pairings, is 2^127 or more
 abbrev pub HasLargeValue : ((List ℕ → ℤ) → ℤ) → Type 0
 HasLargeValue sum = (γ : List ℕ) × (pos (2 ^ 127) ≤ℤ sum (only γ))
 
 -- the entry at an index, counted from 0, has this permutation
-abbrev pub HasPermutation : List ℕ → List Waiting → ℕ → Type 0
-HasPermutation perm todo at = (w : Waiting) → w ≡ slice_index_or todo at w → w.perm ≡ perm
+abbrev pub HasPermutation : {F : Type 0} → List ℕ → List (Waiting F) → ℕ → Type 0
+HasPermutation {F} perm todo at = (w : Waiting F) → w ≡ slice_index_or todo at w → w.perm ≡ perm
+
+-- the list is as it was, or has the element more
+abbrev pub MayGain : {A : Type 0} → List A → A → List A → Type 0
+MayGain old x new = (new ≡ old) ⊎ ((at : ℕ) × (new ≡ insert old at x))

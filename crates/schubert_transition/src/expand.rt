@@ -21,7 +21,7 @@ use std::alloc::Global;
 /// Adds a polynomial to the one that waits with a permutation.
 fn add_waiting(
     alloc: Global,
-    todo: &mut Vec<Waiting>,
+    todo: &mut Vec<Waiting<Poly<Int>>>,
     perm: Perm,
     terms: &Poly<Int>,
 ) -> Result<(), SumFault>
@@ -42,7 +42,7 @@ fn add_waiting(
 /// Adds a polynomial times the variable x_r to the one that waits with a permutation.
 fn add_waiting_times_var(
     alloc: Global,
-    todo: &mut Vec<Waiting>,
+    todo: &mut Vec<Waiting<Poly<Int>>>,
     perm: Perm,
     terms: &Poly<Int>,
     r: u16,
@@ -67,7 +67,7 @@ fn add_waiting_times_var(
 /// Adds a polynomial to those that wait with the covers of a permutation at a place, the other place being smaller.
 fn add_covers(
     alloc: Global,
-    todo: &mut Vec<Waiting>,
+    todo: &mut Vec<Waiting<Poly<Int>>>,
     lower: &Perm,
     terms: &Poly<Int>,
     r: u16,
@@ -98,8 +98,8 @@ fn add_covers(
 /// Puts in the place of a permutation that waits those that the transition rule makes of it.
 pub(crate) fn expand(
     alloc: Global,
-    todo: &mut Vec<Waiting>,
-    waiting: &Waiting,
+    todo: &mut Vec<Waiting<Poly<Int>>>,
+    waiting: &Waiting<Poly<Int>>,
     r: u16,
     s: u16,
 ) -> Result<(), SumFault>

@@ -11,4 +11,5 @@ mod top;
 pub use memo::Memo;
 pub use places::transition_places;
 pub use schubert_laws::{monk_law, path_law};
+pub use todo::{Waiting, entry_at};
 pub use top::{schubert, schubert_terms};

@@ -2,7 +2,7 @@
 ghost use Rattle.std.specs.Prelude.{◌≡◌, ◌+◌, ◌<◌, ◌≤◌, ℕ, ℤ, List, length, MatchResult, IfOk, OnOk};
 ghost use Rattle.sym_model.specs.PlaceOrders.{inversions};
 ghost use Rattle.schubert_transition.specs.Transitions.{IsShort, weight};
-ghost use Rattle.schubert_transition.specs.Todo.{value_of, load, AreWaiting, HasPermutation};
+ghost use Rattle.schubert_transition.specs.Todo.{value_of, load, AreWaiting, HasPermutation, MayGain};
 
 use calc_base::NoMemory;
 use coeff_rings::Int;
@@ -11,11 +11,13 @@ use sparse_polys::{Lin, Poly};
 use std::alloc::Global;
 use std::cmp::Ordering;
 
-/// A permutation whose Schubert polynomial is still to be expanded, and the polynomial that it is multiplied by.
+/// A permutation whose Schubert polynomial is still to be expanded, and the factor that it is multiplied by.
 #[derive(Drop)]
-pub(crate) struct Waiting {
-    pub(crate) perm: Perm,
-    pub(crate) factor: Poly<Int>,
+pub struct Waiting<F> {
+    /// The permutation.
+    pub perm: Perm,
+    /// The factor.
+    pub factor: F,
 }
 
 /// An order that the transition rule lowers: by inversions and then by falling order of the letters.
@@ -27,7 +29,7 @@ fn compare(first: &Perm, second: &Perm) -> Ordering {
 }
 
 /// The place of a permutation in the list, or the place where it is to be put in.
-fn place_of(todo: &[Waiting], perm: &Perm) -> Result<usize, usize>
+fn place_of<F>(todo: &[Waiting<F>], perm: &Perm) -> Result<usize, usize>
     ensures { MatchResult result
         (λ at. (at < length todo.now) × HasPermutation perm.now todo.now at)
         (λ at. at ≤ length todo.now) }
@@ -40,10 +42,28 @@ fn place_of(todo: &[Waiting], perm: &Perm) -> Result<usize, usize>
     }
 }
 
+/// The index of a permutation in the list, which is put in with the factor where it is not there.
+pub fn entry_at<F: Drop>(
+    todo: &mut Vec<Waiting<F>>,
+    perm: Perm,
+    factor: F,
+) -> Result<usize, NoMemory>
+    ensures found { IfOk result (λ at. (at < length todo.new.items) × HasPermutation perm todo.new.items at) }
+    ensures list { OnOk result (MayGain todo.old.items (record { perm = perm; factor = factor }) todo.new.items) }
+{
+    match place_of(todo.as_slice(), &perm) {
+        Ok(at) => Ok(at),
+        Err(at) => {
+            todo.insert(at, Waiting { perm, factor })?;
+            Ok(at)
+        }
+    }
+}
+
 /// The index of a permutation in the list, which is put in with the polynomial 0 where it is not there.
 pub(crate) fn index_of(
     alloc: Global,
-    todo: &mut Vec<Waiting>,
+    todo: &mut Vec<Waiting<Poly<Int>>>,
     perm: Perm,
 ) -> Result<usize, NoMemory>
     ensures found { IfOk result (λ at. (at < length todo.new.items) × HasPermutation perm todo.new.items at) }
@@ -52,12 +72,6 @@ pub(crate) fn index_of(
         → AreWaiting n d todo.old.items → AreWaiting n d todo.new.items) }
     ensures load { OnOk result (load todo.new.items ≤ load todo.old.items + weight perm) }
 {
-    match place_of(todo.as_slice(), &perm) {
-        Ok(at) => Ok(at),
-        Err(at) => {
-            let factor = Lin::new(alloc);
-            todo.insert(at, Waiting { perm, factor })?;
-            Ok(at)
-        }
-    }
+    let none = Lin::new(alloc);
+    entry_at(todo, perm, none)
 }

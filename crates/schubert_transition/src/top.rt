@@ -78,8 +78,8 @@ fn one(alloc: Global) -> Result<Poly<Int>, SumFault>
 /// the identity is added to the sum.
 fn work_off(
     alloc: Global,
-    todo: &mut Vec<Waiting>,
-    waiting: &Waiting,
+    todo: &mut Vec<Waiting<Poly<Int>>>,
+    waiting: &Waiting<Poly<Int>>,
     sum: &mut Poly<Int>,
 ) -> Result<(), SumFault>
     requires { (t : List ℕ × Fraction) → Among t waiting.now.factor

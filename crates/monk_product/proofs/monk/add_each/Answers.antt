@@ -13,7 +13,7 @@ use Rattle.schubert_transition.specs.TermLists.{equal, over, only}
 use Rattle.schubert_transition.proofs.TermSums.{over_more}
 use Rattle.monk_product.proofs.Masses.{mass_more, short_more}
 use Rattle.monk_product.proofs.MassSums.{product_next}
-use Rattle.monk_product.proofs.Covers.{total_take}
+use Rattle.schubert_transition.proofs.Covers.{total_take}
 use Rattle.monk_product.proofs.Bounds.{refused_at, large_at}
 use Rattle.monk_product.proofs.monk.add_each.Goals as goal
 

@@ -8,7 +8,7 @@ use Rattle.sparse_polys.proofs.ClearedSums.{on_ok}
 use Rattle.schubert_transition.specs.TermLists.{over, only}
 use Rattle.monk_product.specs.Monk.{count_of}
 use Rattle.monk_product.proofs.MassSums.{abs_negated, signed_next}
-use Rattle.monk_product.proofs.Covers.{count_covers, up_within, down_within}
+use Rattle.schubert_transition.proofs.Covers.{count_covers, up_within, down_within}
 use Rattle.monk_product.proofs.Bounds.{count_added, within_one}
 use Rattle.monk_product.proofs.OneCover.{one_cover}
 use Rattle.monk_product.proofs.monk.add_product.Goals as goal

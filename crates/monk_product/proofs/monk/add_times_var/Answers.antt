@@ -13,7 +13,7 @@ use Rattle.monk_product.proofs.MassSums.{over_pairs_next, mass_pairs_next, mass_
 use Rattle.sym_model.proofs.CanonicalLists.{each_term-among}
 use Rattle.std.proofs.lemmas.Bool.{and_parts}
 use Rattle.monk_product.proofs.Bounds.{cover_added}
-use Rattle.monk_product.proofs.Labels.{label_one_line}
+use Rattle.schubert_transition.proofs.Labels.{label_one_line}
 use Rattle.monk_product.proofs.monk.add_times_var.Goals as goal
 
 pub add_product-requires-clause-letters : goal.add_product-requires-clause-letters

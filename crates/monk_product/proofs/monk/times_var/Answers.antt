@@ -4,7 +4,8 @@ use Rattle.sym_model.specs.Expansion.{Terms}
 use Rattle.sparse_polys.proofs.Steps.{error_is}
 use Rattle.schubert_transition.specs.TermLists.{over, only}
 use Rattle.monk_product.specs.Monk.{mass, AreShort, over_covers, greatest_length}
-use Rattle.monk_product.proofs.Bounds.{whole_weight, longest, weight_grows}
+use Rattle.schubert_transition.proofs.ListWeights.{whole_weight, weight_grows}
+use Rattle.monk_product.proofs.Bounds.{longest}
 use Rattle.monk_product.proofs.VariableProduct.{variable_product}
 use Rattle.monk_product.proofs.monk.times_var.Goals as goal
 use lib.IntN.{+ℤ_idl}

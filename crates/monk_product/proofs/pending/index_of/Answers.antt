@@ -9,7 +9,7 @@ use Rattle.schubert_transition.proofs.TodoLists.{inserted_at, length_insert, tot
 use Rattle.monk_product.specs.declared.pending.Pending.{Pending}
 use Rattle.monk_product.specs.Monk.{mass}
 use Rattle.monk_product.specs.Pending.{value_of, growth, steps, IsPending}
-use Rattle.monk_product.proofs.Weights.{weigh_insert}
+use Rattle.schubert_transition.proofs.Weights.{weigh_insert}
 use Rattle.monk_product.proofs.pending.index_of.Goals as goal
 use lib.IntN.{+ℤ_idr}
 

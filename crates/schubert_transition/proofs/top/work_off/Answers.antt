@@ -4,8 +4,8 @@ use Rattle.sym_model.specs.Polynomial.{resize, fits_in}
 use Rattle.sym_model.specs.PlaceOrders.{inversions}
 use Rattle.sym_model.proofs.Exponents.{fits_in_length}
 use Rattle.sparse_polys.proofs.ClearedSums.{on_ok}
-use Rattle.schubert_transition.specs.declared.todo.Waiting.{Waiting}
 use Rattle.schubert_transition.specs.TermLists.{over, only}
+use Rattle.schubert_transition.specs.Todo.{WithPolynomial}
 use Rattle.schubert_transition.specs.Transitions.{acted, shown}
 use Rattle.schubert_laws.proofs.Members.{fewer_inversions}
 use Rattle.schubert_transition.proofs.Ranks.{weight_positive}
@@ -56,5 +56,5 @@ returns-in-None-clause-large c err n d is waiting terms =
     let a = over_within (only l.0) (shown n (only (resize n l.0))) c.args.sum.now (λ t m. (terms t m).natural) (λ e. shown_at n l.0 e fits) in
     let b = over_within (only l.0) (shown n (only (resize n l.0))) c.args.waiting.now.factor (λ t m. (is.terms t m).natural) (λ e. shown_at n l.0 e fits) in
     let e = over_identity n (only (resize n l.0)) c.args.waiting.now.perm c.args.waiting.now.factor c.in-None.ensures.short.one_line c.in-None.ensures.none in
-    let v = total_at_least (λ (w : Waiting). over (acted n (only (resize n l.0)) w.perm) w.factor) c.args.todo.now.items (λ x m. value_natural n d (resize n l.0) x (waiting x m)) in
+    let v = total_at_least (λ (w : WithPolynomial). over (acted n (only (resize n l.0)) w.perm) w.factor) c.args.todo.now.items (λ x m. value_natural n d (resize n l.0) x (waiting x m)) in
     (resize n l.0, omega (arith, ints))

@@ -30,6 +30,9 @@ some_covers w f a k =
     let l = length_after a k in
     omega arith
 
+pub count_covers_down : (r : ℕ) (w : List ℕ) → length (covers_down r w) ≤ r - 1
+count_covers_down r w = some_covers w (λ i. times_swap i r w) 0 (r - 1)
+
 pub count_covers : (r : ℕ) (w : List ℕ) → 1 ≤ r → length (covers_up r w) + length (covers_down r w) ≤ max (length w) r
 count_covers r w h =
     let a = some_covers w (λ j. times_swap r j w) r (max (length w) r + 1 - r) in
