@@ -1,11 +1,9 @@
 -- The rule at a corner by places: unions, cells and the row that is longer.
-use Rattle.std.proofs.Common.{◌≡◌, ℕ, zero, suc, ◌+◌, ◌<◌, ◌≤◌, max, true, false, List, [], ◌∷◌, ◌++◌, length, get_or, ◌∙◌, ap, sym, refl, arith}
+use Rattle.std.proofs.Common.{◌≡◌, ℕ, zero, suc, ◌+◌, ◌<◌, ◌≤◌, max, List, [], ◌∷◌, ◌++◌, length, get_or, ◌∙◌, ap, refl, arith}
 use Rattle.std.proofs.Math.ListN.{set}
-use Rattle.std.proofs.lemmas.Bool.{false≢true}
-use Rattle.std.specs.Prelude.{IsTrue, ◌↔◌, Bool, nat_eq, ◌==◌, ◌&&◌}
+use Rattle.std.specs.Prelude.{nat_eq, ◌==◌, ◌&&◌}
 use Rattle.std.specs.Cmp.Lexicographic.{pointwise}
 use Rattle.sym_model.specs.Polynomial.{same}
-use Rattle.sym_model.proofs.Exponents.{same_from, same_apart}
 use Rattle.sym_model.specs.Partition.{ArePositive, size}
 use Rattle.insertion_laws.proofs.Removals.{grown-here, grown-below}
 use Rattle.sym_model.specs.Growth.{grown, union, with_cell}
@@ -46,10 +44,6 @@ grown-none [] small h p = refl
 grown-none (a ∷ large) [] h p = let z = h 0 (omega arith) in let q = p.0 in absurd (omega arith)
 grown-none (a ∷ large) (b ∷ small) h p =
     grown-below a b large small (h 0 (omega arith)) ∙ ap suc (grown-none large small (λ k n. h (suc k) (omega arith)) p.1)
-
-pub same_test : (b : Bool) (l r x y : List ℕ) → l ≡ x → r ≡ y → IsTrue b ↔ (l ≡ r) → b ≡ same x y
-same_test true l r x y e f h = sym (same_from x y (sym e ∙ h.0 refl ∙ f))
-same_test false l r x y e f h = sym (same_apart x y (λ g. false≢true (h.1 (e ∙ g ∙ sym f))))
 
 pub pointwise-same : (l r : List ℕ) → pointwise nat_eq l r ≡ same l r
 pointwise-same [] [] = refl

@@ -1,20 +1,17 @@
 -- The growth shapes of a permutation of at most 255 letters are partitions of at most 255 cells.
-use Rattle.std.proofs.Common.{◌≡◌, ℕ, zero, suc, ◌≤◌, Bool, true, false, cond, nat_le, List, [], ◌∷◌, length, take, sym, refl, subst, inl, inr, arith}
-use Rattle.std.proofs.lemmas.Bool.{and_from, and_parts, le-leb}
+use Rattle.std.proofs.Common.{◌≡◌, ℕ, suc, ◌≤◌, Bool, true, false, cond, nat_le, List, [], ◌∷◌, length, take, sym, subst, arith}
+use Rattle.std.proofs.lemmas.Bool.{and_from, and_parts}
 use Rattle.std.proofs.lemmas.List.{length-take-le}
 use Rattle.sym_model.specs.Insertion.{insertion_pair}
-use Rattle.sym_model.specs.Partition.{ArePositive, size}
+use Rattle.sym_model.specs.Partition.{size}
 use Rattle.sym_model.specs.Permutation.{IsOneLine}
-use Rattle.sym_model.specs.Sum.{Among}
 use Rattle.sym_model.specs.Tableau.{are_letters, shape_of}
-use Rattle.insertion_laws.proofs.WordsAndPairs.{inserted_tableau, as_many_cells}
+use Rattle.sym_model.proofs.SortedParts.{rows_within_size}
+use Rattle.insertion_laws.proofs.SlidLetters.{letters-taken}
+use Rattle.insertion_laws.proofs.WordsAndPairs.{inserted_tableau, as_many_cells, letters_among}
 use Rattle.partitions.specs.Limits.{IsWithinLimits}
 use Rattle.sym_model.specs.Growth.{at_most, growth_shape}
 use Rattle.growth_laws.proofs.GrowthPairs.{growth-shape, perm_from}
-
-few_rows : (parts : List ℕ) → ArePositive parts → length parts ≤ size parts
-few_rows [] h = omega arith
-few_rows (a ∷ parts) h = omega (arith, h.0, few_rows parts h.1)
 
 few_at_most : (j : ℕ) (w : List ℕ) → length (at_most j w) ≤ length w
 few_at_most j [] = omega arith
@@ -33,26 +30,16 @@ letters_at_most j (a ∷ w) h =
     by true r = and_from (nat_le 1 a) (are_letters (at_most j w)) (and_parts (nat_le 1 a) (are_letters w) h).0 r
     by false r = r
 
-pub letters_among : (w : List ℕ) → ((a : ℕ) → Among a w → 1 ≤ a) → are_letters w ≡ true
-letters_among [] h = refl
-letters_among (a ∷ w) h = and_from (nat_le 1 a) (are_letters w) (le-leb 1 a (h a (inl refl))) (letters_among w (λ b m. h b (inr m)))
-
-letters_taken : (i : ℕ) (w : List ℕ) → are_letters w ≡ true → are_letters (take i w) ≡ true
-letters_taken zero w h = refl
-letters_taken (suc i) [] h = refl
-letters_taken (suc i) (a ∷ w) h =
-    let p = and_parts (nat_le 1 a) (are_letters w) h in and_from (nat_le 1 a) (are_letters (take i w)) p.0 (letters_taken i w p.1)
-
 pub shape-limits : (w : List ℕ) (i j : ℕ) → IsOneLine w → length w ≤ 255 → i ≤ length w → j ≤ length w → IsWithinLimits (growth_shape w i j)
 shape-limits w i j h f l m =
     let v = at_most j (take i w) in
-    let letters = letters_at_most j (take i w) (letters_taken i w (letters_among w (λ a n. (h.letters a n).0))) in
+    let letters = letters_at_most j (take i w) (letters-taken i w (letters_among w (λ a n. (h.letters a n).0))) in
     let t = inserted_tableau v letters in
     let small : size (shape_of (insertion_pair v).0) ≤ 255 =
     omega (arith, as_many_cells v, few_at_most j (take i w), length-take-le i w l) in
     subst IsWithinLimits (sym (growth-shape w i j (perm_from w h) l m))
     (record {
       partition = t.outside;
-      few = omega (arith, few_rows (shape_of (insertion_pair v).0) t.outside.positive);
+      few = omega (arith, rows_within_size (shape_of (insertion_pair v).0) t.outside.positive);
       small = omega arith;
     })

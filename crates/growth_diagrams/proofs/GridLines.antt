@@ -4,11 +4,8 @@ use Rattle.std.proofs.lemmas.List.{take_more, take_all, length-map, map-append, 
 use Rattle.sym_model.specs.Partition.{after}
 use Rattle.sym_model.specs.Permutation.{letter}
 use Rattle.sym_model.specs.Growth.{at_corner, grid_line, grid_lines, growth_shape}
+use Rattle.sym_model.proofs.AfterLists.{length_after}
 use Rattle.growth_diagrams.specs.Grids.{lines_in}
-
-length-after : (a n : ℕ) → length (after a n) ≡ n
-length-after a zero = refl
-length-after a (suc n) = ap suc (length-after (a + 1) n)
 
 get-after : {X : Type 0} (f : ℕ → X) (d : X) (a n k : ℕ) → k < n → get_or (map f (after a n)) k d ≡ f (a + k + 1)
 get-after f d a zero k l = absurd (omega arith)
@@ -21,7 +18,7 @@ get-table f d n zero l = refl
 get-table f d n (suc k) l = let e : 0 + k + 1 ≡ suc k = omega arith in get-after f d 0 n k (omega arith) ∙ ap f e
 
 length-table : {X : Type 0} (f : ℕ → X) (n : ℕ) → length (map f (0 ∷ after 0 n)) ≡ n + 1
-length-table f n = omega (arith, length-map (after 0 n) f, length-after 0 n)
+length-table f n = omega (arith, length-map (after 0 n) f, length_after 0 n)
 
 pub length-line : (w : List ℕ) (i : ℕ) → length (grid_line w i) ≡ length w + 1
 length-line w i = length-table (growth_shape w i) (length w)

@@ -62,6 +62,7 @@ impl Grid {
     /// The insertion tableau and the recording tableau of the permutation, read from the edges of its grid: the chains of
     /// shapes in the last line and in the last column. Those of the inverse permutation are the same two, exchanged. Want
     /// of memory is the only error.
+    #[tactic(auto, using(insertion_laws::proofs::WordsAndPairs::one_shape))]
     pub fn pair_of(&self) -> Result<(Standard, Standard), NoMemory>
         ensures pair { IfOk result (λ pair. (pair.0.rows, pair.1.rows) ≡ insertion_pair self.now) }
         ensures one_shape { IfOk result (λ pair. HaveOneShape pair.0 pair.1) }

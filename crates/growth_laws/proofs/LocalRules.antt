@@ -2,6 +2,7 @@
 use Rattle.std.proofs.Common.{◌≡◌, ℕ, zero, suc, ◌+◌, ◌-◌, ◌<◌, ◌≤◌, ◌==◌, Bool, true, false, cond, List, [], ◌∷◌, ◌++◌, length, take, drop, get_or, Some, ◌∙◌, ap, ap₂, sym, refl, subst, inl, inr, arith, append_assoc, append-nil, nat_le}
 use Rattle.std.proofs.lemmas.Bool.{cases_lt, cases_eq, le-leb, lt-leb, eq-eqb, ne_eqb}
 use Rattle.std.proofs.lemmas.List.{length-map, take-append-drop}
+use Rattle.sym_model.proofs.Lists.{get_or-any}
 use Rattle.std.proofs.Math.Seq.{take-suc}
 use Rattle.sym_model.specs.Insertion.{inserted}
 use Rattle.sym_model.specs.Permutation.{letter}
@@ -61,14 +62,11 @@ from_parts j a u small large more last e f n r =
       rule = ap shape_of f ∙ r ∙ ap (λ (x : List (List ℕ)). at_corner (a == suc j) (shape_of small) (shape_of large) (shape_of x)) (sym e);
     }
 
-times_last : (m a : ℕ) (u : List ℕ) → times_in m (u ++ a ∷ []) ≡ times_in m u + cond (a == m) 1 0
-times_last m a u = omega (arith, times_in-append m u (a ∷ []))
-
 other_last : (m a : ℕ) (u : List ℕ) → (a ≡ m → ⊥) → times_in m (u ++ a ∷ []) ≡ times_in m u
-other_last m a u d = omega (arith, times_last m a u, ap {B = ℕ} (λ t. cond t 1 0) (ne_eqb a m d))
+other_last m a u d = omega (arith, times_in-append m u (a ∷ []), ap {B = ℕ} (λ t. cond t 1 0) (ne_eqb a m d))
 
 this_last : (m a : ℕ) (u : List ℕ) → a ≡ m → times_in m (u ++ a ∷ []) ≡ times_in m u + 1
-this_last m a u e = omega (arith, times_last m a u, ap {B = ℕ} (λ t. cond t 1 0) (eq-eqb a m e))
+this_last m a u e = omega (arith, times_in-append m u (a ∷ []), ap {B = ℕ} (λ t. cond t 1 0) (eq-eqb a m e))
 
 -- a letter smaller than m
 square_less :
@@ -229,16 +227,6 @@ pub record AreGrown (w : List ℕ) (shape : ℕ → ℕ → List ℕ) : Type 0 w
   pub squares : (i j : ℕ) → i < length w → j < length w
       → shape (suc i) (suc j) ≡ at_corner (letter w (suc i) == suc j) (shape i j) (shape i (suc j)) (shape (suc i) j)
 
-pub letter-within : (w : List ℕ) (i : ℕ) → i < length w → letter w (suc i) ≡ get_or w i 0
-letter-within w i l =
-    let e : suc i - 1 ≡ i = omega arith in
-    ap (λ n. get_or w n (suc i)) e ∙ any_default w i l
-  where
-    any_default : (w : List ℕ) (k : ℕ) → k < length w → get_or w k (suc i) ≡ get_or w k 0
-    any_default [] k l = absurd (omega arith)
-    any_default (a ∷ w) zero l = refl
-    any_default (a ∷ w) (suc k) l = any_default w k (omega arith)
-
 pub shapes_grown : (w : List ℕ) → AreDifferent w → times_in 0 w ≡ 0 → AreGrown w (shape_at w)
 shapes_grown w d z =
     record {
@@ -247,8 +235,10 @@ shapes_grown w d z =
           ap (λ v. shape_of (inserted_word [] v)) (none_at_most (take i w) e);
       top_edge = λ j. refl;
       squares = λ i j l m.
+          let e : i ≡ suc i - 1 = omega arith in
           square_rule w i j d l
-          ∙ ap (λ a. at_corner (a == suc j) (shape_at w i j) (shape_at w i (suc j)) (shape_at w (suc i) j)) (sym (letter-within w i l));
+          ∙ ap (λ a. at_corner (a == suc j) (shape_at w i j) (shape_at w i (suc j)) (shape_at w (suc i) j))
+          (get_or-any w i 0 (suc i) l ∙ ap (λ n. get_or w n (suc i)) e);
     }
 
 -- ---- the rules determine the shapes

@@ -17,7 +17,7 @@ letters-parts (a ∷ v) w h =
     let q = letters-parts v w p.1 in
     (and_from (nat_le 1 a) (are_letters v) p.0 q.0, q.1)
 
-letters-taken : (n : ℕ) (w : List ℕ) → are_letters w ≡ true → are_letters (take n w) ≡ true
+pub letters-taken : (n : ℕ) (w : List ℕ) → are_letters w ≡ true → are_letters (take n w) ≡ true
 letters-taken n w h = (letters-parts (take n w) (drop n w) (ap are_letters (take-append-drop n w) ∙ h)).0
 
 letters-dropped : (n : ℕ) (w : List ℕ) → are_letters w ≡ true → are_letters (drop n w) ≡ true

@@ -2,6 +2,7 @@
 use Rattle.std.proofs.Common.{◌≡◌, ◌≢◌, ℕ, zero, suc, ◌+◌, ◌<◌, ◌≤◌, ◌==◌, ◌&&◌, Bool, true, false, cond, List, [], ◌∷◌, ◌++◌, map, length, replicate, ◌∙◌, ap, ap₂, sym, refl, inl, inr, arith, nat_lt, nat_le}
 use Rattle.std.proofs.lemmas.Bool.{cases_lt, cases_eq, lt-ltb, le-ltb, le-leb, leb-true, ltb-true, eq-eqb, ne_eqb, and_from, and_parts}
 use Rattle.sym_model.specs.Partition.{Falls, ArePositive, after}
+use Rattle.sym_model.specs.PlaceOrders.{smaller}
 use Rattle.sym_model.specs.Schur.{row_rises, columns_rise, semistandard, letters_of, times_in}
 use Rattle.sym_model.specs.StandardTableau.{IsStandard}
 use Rattle.sym_model.specs.Tableau.{IsStraightTableau, are_letters, shape_of}
@@ -117,11 +118,6 @@ ones_tell f a (suc n) j h l m = elim (cases_eq j (a + 1)) [
 
     rest : map f (after (a + 1) n) ≡ replicate n 1
     rest = cc
-
--- how many letters are smaller than k
-abbrev smaller : ℕ → List ℕ → ℕ
-smaller k [] = 0
-smaller k (a ∷ w) = cond (nat_lt a k) 1 0 + smaller k w
 
 one_smaller : (a k : ℕ) → cond (nat_lt a (k + 1)) 1 0 ≡ cond (nat_lt a k) 1 0 + cond (a == k) 1 0
 one_smaller a k = elim (cases_lt a k) [

@@ -1,11 +1,12 @@
 -- Words and pairs of tableaux of one shape, one of them standard, belong to each other by row insertion.
 use Rattle.std.proofs.Common.{◌≡◌, ◌≢◌, ℕ, zero, suc, ◌+◌, ◌<◌, ◌≤◌, ◌==◌, true, cond, List, [], ◌∷◌, ◌++◌, length, Some, ◌∙◌, ap, ap₂, sym, refl, subst, inl, inr, arith, nat_le, append-nil, append_assoc}
-use Rattle.std.proofs.lemmas.Bool.{cases_eq, eq-eqb, ne_eqb, leb-true, and_parts}
+use Rattle.std.proofs.lemmas.Bool.{cases_eq, eq-eqb, ne_eqb, le-leb, leb-true, and_from, and_parts}
 use Rattle.std.proofs.lemmas.List.{length-append}
 use Rattle.sym_model.specs.Insertion.{inserted, with_step, inserted_from, insertion_pair}
 use Rattle.sym_model.specs.Partition.{size}
 use Rattle.sym_model.specs.Schur.{letters_of, times_in}
 use Rattle.sym_model.specs.StandardTableau.{IsStandard}
+use Rattle.sym_model.specs.Sum.{Among}
 use Rattle.sym_model.specs.Tableau.{IsStraightTableau, are_letters, shape_of}
 use Rattle.sym_model.specs.Growth.{grown}
 use Rattle.sym_model.proofs.Tableaux.{length-letters_of}
@@ -80,6 +81,10 @@ pair_of m w f =
 from_zero : (w : List ℕ) → AreFrom 0 w
 from_zero [] = tt
 from_zero (a ∷ w) = (omega arith, from_zero w)
+
+pub letters_among : (w : List ℕ) → ((a : ℕ) → Among a w → 1 ≤ a) → are_letters w ≡ true
+letters_among [] h = refl
+letters_among (a ∷ w) h = and_from (nat_le 1 a) (are_letters w) (le-leb 1 a (h a (inl refl))) (letters_among w (λ b m. h b (inr m)))
 
 pub from_letters : (w : List ℕ) → are_letters w ≡ true → AreFrom 1 w
 from_letters [] h = tt

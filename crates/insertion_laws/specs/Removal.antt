@@ -1,6 +1,7 @@
 -- Row insertion undone: the word of a pair of tableaux (Fulton, 1.1 and 4.1; Schensted).
 use Rattle.std.specs.Prelude.{ℕ, zero, suc, ◌==◌, nat_lt, cond, List, [], ◌∷◌, ◌++◌, length}
 use Rattle.sym_model.specs.Schur.{letters_of}
+pub use Rattle.sym_model.specs.NumberText.{without_last}
 
 -- the row with b put back: in place of the last letter smaller than it
 abbrev pub row_back : ℕ → List ℕ → List ℕ
@@ -13,12 +14,6 @@ abbrev pub letter_back : ℕ → List ℕ → ℕ
 letter_back b [] = 0
 letter_back b (a ∷ []) = a
 letter_back b (a ∷ c ∷ row) = cond (nat_lt c b) (letter_back b (c ∷ row)) a
-
--- the row without its last letter
-abbrev pub without_last : List ℕ → List ℕ
-without_last [] = []
-without_last (a ∷ []) = []
-without_last (a ∷ b ∷ row) = a ∷ without_last (b ∷ row)
 
 -- its last letter
 abbrev pub last_of : List ℕ → ℕ

@@ -1,5 +1,5 @@
 -- A word inserted letter by letter, and taken out again step by step.
-use Rattle.std.proofs.Common.{◌≡◌, ◌⊎◌, ℕ, zero, suc, ◌+◌, ◌<◌, ◌≤◌, true, nat_le, List, [], ◌∷◌, ◌++◌, length, drop, get_or, reverse, Some, ◌∙◌, ap, ap₂, sym, refl, subst, inl, inr, arith, append-nil, append_assoc}
+use Rattle.std.proofs.Common.{◌≡◌, ℕ, zero, suc, ◌+◌, ◌<◌, ◌≤◌, true, nat_le, List, [], ◌∷◌, ◌++◌, length, drop, get_or, reverse, Some, ◌∙◌, ap, ap₂, sym, subst, arith, append-nil, append_assoc}
 use Rattle.std.proofs.lemmas.Bool.{leb-true, and_parts}
 use Rattle.std.proofs.lemmas.List.{reverse-append, length-map}
 use Rattle.sym_model.specs.Insertion.{inserted, with_step, inserted_from, insertion_pair}

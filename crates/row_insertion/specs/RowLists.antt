@@ -1,5 +1,5 @@
 -- Rows of letters in vectors, and the cells that come to rows and leave them (this project's own).
-use Rattle.std.specs.Prelude.{◌-◌, slice_index_or, slice_set, ℕ, zero, suc, List, [], ◌∷◌, ◌++◌, map, Vec}
+use Rattle.std.specs.Prelude.{◌-◌, slice_index_or, slice_set, ℕ, zero, suc, List, [], ◌∷◌, map, Vec}
 use Rattle.std.specs.declared.alloc.Global.{Global}
 use Rattle.sym_model.specs.Tableau.{SkewFilling, shape_of}
 use Rattle.insertion_laws.specs.Removal.{without_last, row_over}

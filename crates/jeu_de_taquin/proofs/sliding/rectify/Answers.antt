@@ -1,4 +1,4 @@
-use Rattle.std.proofs.Common.{◌<◌, [], length, refl, ap, sym, subst, ◌∙◌, ℕ, List, arith}
+use Rattle.std.proofs.Common.{◌<◌, length, ap, sym, subst, ◌∙◌, ℕ, List, arith}
 use Rattle.sym_model.specs.Partition.{size}
 use Rattle.sym_model.specs.Slide.{IsReached, slide}
 use Rattle.sym_model.specs.Tableau.{SkewFilling}
