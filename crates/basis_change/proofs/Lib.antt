@@ -11,6 +11,7 @@ pub mod Steps
 pub mod Bounds
 pub mod CostTable
 pub mod Ends
+pub mod ClearedAnswers
 pub mod Starts
 pub mod ArrangementSteps
 pub mod PrunedArrangements

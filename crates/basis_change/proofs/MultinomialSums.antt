@@ -138,7 +138,7 @@ factorials-sorted : (α : List ℕ) → plain_factorials (sorted_parts α) ≡ p
 factorials-sorted [] = refl
 factorials-sorted (a ∷ α) = factorials-insert a (sorted_parts α) ∙ ap (λ k. factorial a * k) (factorials-sorted α)
 
-same_factorials : (parts : List ℕ) → plain_factorials parts ≡ factorials parts
+pub same_factorials : (parts : List ℕ) → plain_factorials parts ≡ factorials parts
 same_factorials [] = refl
 same_factorials (a ∷ parts) = ap (λ n. factorial a * n) (same_factorials parts)
 

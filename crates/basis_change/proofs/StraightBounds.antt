@@ -28,7 +28,7 @@ use Rattle.basis_expand.specs.LabelSizes.{AreWithin}
 use Rattle.basis_expand.proofs.WholeLists.{Once-keys}
 use Rattle.basis_change.specs.declared.mixed.MixedLabel.{MixedLabel}
 use Rattle.basis_change.specs.Mixed.{Mixed, weight, Added}
-use Rattle.basis_change.specs.Clearing.{scaled}
+use Rattle.coeff_rings.specs.Fractions.{scaled}
 use Rattle.basis_change.specs.Arranging.{times_straight, straight_term, straight_terms, at_label}
 use Rattle.basis_change.specs.Straightening.{straightened_list, IsPast}
 use Rattle.basis_change.proofs.StraightTerms.{weight-total, straight_term-some}

@@ -39,7 +39,7 @@ use Rattle.std.proofs.lemmas.List.{nil_from_length}
 use Rattle.sym_model.specs.Expansion.{Fraction, Terms}
 use Rattle.sym_model.proofs.Lists.{slice_get-within}
 use Rattle.sym_model.proofs.Parts.{size-append}
-use Rattle.basis_change.specs.Clearing.{scaled}
+use Rattle.coeff_rings.specs.Fractions.{scaled}
 use Rattle.basis_change.specs.Straightening.{straightened_list}
 use native.Mathlib.Nat.{mul-le-mul_left}
 use lib.IntN.{+ℤ_idr}

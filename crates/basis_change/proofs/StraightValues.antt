@@ -27,7 +27,7 @@ use Rattle.basis_expand.proofs.Quotients.{Quotients}
 use Rattle.basis_expand.proofs.TableSums.{label-partition}
 use Rattle.basis_change.specs.declared.mixed.MixedLabel.{MixedLabel}
 use Rattle.basis_change.specs.Mixed.{Mixed, weighed, Added, converted_terms}
-use Rattle.basis_change.specs.Clearing.{scaled}
+use Rattle.coeff_rings.specs.Fractions.{scaled}
 use Rattle.basis_change.specs.Arranging.{straight, times_straight, straight_term, straight_terms}
 use Rattle.basis_change.specs.Straightening.{straightened_list}
 use Rattle.basis_change.proofs.StraightTerms.{total-straight_terms}

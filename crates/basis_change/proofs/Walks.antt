@@ -51,12 +51,6 @@ each-whole {A} {B} h (y ∷ xs) (suc i) x e =
     ∙ append_assoc (h y) (each h (take i xs) ++ h x) (each h (drop (i + 1) xs))
     ∙ ap (λ l. h y ++ l) (each-whole h xs i x e)
 
-pub take_all : {A : Type 0} (xs : List A) (i : ℕ) → length xs ≤ i → take i xs ≡ xs
-take_all [] zero h = refl
-take_all [] (suc i) h = refl
-take_all (x ∷ xs) zero h = absurd (omega arith)
-take_all (x ∷ xs) (suc i) h = ap (λ l. x ∷ l) (take_all xs i (omega arith))
-
 -- ---- parts at an index
 
 pub part-within : (xs : List ℕ) (i : ℕ) → i < length xs → get_or xs i 0 ≤ size xs

@@ -1,13 +1,10 @@
 -- A list of terms in m with its fractions cleared, in augmented monomials (this project's own).
 use Rattle.std.specs.Prelude.{ℕ, ◌/◌, ◌≤◌, ℤ, pos, ◌*ℤ◌, List, [], map}
+use Rattle.coeff_rings.specs.Fractions.{scaled}
 use Rattle.sym_model.specs.Sum.{Among}
 use Rattle.sym_model.specs.Expansion.{Fraction, Terms}
 use Rattle.basis_change_laws.specs.AugmentedMonomial.{multiplicity_factorials}
 use Rattle.basis_change.specs.Mixed.{Mixed, mixed}
-
--- a fraction times den
-abbrev pub scaled : ℕ → Fraction → ℤ
-scaled den c = c.0 *ℤ pos (den / c.1)
 
 -- a fraction times den, times `factor` over the factorials of the multiplicities of a label
 abbrev pub cleared_number : ℕ → ℕ → List ℕ → Fraction → ℤ

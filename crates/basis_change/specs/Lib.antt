@@ -5,3 +5,4 @@ pub mod Costs
 pub mod Clearing
 pub mod Arranging
 pub mod Straightening
+pub mod ClearedAnswer

@@ -3,7 +3,7 @@ use Rattle.std.specs.Prelude.{ℕ, ◌^◌, ◌≤◌, ◌⊎◌, nat_abs, List,
 use Rattle.sym_model.specs.Sum.{each, Among}
 use Rattle.sym_model.specs.Expansion.{Fraction, Terms}
 use Rattle.basis_change.specs.Mixed.{Mixed}
-use Rattle.basis_change.specs.Clearing.{scaled}
+use Rattle.coeff_rings.specs.Fractions.{scaled}
 use Rattle.basis_change.specs.Arranging.{straight_terms, OverflowsSomewhere}
 
 -- the list times den, each label straightened in so many places

@@ -1,20 +1,23 @@
 //! The change from the monomial basis to any other.
-ghost use Rattle.std.specs.Prelude.{◌≡◌, ℕ, ◌*◌, ◌^◌, ◌<◌, ◌≤◌, IfOk, IsErrOf, SomeIff};
+ghost use Rattle.std.specs.Prelude.{◌≡◌, ℕ, ◌*◌, ◌^◌, ◌≤◌, IfOk, IsErrOf};
 ghost use Rattle.sym_model.specs.Expansion.{monomials, IsExpansionOf};
 ghost use Rattle.sym_model.specs.ListWeight.{IsBounded};
 ghost use Rattle.sym_model.specs.Polynomial.{Poly};
-ghost use Rattle.sym_model.specs.Weight.{growth};
+ghost use Rattle.sym_model.specs.Weight.{factorial, growth};
+ghost use Rattle.sparse_polys.specs.MonomialProducts.{greatest_size};
 ghost use Rattle.calc_expressions.specs.Trees.{basis_of};
 ghost use Rattle.basis_expand.specs.LabelSizes.{AreWithin};
 ghost use Rattle.basis_change.specs.Limits.{most_cells};
 ghost use Rattle.basis_change.specs.Factors.{basis_in};
+ghost use Rattle.basis_change.specs.ClearedAnswer.{IsClearedBy, IsMultiplied};
 
-use crate::clearing::{LIMIT, greatest_size, in_augmented, is_table};
+use crate::clearing::{greatest_size, in_augmented, is_table};
 use crate::division::divided;
 use crate::factors::{Family, power_sums_in};
 use crate::parts::factorial;
 use crate::rewriting::converted;
 use crate::straightening::by_arrangements;
+use basis_expand::denominator_product;
 use calc_base::{Basis, SumFault, Weight};
 use coeff_rings::Frac;
 use partitions::Partition;
@@ -27,6 +30,10 @@ use std::alloc::Global;
 /// The list is bounded by `bound`, of which both numbers are at least 1, and its labels have at most 20 cells for the targets m
 /// and s, at most 15 for e, h and p. It is refused as `Large` only where the product of the two numbers and of the growth into the
 /// target at the greatest size of a label is 2^127 or more.
+///
+/// Into e, h and p, with d the greatest size of a label: `bound.den` times d! times each coefficient of the answer is whole, the
+/// absolute values of these products add up to at most `bound.num` times the growth at d, and no label of the answer has more
+/// than d cells.
 pub fn to_basis(
     alloc: Global,
     list: &Lin<Partition, Frac>,
@@ -38,6 +45,8 @@ pub fn to_basis(
     requires sizes { AreWithin (most_cells (basis_of target)) list.now }
     ensures value { IfOk result (λ answer. (n : ℕ) (f : Poly) (q : ℕ)
         → IsExpansionOf monomials list.now n f q → IsExpansionOf (basis_of target) answer n f q) }
+    ensures cleared { let d = greatest_size list.now in IfOk result (λ answer. IsMultiplied (basis_of target)
+        → IsClearedBy (bound.den * factorial d) (bound.num * growth (basis_of target) d) d answer) }
     ensures large { IsErrOf result SumFault.Large → (d : ℕ) → AreWithin d list.now
         → 2 ^ 127 ≤ bound.num * bound.den * growth (basis_of target) d }
 {
@@ -73,6 +82,8 @@ fn by_augmented(
     requires sizes { AreWithin 15 list.now }
     ensures value { IfOk result (λ answer. (n : ℕ) (f : Poly) (q : ℕ)
         → IsExpansionOf monomials list.now n f q → IsExpansionOf (basis_in family) answer n f q) }
+    ensures cleared { let d = greatest_size list.now in
+        IfOk result (IsClearedBy (bound.den * factorial d) (bound.num * growth (basis_in family) d) d) }
     ensures large { IsErrOf result SumFault.Large → (d : ℕ) → AreWithin d list.now
         → 2 ^ 127 ≤ bound.num * bound.den * growth (basis_in family) d }
 {
@@ -86,11 +97,4 @@ fn by_augmented(
     let start = in_augmented(alloc, list, bound.den, factor)?;
     let end = converted(alloc, family, start, factors.as_slice(), size)?;
     divided(alloc, &end, den)
-}
-
-/// The product of two denominators; none where it is 2^127 or more.
-fn denominator_product(a: u128, b: u128) -> Option<u128>
-    ensures { SomeIff result (a * b < 2 ^ 127) (a * b) }
-{
-    a.checked_mul(b).filter(|den| *den < LIMIT)
 }

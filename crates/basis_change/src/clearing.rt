@@ -3,7 +3,8 @@ ghost use Rattle.std.specs.Prelude.{◌≡◌, ℕ, ◌+◌, ◌*◌, ◌/◌, �
 ghost use Rattle.basis_change_laws.specs.AugmentedMonomial.{multiplicity_factorials};
 ghost use Rattle.basis_expand.specs.LabelSizes.{AreWithin};
 ghost use Rattle.basis_expand.specs.Tables.{IsTable};
-ghost use Rattle.basis_change.specs.Clearing.{scaled, cleared_number, cleared_terms, HasFactors};
+ghost use Rattle.coeff_rings.specs.Fractions.{scaled};
+ghost use Rattle.basis_change.specs.Clearing.{cleared_number, cleared_terms, HasFactors};
 ghost use Rattle.basis_change.specs.Mixed.{mixed, Added, Overflows};
 
 use crate::mixed::MixedLabel;
@@ -20,7 +21,7 @@ use std::alloc::Global;
 pub(crate) const LIMIT: u128 = 1 << 127;
 
 /// The greatest size of a label, 0 for the empty list.
-pub(crate) fn greatest_size(list: &Lin<Partition, Frac>) -> u16
+pub fn greatest_size(list: &Lin<Partition, Frac>) -> u16
     ensures within { AreWithin result list.now }
     ensures least { (d : ℕ) → AreWithin d list.now → result ≤ d }
 {
@@ -35,7 +36,7 @@ pub(crate) fn greatest_size(list: &Lin<Partition, Frac>) -> u16
 }
 
 /// Does nothing when it runs: it tells a proof what a list is.
-pub(crate) fn is_table(list: &Lin<Partition, Frac>)
+pub fn is_table(list: &Lin<Partition, Frac>)
     ensures { IsTable list.now }
 {
     let _ = list.len();
@@ -50,7 +51,7 @@ fn whole_of(n: u128) -> Int
 }
 
 /// The numerator.
-fn numerator_of(c: Frac) -> Int
+pub fn numerator_of(c: Frac) -> Int
     ensures { result ≡ c.0 }
 {
     Int::new(c.num())
@@ -65,7 +66,7 @@ fn denominator_of(c: Frac) -> u128
 }
 
 /// The coefficient times the common denominator; none where it is too large.
-pub(crate) fn scaled_number(c: Frac, den: u128) -> Option<Int>
+pub fn scaled_number(c: Frac, den: u128) -> Option<Int>
     requires { den < 2 ^ 127 }
     ensures { MatchOption result (2 ^ 127 ≤ nat_abs (scaled den c)) (λ z. z ≡ scaled den c) }
 {

@@ -15,3 +15,5 @@ mod straightening;
 mod table;
 
 pub use change::to_basis;
+pub use clearing::{greatest_size, is_table, numerator_of, scaled_number};
+pub use parts::factorial;

@@ -100,8 +100,8 @@ pub(crate) fn multiplicity_factorials(parts: &[u16]) -> u128
     product
 }
 
-/// The product of the numbers up to `d`.
-pub(crate) fn factorial(d: u16) -> u128
+/// The product of the numbers up to `d`, which is at most 20.
+pub fn factorial(d: u16) -> u128
     requires { d ≤ 20 }
     ensures { result ≡ factorial d }
 {

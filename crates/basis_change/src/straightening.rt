@@ -7,7 +7,7 @@ ghost use Rattle.sym_model.specs.Polynomial.{Poly};
 ghost use Rattle.sym_model.specs.Weight.{growth};
 ghost use Rattle.basis_expand.specs.LabelSizes.{AreWithin};
 ghost use Rattle.basis_change.specs.Mixed.{Added};
-ghost use Rattle.basis_change.specs.Clearing.{scaled};
+ghost use Rattle.coeff_rings.specs.Fractions.{scaled};
 ghost use Rattle.basis_change.specs.Arranging.{straight_terms, OverflowsSomewhere};
 ghost use Rattle.basis_change.specs.Straightening.{straightened_list, IsPast};
 

@@ -111,7 +111,7 @@ not_refused_quotient d a b z h e q r =
 
 -- ---- the list divided
 
-denominators-positive : (terms : Terms (List ℕ)) → are_terms is_label terms ≡ true → 0 < denominators terms
+pub denominators-positive : (terms : Terms (List ℕ)) → are_terms is_label terms ≡ true → 0 < denominators terms
 denominators-positive [] h = omega arith
 denominators-positive (t ∷ terms) h =
     let p = and_parts _ (are_terms is_label terms) h in

@@ -36,7 +36,7 @@ use lib.IntN.{+ℤ_idl, +ℤ_idr}
 pub equal_from : (a b : List ℕ) → a ≡ b → equal a b ≡ true
 equal_from a b e = subst (λ x. equal a x ≡ true) e (nat_list_eq_equiv.refl a)
 
-equal_tells : (a b : List ℕ) → equal a b ≡ true → a ≡ b
+pub equal_tells : (a b : List ℕ) → equal a b ≡ true → a ≡ b
 equal_tells a b h = (bytes_eq-Decides a b).0 h
 
 pub equal_apart : (a b : List ℕ) → (a ≡ b → ⊥) → equal a b ≡ false

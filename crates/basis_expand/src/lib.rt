@@ -12,4 +12,7 @@ mod schur;
 mod strips;
 mod whole;
 
+pub use denominators::denominator_product;
+pub use division::divided;
 pub use expansion::to_monomial;
+pub use whole::{Whole, is_whole, single, sum_of};

@@ -1,9 +1,11 @@
 //! Lists of terms in m with whole coefficients: of one term, and of e_k, h_k and p_k.
 ghost use Rattle.std.specs.Prelude.{◌≡◌, ◌<◌, ◌≤◌, [], ◌∷◌, ◌^◌, pos, IfOk, IsErrOf};
+ghost use Rattle.sym_model.specs.Partition.{size};
 ghost use Rattle.sym_model.specs.Polynomial.{Same, plus, scale};
 ghost use Rattle.sym_model.specs.WholeTerms.{AreWhole, numerators};
 ghost use Rattle.partitions.specs.Limits.{IsWithinLimits};
 ghost use Rattle.monomial_laws.specs.ExpressionTerms.{elementary_terms, complete_terms, power_sum_terms_of};
+ghost use Rattle.basis_expand.specs.LabelSizes.{AreWithin};
 ghost use Rattle.basis_expand.specs.Tables.{IsTable};
 ghost use Rattle.basis_expand.specs.Large.{SumIsLarge};
 
@@ -14,20 +16,21 @@ use sparse_polys::Lin;
 use std::alloc::Global;
 
 /// A list of terms in m with whole coefficients.
-pub(crate) type Whole = Lin<Partition, Int>;
+pub type Whole = Lin<Partition, Int>;
 
 /// Does nothing when it runs: it tells a proof what such a list is.
-pub(crate) fn is_whole(list: &Whole)
+pub fn is_whole(list: &Whole)
     ensures whole { AreWhole list.now }
     ensures table { IsTable list.now }
 {
     let _ = list.iter();
 }
 
-/// The list of one term, and of none where the coefficient is 0.
-pub(crate) fn single(alloc: Global, parts: &[u16], c: i128) -> Result<Whole, SumFault>
+/// The list of one term, and of none where the coefficient is 0. It is never refused as `Large`.
+pub fn single(alloc: Global, parts: &[u16], c: i128) -> Result<Whole, SumFault>
     requires { IsWithinLimits parts.now }
     ensures value { IfOk result (λ list. Same (numerators list) ((parts.now, c) ∷ [])) }
+    ensures labels { IfOk result (AreWithin (size parts.now)) }
     ensures small { ¬ IsErrOf result SumFault.Large }
 {
     let mut list = Lin::new(alloc);
@@ -72,8 +75,9 @@ pub(crate) fn power_sum(alloc: Global, k: u16) -> Result<Whole, SumFault>
     single(alloc, &[k], 1)
 }
 
-/// The sum of two lists, each times a number.
-pub(crate) fn sum_of(left: Whole, p: i128, right: Whole, q: i128) -> Result<Whole, SumFault>
+/// The sum of two lists, each times a number. It is refused as `Large` only where a multiple of one of them or the sum of both has
+/// a coefficient that is too large.
+pub fn sum_of(left: Whole, p: i128, right: Whole, q: i128) -> Result<Whole, SumFault>
     ensures value { IfOk result (λ sum. Same (numerators sum) (plus (scale p (numerators left)) (scale q (numerators right)))) }
     ensures large { IsErrOf result SumFault.Large → SumIsLarge (numerators left) (numerators right) p q }
 {

@@ -44,18 +44,18 @@ path-coefficient K b a n γs g parts o s p h e i r α l =
     α l
 
 -- and those of the product with one factor more, with absolute values, as the weight allows
-pub path-product : (K b k : ℕ) (done : List ℕ) (A B : WholeTerms) (γs : ℕ → List (List ℕ)) (g : ℕ → Poly) → 0 < k → ArePositive done
+pub path-product : (K b k : ℕ) (rest : List ℕ) (A B : WholeTerms) (γs : ℕ → List (List ℕ)) (g : ℕ → Poly) → 0 < k → ArePositive rest
     → ((n : ℕ) → HavePlaces n (γs n)) → ((n : ℕ) → Same (monomial_sum (γs n)) (g n)) → ((n : ℕ) → In n (g n)) → ((n : ℕ) → IsBounded K b n (g n))
-    → Once (labels A) → Once (labels B) → IsList A (λ n. product_over (λ k m. dilated k (g n)) done n) → IsList B (λ n. dilated k (g n))
-    → (ν : List ℕ) → nat_abs (product_coefficient (absolute A) (absolute B) ν) ≤ K ^ size done * K ^ k * growth Basis.monomials (size done * b + k * b)
-path-product K b k done A B γs g l p h e i r o q x y ν =
-    product_within_growth (K ^ size done) (K ^ k) (size done * b) (k * b) A B o q
-    (λ n. bounded_respects (K ^ size done) (size done * b) n (product_over (λ k m. dilated k (g n)) done n) (in_monomials A n)
-    (Same_sym (in_monomials A n) (product_over (λ k m. dilated k (g n)) done n) (x n))
-    (bounded-path K b n (γs n) (g n) done p (h n) (e n) (i n) (r n)))
-    (λ n. bounded_respects (K ^ k) (k * b) n (dilated k (g n)) (in_monomials B n)
-    (Same_sym (in_monomials B n) (dilated k (g n)) (y n))
+    → Once (labels A) → Once (labels B) → IsList A (λ n. dilated k (g n)) → IsList B (λ n. product_over (λ k m. dilated k (g n)) rest n)
+    → (ν : List ℕ) → nat_abs (product_coefficient (absolute A) (absolute B) ν) ≤ K ^ k * K ^ size rest * growth Basis.monomials (k * b + size rest * b)
+path-product K b k rest A B γs g l p h e i r o q x y ν =
+    product_within_growth (K ^ k) (K ^ size rest) (k * b) (size rest * b) A B o q
+    (λ n. bounded_respects (K ^ k) (k * b) n (dilated k (g n)) (in_monomials A n)
+    (Same_sym (in_monomials A n) (dilated k (g n)) (x n))
     (bounded-dilated K b k n (γs n) (g n) l (h n) (e n) (i n) (r n)))
+    (λ n. bounded_respects (K ^ size rest) (size rest * b) n (product_over (λ k m. dilated k (g n)) rest n) (in_monomials B n)
+    (Same_sym (in_monomials B n) (product_over (λ k m. dilated k (g n)) rest n) (y n))
+    (bounded-path K b n (γs n) (g n) rest p (h n) (e n) (i n) (r n)))
     ν
 
 -- what is met at one place bounds the coefficient there

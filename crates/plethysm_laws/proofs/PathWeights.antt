@@ -1,11 +1,11 @@
 -- The weight of a plethysm is at least every number that is met.
-use Rattle.std.proofs.Common.{ℕ, ◌+◌, ◌*◌, ◌^◌, ◌≤◌, max, arith}
+use Rattle.std.proofs.Common.{ℕ, zero, suc, ◌+◌, ◌*◌, ◌^◌, ◌≤◌, max, arith}
 use Rattle.std.proofs.lemmas.Nat.{mul-le}
-use Rattle.std.proofs.Math.Nat.{one-le-pow, pow-le-pow_right}
+use Rattle.std.proofs.Math.Nat.{one-le-pow, pow-le-pow_left, pow-le-pow_right}
 use Rattle.sym_model.specs.Expansion.{Basis, power_sums}
 use Rattle.sym_model.specs.Weight.{factorial, growth}
 use Rattle.sym_model.specs.Plethysm.{plethysm_weight}
-use Rattle.monomial_laws.proofs.Growths.{factorial-positive, growth-most, growth-one}
+use Rattle.monomial_laws.proofs.Growths.{factorial-positive, factorial-mono, growth-most, growth-one}
 use Rattle.monomial_laws.proofs.WeightBounds.{factorial-within_growth, growth-mono}
 use native.Mathlib.Nat.{mul-le-mul_left}
 
@@ -78,3 +78,28 @@ module _ (N D a K b : ℕ) (n : 1 ≤ N) (d : 1 ≤ D) (k : 1 ≤ K) where
       let p = mul-le D (factorial a) (N * D) (growth power_sums a) (times_more N D n) (omega arith) in
       let w = weight-outer in
       omega arith
+
+-- ---- greater degrees
+
+growth-rises : (d e : ℕ) → d ≤ e → growth power_sums d ≤ growth power_sums e
+growth-rises zero e h = growth-one e
+growth-rises (suc d) zero h = absurd (omega arith)
+growth-rises (suc d) (suc e) h =
+    let p = pow-le-pow_left (let o : 2 * suc d ≤ 2 * suc e = omega arith in o) (suc d) in
+    let q : (2 * suc e) ^ suc d ≤ (2 * suc e) ^ suc e = pow-le-pow_right (let o : 1 ≤ 2 * suc e = omega arith in o) h in
+    mul-le (factorial (suc d)) ((2 * suc d) ^ suc d) (factorial (suc e)) ((2 * suc e) ^ suc e) (factorial-mono (suc d) (suc e) h) (omega arith)
+
+-- the weight rises with both degrees
+pub weight-rises : (N D a c K b d : ℕ) → 1 ≤ K → a ≤ c → b ≤ d → plethysm_weight N D a K b ≤ plethysm_weight N D c K d
+weight-rises N D a c K b d k h l =
+    let base = mul-le-mul_left K (let o : b + 1 ≤ d + 1 = omega arith in o) in
+    let wide = mul-le 1 1 K (d + 1) k (omega arith) in
+    let left = pow-le-pow_left (let o : K * (b + 1) ≤ K * (d + 1) = omega arith in o) a in
+    let right : (K * (d + 1)) ^ a ≤ (K * (d + 1)) ^ c = pow-le-pow_right (let o : 1 ≤ K * (d + 1) = omega arith in o) h in
+    let degree = mul-le a b c d h l in
+    let first = mul-le (growth power_sums a) (factorial (a * b)) (growth power_sums c) (factorial (c * d)) (growth-rises a c h) (factorial-mono (a * b) (c * d) degree) in
+    let second = growth-rises (a * b) (c * d) degree in
+    mul-le (N * D * (a + 1) * (K * (b + 1)) ^ a) (max (growth power_sums a * factorial (a * b)) (growth power_sums (a * b)))
+    (N * D * (c + 1) * (K * (d + 1)) ^ c) (max (growth power_sums c * factorial (c * d)) (growth power_sums (c * d)))
+    (mul-le (N * D * (a + 1)) ((K * (b + 1)) ^ a) (N * D * (c + 1)) ((K * (d + 1)) ^ c) (mul-le-mul_left (N * D) (let o : a + 1 ≤ c + 1 = omega arith in o)) (omega arith))
+    (omega arith)

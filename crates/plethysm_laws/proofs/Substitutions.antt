@@ -76,11 +76,6 @@ pair-substitute n γs f φ = total_map (λ (t : Term). t.1 *ℤ φ t.0) (λ (t :
 pub pair-dilated : (k : ℕ) (f : Poly) (φ : List ℕ → ℤ) → pair (dilated k f) φ ≡ pair f (λ α. φ (multiplied k α))
 pair-dilated k f φ = total_map (λ (t : Term). t.1 *ℤ φ t.0) (λ (t : Term). (multiplied k t.0, t.1)) f
 
-pub dilated_respects : (k : ℕ) (f g : Poly) → Same f g → Same (dilated k f) (dilated k g)
-dilated_respects k f g e =
-    same_from_pair (dilated k f) (dilated k g)
-    (λ φ. pair-dilated k f φ ∙ pair_determined f g (λ α. φ (multiplied k α)) e ∙ sym (pair-dilated k g φ))
-
 pub substitute_respects : (n : ℕ) (γs : List (List ℕ)) (f g : Poly) → Same f g → Same (substitute n γs f) (substitute n γs g)
 substitute_respects n γs f g e =
     same_from_pair (substitute n γs f) (substitute n γs g)
@@ -172,9 +167,6 @@ substitute-power_sum (k ∷ parts) n γs g p h e =
     (substitute-power_sum parts n γs g p.1 h e))
 
 -- ---- variables
-
-pub In-substitute : (n : ℕ) (γs : List (List ℕ)) (f : Poly) → HavePlaces n γs → In n (substitute n γs f)
-In-substitute n γs f h = In_map n (λ (t : Term). (replaced n γs t.0, t.1)) f (λ t m. length-replaced n γs t.0 h)
 
 pub In-dilated : (k n : ℕ) (g : Poly) → In n g → In n (dilated k g)
 In-dilated k n g i = In_map n (λ (t : Term). (multiplied k t.0, t.1)) g (λ t m. length-multiplied k t.0 ∙ i t m)

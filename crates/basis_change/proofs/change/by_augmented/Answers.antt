@@ -1,15 +1,18 @@
 use Rattle.std.proofs.Common.{◌≡◌, ◌*◌, ◌^◌, ◌<◌, ◌≤◌, ℕ, length, sym, ap, ◌∙◌, subst, Err, arith}
-use Rattle.sym_model.specs.Weight.{factorial}
+use Rattle.sym_model.specs.Expansion.{Basis}
+use Rattle.sym_model.specs.Weight.{factorial, growth}
 use Rattle.sparse_polys.proofs.Steps.{error_is}
 use Rattle.basis_expand.proofs.WholeLists.{if_ok_both}
 use Rattle.basis_expand.proofs.Quotients.{Quotients}
 use Rattle.basis_change.specs.Mixed.{weighed, weight, AreReady, converted_terms}
 use Rattle.basis_change.specs.Clearing.{cleared_terms, HasFactors}
 use Rattle.basis_change.specs.Costs.{cost}
-use Rattle.basis_change.specs.Factors.{product_value}
+use Rattle.basis_change.specs.Factors.{product_value, basis_in}
+use Rattle.basis_change.specs.ClearedAnswer.{IsClearedBy}
+use Rattle.basis_change.proofs.ClearedAnswers.{greatest_is, cleared-answer}
 use Rattle.basis_change.proofs.Costs.{cost-positive}
 use Rattle.basis_change.proofs.CostTable.{has-factors}
-use Rattle.basis_change.proofs.Bounds.{large-number, large-denominator, weight-mono}
+use Rattle.basis_change.proofs.Bounds.{large-number, large-denominator, weight-mono, same_growth}
 use Rattle.basis_change.proofs.Starts.{none-large, start-cost, table-cost, table-ready}
 use Rattle.basis_change.proofs.Ends.{expansion-changed}
 use Rattle.basis_change.proofs.change.by_augmented.Goals as goal
@@ -106,3 +109,27 @@ returns-clause-large c err d w =
     let k = c.in_ok-end.ensures.cost in
     let s = table-cost c.args.bound.num c.args.bound.den size c.factorial-factor.result c.args.list.now c.factorial-factor.ensures low c.is_table.ensures c.greatest_size-size.ensures.within c.in_ok-start.start.entries c.requires.bounded c.in_ok-start.ensures.ok in
     large-number c.args.family c.args.bound.num c.args.bound.den size d (weight cost c.in_ok-start.start.entries) c.requires.positive.1 (c.greatest_size-size.ensures.least d w) (omega arith) s
+
+pub returns-clause-cleared : goal.returns-clause-cleared
+returns-clause-cleared c =
+    let size = c.greatest_size-size.result in
+    let N = c.args.bound.num in
+    let D = c.args.bound.den in
+    let low = c.greatest_size-size.ensures.least 15 c.requires.sizes in
+    let den : c.in-Some.den ≡ c.args.bound.den * factorial c.greatest_size-size.result = c.in-Some.ensures.1 ∙ ap (λ f. c.args.bound.den * f) c.factorial-factor.ensures in
+    let v = ap length c.as_slice.ensures.value in
+    let l : length c.as_slice.result.now ≡ c.greatest_size-size.result = omega (arith, c.in_ok-factors.ensures.length) in
+    let m = weight-mono (λ l. 1) cost c.in_ok-end.end.entries cost-positive in
+    let k = c.in_ok-end.ensures.cost in
+    let s = table-cost c.args.bound.num c.args.bound.den size c.factorial-factor.result c.args.list.now c.factorial-factor.ensures low c.is_table.ensures c.greatest_size-size.ensures.within c.in_ok-start.start.entries c.requires.bounded c.in_ok-start.ensures.ok in
+    let few : weight (λ l. 1) c.in_ok-end.end.entries ≤ c.args.bound.num * growth Basis.completes c.greatest_size-size.result = omega arith in
+    if_ok_both c.divided.result c.divided.ensures.value c.divided.ensures.table
+    (λ answer quotients table.
+    subst (λ k. IsClearedBy (c.args.bound.den * factorial k) (c.args.bound.num * growth (basis_in c.args.family) k) k answer)
+    (greatest_is c.greatest_size-size.result c.args.list.now c.greatest_size-size.ensures.within c.greatest_size-size.ensures.least)
+    (cleared-answer (c.args.bound.den * factorial c.greatest_size-size.result) c.greatest_size-size.result c.in_ok-end.end.entries answer
+    (mul-pos c.requires.positive.1 (factorial-positive c.greatest_size-size.result)) table
+    (subst (λ d. Quotients d answer (converted_terms c.in_ok-end.end.entries)) den quotients)
+    (c.args.bound.num * growth (basis_in c.args.family) c.greatest_size-size.result)
+    (subst (λ g. weight (λ l. 1) c.in_ok-end.end.entries ≤ c.args.bound.num * g) (sym (same_growth c.args.family c.greatest_size-size.result)) few)
+    (subst (λ n. AreReady n 0 c.in_ok-end.end.entries) l c.in_ok-end.ensures.ready)))

@@ -1,6 +1,6 @@
 use Rattle.std.proofs.Common.{◌^◌, ◌<◌, ◌∙◌, ap, sym, subst}
 use Rattle.basis_change_laws.specs.AugmentedMonomial.{multiplicity_factorials}
-use Rattle.basis_change.specs.Clearing.{scaled}
+use Rattle.coeff_rings.specs.Fractions.{scaled}
 use Rattle.basis_change.proofs.PartLists.{multiplicity_factorials-positive}
 use Rattle.basis_change.proofs.Bounds.{large-product, quotient-positive}
 use Rattle.basis_change.proofs.clearing.cleared_number.Goals as goal

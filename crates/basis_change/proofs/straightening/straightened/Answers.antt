@@ -7,7 +7,7 @@ use Rattle.sym_model.specs.Expansion.{Fraction, Terms}
 use Rattle.sparse_polys.proofs.Steps.{error_is}
 use Rattle.sparse_polys.proofs.Rows.{list_whole, list_among}
 use Rattle.basis_change.specs.Mixed.{Mixed, Added}
-use Rattle.basis_change.specs.Clearing.{scaled}
+use Rattle.coeff_rings.specs.Fractions.{scaled}
 use Rattle.basis_change.specs.Arranging.{straight_terms, OverflowsSomewhere}
 use Rattle.basis_change.proofs.Tables.{Added-then}
 use Rattle.basis_change.proofs.Bounds.{itself}
