@@ -6,3 +6,4 @@ pub mod ReadingCells
 pub mod TableauRows
 -- Lemmas of the crate.
 pub mod LineTexts
+pub mod GatheringLaws

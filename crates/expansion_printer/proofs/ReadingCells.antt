@@ -4,11 +4,14 @@ use Rattle.std.specs.Prelude.{slice_index}
 use Rattle.std.proofs.lemmas.Bool.{eq-eqb, ne_eqb, cases_eq, cond-true, cond-false, lt-ltb, le-leb, and_from, and_right}
 use Rattle.std.proofs.lemmas.Bool.Decides.{nat_tests}
 use Rattle.std.proofs.lemmas.List.{reverse-append, length-map, get_or-drop}
+use Rattle.std.specs.List.{sum_by, count_by}
+use Rattle.std.proofs.lemmas.List.Sums.{sum_by-cons, sum_by-append, sum_by_push}
 use Rattle.sym_model.specs.Sum.{each, select}
 use Rattle.sym_model.specs.Partition.{after, part, rows, columns, IsCell, Falls}
 use Rattle.sym_model.specs.TableauList.{column_cells, reading_cells, letter_of_cell}
 use Rattle.sym_model.proofs.Numbers.{nat_lt-false}
-use Rattle.expansion_printer.specs.ReadingPlaces.{tally, cells_before}
+use Rattle.skew_shapes.specs.Rows.{reaches}
+use Rattle.expansion_printer.specs.ReadingPlaces.{cells_before}
 use Rattle.expansion_printer.proofs.RowTexts.{after-push}
 
 one-add : (k : ℕ) → 1 + k ≡ suc k
@@ -16,32 +19,30 @@ one-add k = omega arith
 
 -- ---- sums
 
-tally-add : {A : Type 0} (f h : A → ℕ) (xs : List A) → tally (λ x. f x + h x) xs ≡ tally f xs + tally h xs
-tally-add f h [] = refl
-tally-add f h (x ∷ xs) = let e = tally-add f h xs in omega arith
+sum_by-add : {A : Type 0} (f h : A → ℕ) (xs : List A) → sum_by (λ x. f x + h x) xs ≡ sum_by f xs + sum_by h xs
+sum_by-add f h [] = refl
+sum_by-add f h (x ∷ xs) =
+    let e = sum_by-add f h xs in
+    let both = sum_by-cons (λ x. f x + h x) x xs in
+    omega (arith, sum_by-cons f x xs, sum_by-cons h x xs)
 
-tally-ext : {A : Type 0} (f h : A → ℕ) (xs : List A) → ((x : A) → f x ≡ h x) → tally f xs ≡ tally h xs
-tally-ext f h [] same = refl
-tally-ext f h (x ∷ xs) same = ap₂ ◌+◌ (same x) (tally-ext f h xs same)
-
-tally-append : {A : Type 0} (f : A → ℕ) (xs ys : List A) → tally f (xs ++ ys) ≡ tally f xs + tally f ys
-tally-append f [] ys = omega arith
-tally-append f (x ∷ xs) ys = let e = tally-append f xs ys in omega arith
+sum_by-ext : {A : Type 0} (f h : A → ℕ) (xs : List A) → ((x : A) → f x ≡ h x) → sum_by f xs ≡ sum_by h xs
+sum_by-ext f h [] same = refl
+sum_by-ext f h (x ∷ xs) same =
+    sum_by-cons f x xs ∙ (ap₂ ◌+◌ (same x) (sum_by-ext f h xs same) ∙ sym (sum_by-cons h x xs))
 
 -- one more number
-pub tally-more : (f : ℕ → ℕ) (k : ℕ) → tally f (after 0 k) + f (k + 1) ≡ tally f (after 0 (k + 1))
-tally-more f k =
-    let e = tally-append f (after 0 k) ((0 + k + 1) ∷ []) in
-    let same : 0 + k + 1 ≡ k + 1 = omega arith in
-    let last : tally f ((0 + k + 1) ∷ []) ≡ f (k + 1) = ap (λ n. f n + 0) same ∙ (omega arith) in
-    sym (sym (ap (tally f) (after-push 0 k)) ∙ e ∙ ap (λ n. tally f (after 0 k) + n) last)
+pub sum_by-more : (f : ℕ → ℕ) (k : ℕ) → sum_by f (after 0 k) + f (k + 1) ≡ sum_by f (after 0 (k + 1))
+sum_by-more f k =
+    let last : k + 1 ≡ 0 + k + 1 = omega arith in
+    ap (λ n. sum_by f (after 0 k) + f n) last ∙ (sym (sum_by_push f (after 0 k) (0 + k + 1)) ∙ ap (sum_by f) (after-push 0 k))
 
-length-select : {A : Type 0} (test : A → Bool) (xs : List A) → length (select test xs) ≡ tally (λ x. cond (test x) 1 0) xs
+length-select : {A : Type 0} (test : A → Bool) (xs : List A) → length (select test xs) ≡ count_by test xs
 length-select test [] = refl
-length-select {A} test (x ∷ xs) = by (test x) (length-select test xs)
+length-select {A} test (x ∷ xs) = by (test x) (length-select test xs) ∙ sym (sum_by-cons (λ (y : A). cond (test y) 1 0) x xs)
   where
-    by : (b : Bool) → length (select test xs) ≡ tally (λ (y : A). cond (test y) 1 0) xs
-        → length (cond b (x ∷ select test xs) (select test xs)) ≡ cond b 1 0 + tally (λ (y : A). cond (test y) 1 0) xs
+    by : (b : Bool) → length (select test xs) ≡ count_by test xs
+        → length (cond b (x ∷ select test xs) (select test xs)) ≡ cond b 1 0 + count_by test xs
     by true e = omega arith
     by false e = omega arith
 
@@ -70,19 +71,21 @@ not_in-column : (column j : ℕ) (is : List ℕ) → j ≢ column → NotIn colu
 not_in-column column j [] other = tt
 not_in-column column j (i ∷ is) other = (other, not_in-column column j is other)
 
--- 1 where something holds
-abbrev counted : Bool → ℕ
-counted b = cond b 1 0
-
 -- how many rows above the cell's pass a test
 abbrev rows_above : ℕ → (ℕ → Bool) → List ℕ → ℕ
-rows_above row test = tally (λ i. counted (nat_lt i row && test i))
+rows_above row test = count_by (λ i. nat_lt i row && test i)
+
+-- one row more in front
+rows_above-cons : (row : ℕ) (test : ℕ → Bool) (i : ℕ) (is : List ℕ)
+    → rows_above row test (i ∷ is) ≡ cond (nat_lt i row && test i) 1 0 + rows_above row test is
+rows_above-cons row test i is = sum_by-cons (λ k. cond (nat_lt k row && test k) 1 0) i is
 
 -- rows past the cell's do not count
 rows_above-past : (row : ℕ) (test : ℕ → Bool) (a m : ℕ) → row ≤ a + 1 → rows_above row test (after a m) ≡ 0
 rows_above-past row test a zero far = refl
 rows_above-past row test a (suc m) far =
-    ap (λ b. counted (b && test (a + 1)) + rows_above row test (after (a + 1) m)) (nat_lt-false (a + 1) row far)
+    rows_above-cons row test (a + 1) (after (a + 1) m)
+    ∙ ap (λ b. cond (b && test (a + 1)) 1 0 + rows_above row test (after (a + 1) m)) (nat_lt-false (a + 1) row far)
     ∙ zero-add (rows_above row test (after (a + 1) m)) ∙ rows_above-past row test (a + 1) m (omega arith)
 
 -- the cells of a column in the rows that pass a test, and others behind them
@@ -95,27 +98,28 @@ in-column : (row column : ℕ) (test : ℕ → Bool) (others : List (ℕ × ℕ)
 in-column row column test others a zero high low h w = absurd (omega arith)
 in-column row column test others a (suc m) high low h w =
     by (test (a + 1)) (cases_eq (a + 1) row) refl w (λ far. in-column row column test others (a + 1) m far (omega arith) h)
+    ∙ ap (slice_index w) (sym (rows_above-cons row test (a + 1) (after (a + 1) m)))
   where
     by : (b : Bool) → ((a + 1) ≡ row) ⊎ ((a + 1) ≢ row) → test (a + 1) ≡ b → (w : List ℕ)
         → (a + 1 < row → (v : List ℕ) → letter_of_cell row column (cells_then column (select test (after (a + 1) m)) others) v ≡ slice_index v (rows_above row test (after (a + 1) m)))
         → letter_of_cell row column (cells_then column (cond b ((a + 1) ∷ select test (after (a + 1) m)) (select test (after (a + 1) m))) others) w
-        ≡ slice_index w (counted (nat_lt (a + 1) row && b) + rows_above row test (after (a + 1) m))
+        ≡ slice_index w (cond (nat_lt (a + 1) row && b) 1 0 + rows_above row test (after (a + 1) m))
     by false (inl e) t w ih = let clash : true ≡ false = sym h ∙ ap test (sym e) ∙ t in cc
     by false (inr n) t w ih =
         ih (omega arith) w ∙ ap (slice_index w) (sym (zero-add (rows_above row test (after (a + 1) m)))
-        ∙ ap (λ b. counted b + rows_above row test (after (a + 1) m)) (sym (and_right (nat_lt (a + 1) row) false refl)))
+        ∙ ap (λ (b : Bool). cond b 1 0 + rows_above row test (after (a + 1) m)) (sym (and_right (nat_lt (a + 1) row) false refl)))
     by true c t [] ih = refl
     by true (inl e) t (x ∷ w) ih =
         cond-true ((a + 1 == row) && (column == column)) x _ (and_from (a + 1 == row) (column == column) (eq-eqb (a + 1) row e) (eq-eqb column column refl))
-        ∙ ap (slice_index (x ∷ w)) (sym (ap (λ b. counted (b && true) + rows_above row test (after (a + 1) m)) (nat_lt-false (a + 1) row (omega arith))
+        ∙ ap (slice_index (x ∷ w)) (sym (ap (λ b. cond (b && true) 1 0 + rows_above row test (after (a + 1) m)) (nat_lt-false (a + 1) row (omega arith))
         ∙ zero-add (rows_above row test (after (a + 1) m)) ∙ rows_above-past row test (a + 1) m (omega arith)))
     by true (inr n) t (x ∷ w) ih =
         let far : a + 1 < row = omega arith in
         cond-false ((a + 1 == row) && (column == column)) x _ (ap (λ b. b && (column == column)) (ne_eqb (a + 1) row n))
         ∙ ih far w
-        ∙ ap (slice_index (x ∷ w)) (sym (ap (λ b. counted (b && true) + rows_above row test (after (a + 1) m)) (lt-ltb (a + 1) row far) ∙ one-add (rows_above row test (after (a + 1) m))))
+        ∙ ap (slice_index (x ∷ w)) (sym (ap (λ b. cond (b && true) 1 0 + rows_above row test (after (a + 1) m)) (lt-ltb (a + 1) row far) ∙ one-add (rows_above row test (after (a + 1) m))))
 
-moved : (long before above : ℕ) → long + (before + above) ≡ (before + (long + 0)) + above
+moved : (long before above : ℕ) → long + (before + above) ≡ (before + (0 + long)) + above
 moved long before above = omega arith
 
 -- a place with a number is one of the list
@@ -133,14 +137,10 @@ reverse-after k =
     ap (λ n. reverse (after 0 n)) long ∙ ap reverse (sym (after-push 0 k)) ∙ reverse-append (after 0 k) ((0 + k + 1) ∷ [])
     ∙ ap (λ n. n ∷ reverse (after 0 k)) last
 
--- whether a row has a cell in a column
-abbrev has_cell : List ℕ → List ℕ → ℕ → ℕ → Bool
-has_cell outer inner j i = nat_lt (part inner i) j && nat_le j (part outer i)
-
 module _ (outer inner : List ℕ) (row column : ℕ) (cell : IsCell outer inner row column) where
   -- how many cells of the column stand above the cell
   abbrev above : ℕ
-  above = rows_above row (has_cell outer inner column) (after 0 (rows outer))
+  above = rows_above row (reaches outer inner column) (after 0 (rows outer))
 
   row_within : row ≤ rows outer
   row_within =
@@ -153,7 +153,7 @@ module _ (outer inner : List ℕ) (row column : ℕ) (cell : IsCell outer inner 
 
   read_from : (k : ℕ) → column ≤ k → (w : List ℕ)
       → letter_of_cell row column (each (column_cells outer inner) (reverse (after 0 k))) w
-      ≡ slice_index w (tally (λ j. length (column_cells outer inner j)) (after column (k - column)) + above)
+      ≡ slice_index w (sum_by (λ j. length (column_cells outer inner j)) (after column (k - column)) + above)
   read_from zero low w = let out = cell.outside in absurd (omega arith)
   read_from (suc k) low w =
       ap (λ js. letter_of_cell row column (each (column_cells outer inner) js) w) (reverse-after k)
@@ -164,57 +164,58 @@ module _ (outer inner : List ℕ) (row column : ℕ) (cell : IsCell outer inner 
 
       by : (column ≡ suc k) ⊎ (column ≢ suc k)
           → (column ≤ k → (v : List ℕ) → letter_of_cell row column (each (column_cells outer inner) (reverse (after 0 k))) v
-          ≡ slice_index v (tally (λ j. length (column_cells outer inner j)) (after column (k - column)) + above))
+          ≡ slice_index v (sum_by (λ j. length (column_cells outer inner j)) (after column (k - column)) + above))
           → letter_of_cell row column (column_cells outer inner (suc k) ++ each (column_cells outer inner) (reverse (after 0 k))) w
-          ≡ slice_index w (tally (λ j. length (column_cells outer inner j)) (after column (suc k - column)) + above)
+          ≡ slice_index w (sum_by (λ j. length (column_cells outer inner j)) (after column (suc k - column)) + above)
       by (inl e) ih =
           let none : suc k - column ≡ 0 = omega arith in
           ap (λ j. letter_of_cell row column (column_cells outer inner j ++ each (column_cells outer inner) (reverse (after 0 k))) w) (sym e)
-          ∙ in-column row column (has_cell outer inner column) (each (column_cells outer inner) (reverse (after 0 k))) 0 (rows outer) cell.row_counts (omega (arith, row_within))
+          ∙ in-column row column (reaches outer inner column) (each (column_cells outer inner) (reverse (after 0 k))) 0 (rows outer) cell.row_counts (omega (arith, row_within))
           (and_from _ _ (lt-ltb _ _ cell.outside) (le-leb _ _ cell.within)) w
-          ∙ ap (slice_index w) (sym (ap (λ n. tally (λ j. length (column_cells outer inner j)) (after column n) + above) none ∙ zero-add above))
+          ∙ ap (slice_index w) (sym (ap (λ n. sum_by (λ j. length (column_cells outer inner j)) (after column n) + above) none ∙ zero-add above))
       by (inr n) ih =
           let more : suc k - column ≡ (k - column) + 1 = omega arith in
           let last : column + (k - column) + 1 ≡ suc k = omega arith in
           let long : ℕ = length (column_cells outer inner (suc k)) in
-          let before : ℕ = tally (λ j. length (column_cells outer inner j)) (after column (k - column)) in
+          let before : ℕ = sum_by (λ j. length (column_cells outer inner j)) (after column (k - column)) in
           letter-past row column (column_cells outer inner (suc k)) (each (column_cells outer inner) (reverse (after 0 k))) w
           (not_in-column column (suc k) _ (λ e. n (sym e)))
           ∙ ih (omega arith) (drop long w)
           ∙ get_or-drop long w (before + above) 0
           ∙ ap (slice_index w) (moved long before above
-          ∙ ap (λ n. n + above) (sym (ap (λ n. tally (λ j. length (column_cells outer inner j)) (after column n)) more
-          ∙ ap (tally (λ j. length (column_cells outer inner j))) (sym (after-push column (k - column)))
-          ∙ tally-append (λ j. length (column_cells outer inner j)) (after column (k - column)) ((column + (k - column) + 1) ∷ [])
-          ∙ ap (λ j. before + (length (column_cells outer inner j) + 0)) last)))
+          ∙ ap (λ n. n + above) (sym (ap (λ n. sum_by (λ j. length (column_cells outer inner j)) (after column n)) more
+          ∙ ap (sum_by (λ j. length (column_cells outer inner j))) (sym (after-push column (k - column)))
+          ∙ sum_by-append (λ j. length (column_cells outer inner j)) (after column (k - column)) ((column + (k - column) + 1) ∷ [])
+          ∙ ap (λ j. before + (0 + length (column_cells outer inner j))) last)))
 
 -- ---- the cells of the columns further right, row by row
 
-tally-zero : {A : Type 0} (xs : List A) → tally (λ x. 0) xs ≡ 0
-tally-zero [] = refl
-tally-zero {A} (x ∷ xs) = zero-add (tally (λ (y : A). 0) xs) ∙ tally-zero xs
+sum_by-none : {A : Type 0} (xs : List A) → sum_by (λ x. 0) xs ≡ 0
+sum_by-none [] = refl
+sum_by-none {A} (x ∷ xs) = sum_by-cons (λ (y : A). 0) x xs ∙ (zero-add (sum_by (λ (y : A). 0) xs) ∙ sum_by-none xs)
 
-one_column : (left right c : ℕ) → counted (nat_lt left (c + 1) && nat_le (c + 1) right) + (right - max left (c + 1)) ≡ right - max left c
+one_column : (left right c : ℕ) → cond (nat_lt left (c + 1) && nat_le (c + 1) right) 1 0 + (right - max left (c + 1)) ≡ right - max left c
 one_column left right c = grind (arith, nat_tests)
 
 module _ (outer inner : List ℕ) where
   -- how many cells stand right of a column
   abbrev right_of : ℕ → ℕ
-  right_of c = tally (λ i. part outer i - max (part inner i) c) (after 0 (rows outer))
+  right_of c = sum_by (λ i. part outer i - max (part inner i) c) (after 0 (rows outer))
 
   column_long : (c : ℕ) → length (column_cells outer inner (c + 1)) + right_of (c + 1) ≡ right_of c
   column_long c =
       ap (λ n. n + right_of (c + 1))
-      (length-map (select (has_cell outer inner (c + 1)) (after 0 (rows outer))) (λ (i : ℕ). (i, c + 1)) ∙ length-select (has_cell outer inner (c + 1)) (after 0 (rows outer)))
-      ∙ sym (tally-add (λ i. counted (has_cell outer inner (c + 1) i)) (λ i. part outer i - max (part inner i) (c + 1)) (after 0 (rows outer)))
-      ∙ tally-ext _ _ (after 0 (rows outer)) (λ i. one_column (part inner i) (part outer i) c)
+      (length-map (select (reaches outer inner (c + 1)) (after 0 (rows outer))) (λ (i : ℕ). (i, c + 1)) ∙ length-select (reaches outer inner (c + 1)) (after 0 (rows outer)))
+      ∙ sym (sum_by-add (λ i. cond (reaches outer inner (c + 1) i) 1 0) (λ i. part outer i - max (part inner i) (c + 1)) (after 0 (rows outer)))
+      ∙ sum_by-ext _ _ (after 0 (rows outer)) (λ i. one_column (part inner i) (part outer i) c)
 
-  columns_long : (m c : ℕ) → ((i : ℕ) → part outer i ≤ c + m) → tally (λ j. length (column_cells outer inner j)) (after c m) ≡ right_of c
+  columns_long : (m c : ℕ) → ((i : ℕ) → part outer i ≤ c + m) → sum_by (λ j. length (column_cells outer inner j)) (after c m) ≡ right_of c
   columns_long zero c most =
-      sym (tally-ext (λ i. part outer i - max (part inner i) c) (λ i. 0) (after 0 (rows outer)) (λ i. let h = most i in omega arith)
-      ∙ tally-zero (after 0 (rows outer)))
+      sym (sum_by-ext (λ i. part outer i - max (part inner i) c) (λ i. 0) (after 0 (rows outer)) (λ i. let h = most i in omega arith)
+      ∙ sum_by-none (after 0 (rows outer)))
   columns_long (suc m) c most =
-      ap (λ n. length (column_cells outer inner (c + 1)) + n) (columns_long m (c + 1) (λ i. let h = most i in omega arith)) ∙ column_long c
+      sum_by-cons (λ j. length (column_cells outer inner j)) (c + 1) (after (c + 1) m)
+      ∙ ap (λ n. length (column_cells outer inner (c + 1)) + n) (columns_long m (c + 1) (λ i. let h = most i in omega arith)) ∙ column_long c
 
 first_greatest : (parts : List ℕ) → Falls parts → (k : ℕ) → slice_index parts k ≤ slice_index parts 0
 first_greatest [] falls k = omega arith
@@ -231,4 +232,4 @@ letter-is outer inner row column falls cell w =
     let every : (i : ℕ) → part outer i ≤ column + (columns outer - column) = (λ i. let h = first_greatest outer falls (i - 1) in omega arith) in
     sym (read_from outer inner row column cell (columns outer) most w
     ∙ ap (slice_index w) (ap (λ n. n + above outer inner row column cell) (columns_long outer inner (columns outer - column) column every)
-    ∙ sym (tally-add (λ i. part outer i - max (part inner i) column) (λ i. counted (nat_lt i row && has_cell outer inner column i)) (after 0 (rows outer)))))
+    ∙ sym (sum_by-add (λ i. part outer i - max (part inner i) column) (λ i. cond (nat_lt i row && reaches outer inner column i) 1 0) (after 0 (rows outer)))))

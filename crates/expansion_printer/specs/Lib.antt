@@ -5,3 +5,4 @@ pub mod HeldTerms
 pub mod ReadingPlaces
 -- The definitions that the contracts cite.
 pub mod SignedTerms
+pub mod Gathering

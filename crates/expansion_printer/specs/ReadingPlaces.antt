@@ -1,11 +1,7 @@
 -- The place of a cell in the column reading, counted row by row (this project's own).
-use Rattle.std.specs.Prelude.{ℕ, ◌+◌, ◌-◌, nat_le, nat_lt, Bool, ◌&&◌, cond, max, List, [], ◌∷◌}
+use Rattle.std.specs.Prelude.{ℕ, ◌+◌, ◌-◌, nat_le, nat_lt, Bool, ◌&&◌, cond, max, List}
+use Rattle.std.specs.List.{sum_by}
 use Rattle.sym_model.specs.Partition.{part, rows, after}
-
--- the sum of a number for each element of a list
-abbrev pub tally : {A : Type 0} → (A → ℕ) → List A → ℕ
-tally f [] = 0
-tally f (x ∷ xs) = f x + tally f xs
 
 -- how many cells of a row, whose columns go from left + 1 to right, are read before one in this column and a row below it, or
 -- before one in this column and a row that is not below it
@@ -16,4 +12,4 @@ before_in_row left right column is_above =
 -- how many cells of outer/inner are read before one
 abbrev pub cells_before : List ℕ → List ℕ → ℕ → ℕ → ℕ
 cells_before outer inner row column =
-    tally (λ i. before_in_row (part inner i) (part outer i) column (nat_lt i row)) (after 0 (rows outer))
+    sum_by (λ i. before_in_row (part inner i) (part outer i) column (nat_lt i row)) (after 0 (rows outer))

@@ -1,6 +1,7 @@
 //! The printed block of an answer.
-ghost use Rattle.std.specs.Prelude.{codes, true};
-ghost use Rattle.calc_base.specs.Puts.{Puts, Prints};
+ghost use Rattle.std.specs.Prelude.{codes};
+ghost use Rattle.calc_base.specs.Puts.{Prints};
+ghost use Rattle.expansion_printer.specs.Gathering.{Gathers};
 ghost use Rattle.sym_model.specs.Answer.{answer, answer_text, IsPrintable};
 ghost use Rattle.sym_model.specs.Kind.{number};
 ghost use Rattle.sym_model.specs.PrintedBlock.{block_by, line_by};
@@ -10,7 +11,8 @@ ghost use Rattle.expansion_printer.specs.HeldTerms.{AreHeld};
 
 use crate::answer::Answer;
 use crate::named::Named;
-use calc_base::{Sink, SinkFault, put_if, put_result};
+use crate::text_buffer::TextBuffer;
+use calc_base::{Sink, SinkFault};
 use coeff_rings::{Digits, Int, Scalar};
 use sparse_polys::{Label, Terms};
 
@@ -23,15 +25,25 @@ pub fn print<K: Sink>(answer: &Answer, sink: &mut K) -> Result<(), SinkFault>
     // Every answer is canonical, with numbers of 128 bits, so that its block can be read back.
     ensures printable { IsPrintable (plain_answer answer.now) }
 {
+    let mut text = TextBuffer::new();
+    put_block(answer, &mut text, sink);
+    text.finish(sink)
+}
+
+/// Puts the block of the answer.
+fn put_block<K: Sink>(answer: &Answer, text: &mut TextBuffer, sink: &mut K)
+    ensures goes { Gathers K.written K.length K.faults text.old sink.old text.new sink.new (answer_text (plain_answer answer.now)) }
+    ensures printable { IsPrintable (plain_answer answer.now) }
+{
     match answer {
-        Answer::Number { value } => put_result(put_value(*value, sink)),
-        Answer::Expansion { terms } => put_result(put_terms(true, terms, sink)),
-        Answer::Product { terms } => put_result(put_terms(true, terms, sink)),
-        Answer::Pairs { terms } => put_result(put_terms(true, terms, sink)),
-        Answer::Powers { terms } => put_result(put_terms(true, terms, sink)),
-        Answer::Permutations { terms } => put_result(put_terms(true, terms, sink)),
-        Answer::Polynomial { terms } => put_result(put_terms(true, terms, sink)),
-        Answer::Shifts { terms } => put_result(put_terms(true, terms, sink)),
+        Answer::Number { value } => put_value(*value, text, sink),
+        Answer::Expansion { terms } => put_terms(terms, text, sink),
+        Answer::Product { terms } => put_terms(terms, text, sink),
+        Answer::Pairs { terms } => put_terms(terms, text, sink),
+        Answer::Powers { terms } => put_terms(terms, text, sink),
+        Answer::Permutations { terms } => put_terms(terms, text, sink),
+        Answer::Polynomial { terms } => put_terms(terms, text, sink),
+        Answer::Shifts { terms } => put_terms(terms, text, sink),
     }
 }
 
@@ -71,40 +83,38 @@ fn tell_terms<L: Label, R: Scalar>(terms: &Terms<L, R>)
 }
 
 /// Puts the line of a number.
-fn put_value<K: Sink>(value: Int, sink: &mut K) -> bool
-    ensures goes { Puts K.written K.length K.faults true sink.old result sink.new (answer_text (answer number (number_terms value))) }
+fn put_value<K: Sink>(value: Int, text: &mut TextBuffer, sink: &mut K)
+    ensures goes { Gathers K.written K.length K.faults text.old sink.old text.new sink.new (answer_text (answer number (number_terms value))) }
     ensures printable { IsPrintable (answer number (number_terms value)) }
 {
     let mut digits = Digits::new();
     value.digits(&mut digits);
-    let written = put_if(true, sink, digits.as_bytes());
-    put_if(written, sink, b"\n")
+    text.put(digits.as_bytes(), sink);
+    text.put(b"\n", sink);
 }
 
 /// Puts the block of the terms.
-fn put_terms<L: Named, R: Scalar, K: Sink>(well: bool, terms: &Terms<L, R>, sink: &mut K) -> bool
-    ensures goes { Puts K.written K.length K.faults well sink.old result sink.new (block_by L.line_rules terms.now) }
+fn put_terms<L: Named, R: Scalar, K: Sink>(terms: &Terms<L, R>, text: &mut TextBuffer, sink: &mut K)
+    ensures goes { Gathers K.written K.length K.faults text.old sink.old text.new sink.new (block_by L.line_rules terms.now) }
     ensures held { AreHeld R.value R.is_held terms.now }
     ensures canonical { IsCanonicalList L.order L.is_label terms.now }
 {
     if terms.is_empty() {
-        return put_if(well, sink, b"0\n");
+        return text.put(b"0\n", sink);
     }
-    let mut well = well;
     for (label, c) in terms.iter() {
-        well = put_line(well, label, *c, sink);
+        put_line(label, *c, text, sink);
     }
-    well
 }
 
 /// Puts the line of a term: its coefficient and its label.
-fn put_line<L: Named, R: Scalar, K: Sink>(well: bool, label: &L, c: R, sink: &mut K) -> bool
-    ensures goes { Puts K.written K.length K.faults well sink.old result sink.new (line_by L.line_rules (label.now, R.value c)) }
+fn put_line<L: Named, R: Scalar, K: Sink>(label: &L, c: R, text: &mut TextBuffer, sink: &mut K)
+    ensures goes { Gathers K.written K.length K.faults text.old sink.old text.new sink.new (line_by L.line_rules (label.now, R.value c)) }
     ensures held { R.is_held c }
 {
     let mut digits = Digits::new();
     c.digits(&mut digits);
-    let coefficient = put_if(well, sink, digits.as_bytes());
-    let named = label.put_name(coefficient, sink);
-    put_if(named, sink, b"\n")
+    text.put(digits.as_bytes(), sink);
+    label.put_name(text, sink);
+    text.put(b"\n", sink);
 }

@@ -1,10 +1,11 @@
 //! The signs and the absolute values of coefficients.
 ghost use Rattle.std.specs.Prelude.{◌≡◌, [], ◌++◌, ◌==◌, cond, codes, decimal, if◌then◌else◌, FitsSigned};
 ghost use Rattle.std.specs.Int.{w128};
-ghost use Rattle.calc_base.specs.Puts.{Puts};
+ghost use Rattle.expansion_printer.specs.Gathering.{Gathers};
 ghost use Rattle.expansion_printer.specs.SignedTerms.{sign_text, coefficient_text};
 
-use calc_base::{Sink, put_if};
+use crate::text_buffer::TextBuffer;
+use calc_base::Sink;
 use coeff_rings::{Frac, Int, Scalar};
 use itoa::Buffer;
 
@@ -30,46 +31,46 @@ impl Ratio for Frac {
 }
 
 /// Puts the sign in front of a term: `-` of a negative numerator, `+` of another but that of the first term.
-pub(crate) fn put_sign<K: Sink>(well: bool, is_first: bool, num: i128, sink: &mut K) -> bool
-    ensures { Puts K.written K.length K.faults well sink.old result sink.new (sign_text is_first num) }
+pub(crate) fn put_sign<K: Sink>(is_first: bool, num: i128, text: &mut TextBuffer, sink: &mut K)
+    ensures { Gathers K.written K.length K.faults text.old sink.old text.new sink.new (sign_text is_first num) }
 {
     if num < 0 {
-        return put_if(well, sink, b"-");
+        return text.put(b"-", sink);
     }
     if is_first {
-        return well;
+        return;
     }
-    put_if(well, sink, b"+")
+    text.put(b"+", sink);
 }
 
 /// Puts the absolute value of a coefficient and `*`, and nothing where that value is 1.
-pub(crate) fn put_coefficient<K: Sink>(signed: bool, num: i128, den: u128, sink: &mut K) -> bool
-    ensures { Puts K.written K.length K.faults signed sink.old result sink.new (coefficient_text (num, den)) }
+pub(crate) fn put_coefficient<K: Sink>(num: i128, den: u128, text: &mut TextBuffer, sink: &mut K)
+    ensures { Gathers K.written K.length K.faults text.old sink.old text.new sink.new (coefficient_text (num, den)) }
 {
     let size = num.unsigned_abs();
     if size == 1 && den == 1 {
-        return signed;
+        return;
     }
-    let upper = put_number(signed, size, sink);
-    let lower = put_denominator(upper, den, sink);
-    put_if(lower, sink, b"*")
+    put_number(size, text, sink);
+    put_denominator(den, text, sink);
+    text.put(b"*", sink);
 }
 
 /// Puts `/` and the denominator of a fraction, and nothing where that is 1.
-fn put_denominator<K: Sink>(well: bool, den: u128, sink: &mut K) -> bool
-    ensures { Puts K.written K.length K.faults well sink.old result sink.new
+fn put_denominator<K: Sink>(den: u128, text: &mut TextBuffer, sink: &mut K)
+    ensures { Gathers K.written K.length K.faults text.old sink.old text.new sink.new
         (if den == 1 then [] else (codes "/" ++ decimal den)) }
 {
     if den == 1 {
-        return well;
+        return;
     }
-    let parted = put_if(well, sink, b"/");
-    put_number(parted, den, sink)
+    text.put(b"/", sink);
+    put_number(den, text, sink);
 }
 
 /// Puts a number in decimal.
-pub(crate) fn put_number<K: Sink>(well: bool, number: u128, sink: &mut K) -> bool
-    ensures { Puts K.written K.length K.faults well sink.old result sink.new (decimal number) }
+fn put_number<K: Sink>(number: u128, text: &mut TextBuffer, sink: &mut K)
+    ensures { Gathers K.written K.length K.faults text.old sink.old text.new sink.new (decimal number) }
 {
-    put_if(well, sink, Buffer::new().format(number).as_bytes())
+    text.put(Buffer::new().format(number).as_bytes(), sink);
 }

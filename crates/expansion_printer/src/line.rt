@@ -1,7 +1,7 @@
 //! The one-line form of an answer.
-ghost use Rattle.calc_base.specs.Puts.{Puts, Prints};
+ghost use Rattle.calc_base.specs.Puts.{Prints};
+ghost use Rattle.expansion_printer.specs.Gathering.{Gathers};
 ghost use Rattle.calc_expressions.specs.Trees.{basis_of};
-ghost use Rattle.std.specs.Prelude.{true};
 ghost use Rattle.expansion_printer.specs.Answers.{plain_answer};
 ghost use Rattle.expansion_printer.specs.HeldTerms.{AreHeld};
 ghost use Rattle.expansion_printer.specs.SignedTerms.{signed_text};
@@ -14,8 +14,9 @@ ghost use Rattle.sym_model.specs.PrintedOrder.{printed_order};
 
 use crate::atoms::put_atom;
 use crate::coefficients::{Ratio, put_coefficient, put_sign};
+use crate::text_buffer::TextBuffer;
 use crate::{Answer, print};
-use calc_base::{Basis, Sink, SinkFault, put_if, put_result};
+use calc_base::{Basis, Sink, SinkFault};
 use partitions::Partition;
 use sparse_polys::Terms;
 
@@ -32,45 +33,64 @@ pub fn print_one_line<K: Sink>(answer: &Answer, basis: Basis, sink: &mut K) -> R
     ensures printable { IsPrintable (plain_answer answer.now) }
 {
     match answer {
-        Answer::Expansion { terms } => put_result(put_line(basis, terms, sink)),
-        Answer::Product { terms } => put_result(put_line(basis, terms, sink)),
+        Answer::Expansion { terms } => print_terms(basis, terms, sink),
+        Answer::Product { terms } => print_terms(basis, terms, sink),
         _ => print(answer, sink),
     }
 }
 
+/// Prints the one-line form of the terms.
+fn print_terms<R: Ratio, K: Sink>(
+    basis: Basis,
+    terms: &Terms<Partition, R>,
+    sink: &mut K,
+) -> Result<(), SinkFault>
+    ensures prints { Prints K.written K.length K.faults sink.old sink.new (one_line (basis_of basis) terms.now) result }
+    ensures held { AreHeld R.value R.is_held terms.now }
+    ensures canonical { IsCanonicalList printed_order is_label terms.now }
+{
+    let mut text = TextBuffer::new();
+    put_line(basis, terms, &mut text, sink);
+    text.finish(sink)
+}
+
 /// Puts the one-line form of the terms.
-fn put_line<R: Ratio, K: Sink>(basis: Basis, terms: &Terms<Partition, R>, sink: &mut K) -> bool
-    ensures goes { Puts K.written K.length K.faults true sink.old result sink.new (one_line (basis_of basis) terms.now) }
+fn put_line<R: Ratio, K: Sink>(
+    basis: Basis,
+    terms: &Terms<Partition, R>,
+    text: &mut TextBuffer,
+    sink: &mut K,
+)
+    ensures goes { Gathers K.written K.length K.faults text.old sink.old text.new sink.new (one_line (basis_of basis) terms.now) }
     ensures held { AreHeld R.value R.is_held terms.now }
     ensures canonical { IsCanonicalList printed_order is_label terms.now }
 {
     if terms.is_empty() {
-        return put_if(true, sink, b"0\n");
+        return text.put(b"0\n", sink);
     }
-    let mut well = true;
     let mut is_first = true;
     for (label, c) in terms.iter() {
-        well = put_term(well, basis, is_first, label, *c, sink);
+        put_term(basis, is_first, label, *c, text, sink);
         is_first = false;
     }
-    put_if(well, sink, b"\n")
+    text.put(b"\n", sink);
 }
 
 /// Puts a term with its sign, which a first term has only where it is negative.
 fn put_term<R: Ratio, K: Sink>(
-    well: bool,
     basis: Basis,
     is_first: bool,
     label: &Partition,
     c: R,
+    text: &mut TextBuffer,
     sink: &mut K,
-) -> bool
-    ensures goes { Puts K.written K.length K.faults well sink.old result sink.new
+)
+    ensures goes { Gathers K.written K.length K.faults text.old sink.old text.new sink.new
         (signed_text (basis_of basis) is_first (label.now, R.value c)) }
     ensures held { R.is_held c }
 {
     let (num, den) = c.parts();
-    let signed = put_sign(well, is_first, num, sink);
-    let counted = put_coefficient(signed, num, den, sink);
-    put_atom(counted, basis, label.parts(), sink)
+    put_sign(is_first, num, text, sink);
+    put_coefficient(num, den, text, sink);
+    put_atom(basis, label.parts(), text, sink);
 }

@@ -1,10 +1,11 @@
 //! The labels of lines.
 ghost use Rattle.std.specs.Prelude.{List, ℕ};
-ghost use Rattle.calc_base.specs.Puts.{Puts};
+ghost use Rattle.expansion_printer.specs.Gathering.{Gathers};
 ghost use Rattle.sym_model.specs.Kind.{LabelRules, label_rules, expansion, pairs, powers, permutations, polynomial, shifts};
 
 use crate::numbers::{put_label, put_number};
-use calc_base::{Sink, put_if};
+use crate::text_buffer::TextBuffer;
+use calc_base::Sink;
 use partitions::Partition;
 use perm_codes::Perm;
 use sparse_polys::{Label, Monomial, Pair, Power, Shifted};
@@ -15,63 +16,63 @@ pub(crate) trait Named: Label {
     ghost line_rules: { LabelRules Self };
 
     /// Puts the text of the label, with the blanks in front of it.
-    fn put_name<K: Sink>(&self, well: bool, sink: &mut K) -> bool
-        ensures { Puts K.written K.length K.faults well sink.old result sink.new (line_rules.text self.now) };
+    fn put_name<K: Sink>(&self, text: &mut TextBuffer, sink: &mut K)
+        ensures { Gathers K.written K.length K.faults text.old sink.old text.new sink.new (line_rules.text self.now) };
 }
 
 impl Named for Partition {
     ghost line_rules = { label_rules expansion };
 
-    fn put_name<K: Sink>(&self, well: bool, sink: &mut K) -> bool {
-        let gap = put_if(well, sink, b"  ");
-        put_label(gap, self.parts(), sink)
+    fn put_name<K: Sink>(&self, text: &mut TextBuffer, sink: &mut K) {
+        text.put(b"  ", sink);
+        put_label(self.parts(), text, sink);
     }
 }
 
 impl Named for Pair {
     ghost line_rules = { label_rules pairs };
 
-    fn put_name<K: Sink>(&self, well: bool, sink: &mut K) -> bool {
-        let first = self.first.put_name(well, sink);
-        let gap = put_if(first, sink, b" ");
-        put_label(gap, self.second.parts(), sink)
+    fn put_name<K: Sink>(&self, text: &mut TextBuffer, sink: &mut K) {
+        self.first.put_name(text, sink);
+        text.put(b" ", sink);
+        put_label(self.second.parts(), text, sink);
     }
 }
 
 impl Named for Power {
     ghost line_rules = { label_rules powers };
 
-    fn put_name<K: Sink>(&self, well: bool, sink: &mut K) -> bool {
-        let gap = put_if(well, sink, b"  q^");
-        let power = put_number(gap, u64::from(self.power), sink);
-        self.shape.put_name(power, sink)
+    fn put_name<K: Sink>(&self, text: &mut TextBuffer, sink: &mut K) {
+        text.put(b"  q^", sink);
+        put_number(u64::from(self.power), text, sink);
+        self.shape.put_name(text, sink);
     }
 }
 
 impl Named for Perm {
     ghost line_rules = { label_rules permutations };
 
-    fn put_name<K: Sink>(&self, well: bool, sink: &mut K) -> bool {
-        let gap = put_if(well, sink, b"  ");
-        put_label(gap, self.letters(), sink)
+    fn put_name<K: Sink>(&self, text: &mut TextBuffer, sink: &mut K) {
+        text.put(b"  ", sink);
+        put_label(self.letters(), text, sink);
     }
 }
 
 impl Named for Monomial {
     ghost line_rules = { label_rules polynomial };
 
-    fn put_name<K: Sink>(&self, well: bool, sink: &mut K) -> bool {
-        let gap = put_if(well, sink, b"  ");
-        put_label(gap, self.exponents(), sink)
+    fn put_name<K: Sink>(&self, text: &mut TextBuffer, sink: &mut K) {
+        text.put(b"  ", sink);
+        put_label(self.exponents(), text, sink);
     }
 }
 
 impl Named for Shifted {
     ghost line_rules = { label_rules shifts };
 
-    fn put_name<K: Sink>(&self, well: bool, sink: &mut K) -> bool {
-        let perm = self.perm.put_name(well, sink);
-        let gap = put_if(perm, sink, b" ");
-        put_label(gap, self.y.exponents(), sink)
+    fn put_name<K: Sink>(&self, text: &mut TextBuffer, sink: &mut K) {
+        self.perm.put_name(text, sink);
+        text.put(b" ", sink);
+        put_label(self.y.exponents(), text, sink);
     }
 }

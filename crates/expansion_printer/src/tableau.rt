@@ -1,6 +1,6 @@
 //! Lines of tableaux.
-ghost use Rattle.std.specs.Prelude.{slice_index, true};
-ghost use Rattle.calc_base.specs.Puts.{Puts, Prints};
+ghost use Rattle.std.specs.Prelude.{slice_index};
+ghost use Rattle.calc_base.specs.Puts.{Prints};
 ghost use Rattle.sym_model.specs.TableauList.{filling_of};
 ghost use Rattle.sym_model.specs.TableauText.{tableau_line};
 ghost use Rattle.skew_shapes.specs.CellFillings.{place_in_row, row_of};
@@ -8,9 +8,10 @@ ghost use Rattle.skew_shapes.specs.Rows.{rows_by};
 
 use crate::reading::Reading;
 use crate::rows::{Entries, put_rows};
-use calc_base::{Sink, SinkFault, put_if, put_result};
+use crate::text_buffer::TextBuffer;
+use calc_base::{Sink, SinkFault};
 use partitions::Partition;
-use skew_shapes::{Skew, Tableau};
+use skew_shapes::{Filled, Skew, Tableau};
 
 impl Entries for Tableau {
     ghost outer = { λ t. t.outer };
@@ -32,6 +33,26 @@ impl Entries for Tableau {
     }
 }
 
+impl Entries for Filled {
+    ghost outer = { λ f. f.outer };
+
+    ghost inner = { λ f. f.inner };
+
+    ghost entry = { λ f row column. slice_index (row_of f.rows row) (place_in_row f.inner row column) };
+
+    fn outer(&self) -> &Partition {
+        self.shape().outer()
+    }
+
+    fn inner(&self) -> &Partition {
+        self.shape().inner()
+    }
+
+    fn entry(&self, row: u16, column: u16) -> u16 {
+        Filled::entry(self, row, column).unwrap_or(0)
+    }
+}
+
 /// Prints the line of a tableau: its rows from top to bottom.
 ///
 /// `SinkFault` exactly where a put failed. It is the last one, and what was put is then a prefix of the line.
@@ -39,7 +60,17 @@ pub fn print_tableau<K: Sink>(t: &Tableau, sink: &mut K) -> Result<(), SinkFault
     ensures { Prints K.written K.length K.faults sink.old sink.new (tableau_line t.now.rows) result }
 {
     t.shape();
-    put_result(put_filling(t, sink))
+    print_filling(t, sink)
+}
+
+/// Prints the line of a filling: its rows from top to bottom.
+///
+/// `SinkFault` exactly where a put failed. It is the last one, and what was put is then a prefix of the line.
+pub fn print_filled<K: Sink>(f: &Filled, sink: &mut K) -> Result<(), SinkFault>
+    ensures { Prints K.written K.length K.faults sink.old sink.new (tableau_line f.now.rows) result }
+{
+    f.shape();
+    print_filling(f, sink)
 }
 
 /// Prints the line of the filling of a shape with this column reading: the columns from the rightmost to the leftmost,
@@ -55,14 +86,16 @@ pub fn print_reading<K: Sink>(shape: &Skew, reading: &[u16], sink: &mut K) -> Re
         inner: shape.inner(),
         letters: reading,
     };
-    put_result(put_filling(&filling, sink))
+    print_filling(&filling, sink)
 }
 
-/// Puts the line of a filling.
-fn put_filling<E: Entries, K: Sink>(filling: &E, sink: &mut K) -> bool
-    ensures { Puts K.written K.length K.faults true sink.old result sink.new
-        (tableau_line (rows_by (E.entry filling.now) (E.outer filling.now) (E.inner filling.now))) }
+/// Prints the line of a filling.
+fn print_filling<E: Entries, K: Sink>(filling: &E, sink: &mut K) -> Result<(), SinkFault>
+    ensures { Prints K.written K.length K.faults sink.old sink.new
+        (tableau_line (rows_by (E.entry filling.now) (E.outer filling.now) (E.inner filling.now))) result }
 {
-    let listed = put_rows(true, filling, sink);
-    put_if(listed, sink, b"\n")
+    let mut text = TextBuffer::new();
+    put_rows(filling, &mut text, sink);
+    text.put(b"\n", sink);
+    text.finish(sink)
 }

@@ -1,11 +1,13 @@
 //! Words, lines of shapes and single labels.
-ghost use Rattle.std.specs.Prelude.{◌++◌, ◌==◌, map, codes, if◌then◌else◌, true};
-ghost use Rattle.calc_base.specs.Puts.{Puts, Prints};
+ghost use Rattle.std.specs.Prelude.{◌++◌, ◌==◌, map, codes, if◌then◌else◌};
+ghost use Rattle.calc_base.specs.Puts.{Prints};
+ghost use Rattle.expansion_printer.specs.Gathering.{Gathers};
 ghost use Rattle.sym_model.specs.NumberText.{label_text};
 ghost use Rattle.sym_model.specs.TableauText.{separated, word_line, shapes_line};
 
 use crate::numbers::{put_label, put_separated};
-use calc_base::{Sink, SinkFault, put_if, put_result};
+use crate::text_buffer::TextBuffer;
+use calc_base::{Sink, SinkFault};
 use partitions::Partition;
 
 /// Prints the line of a word: its letters with a space between them, and an empty line for the empty word.
@@ -14,8 +16,10 @@ use partitions::Partition;
 pub fn print_letters<K: Sink>(w: &[u16], sink: &mut K) -> Result<(), SinkFault>
     ensures { Prints K.written K.length K.faults sink.old sink.new (word_line w.now) result }
 {
-    let spaced = put_separated(true, b" ", w, sink);
-    put_result(put_if(spaced, sink, b"\n"))
+    let mut text = TextBuffer::new();
+    put_separated(b" ", w, &mut text, sink);
+    text.put(b"\n", sink);
+    text.finish(sink)
 }
 
 /// Prints the label of a partition, with no end of line.
@@ -24,7 +28,9 @@ pub fn print_letters<K: Sink>(w: &[u16], sink: &mut K) -> Result<(), SinkFault>
 pub fn print_label<K: Sink>(shape: &Partition, sink: &mut K) -> Result<(), SinkFault>
     ensures { Prints K.written K.length K.faults sink.old sink.new (label_text shape.now) result }
 {
-    put_result(put_label(true, shape.parts(), sink))
+    let mut text = TextBuffer::new();
+    put_label(shape.parts(), &mut text, sink);
+    text.finish(sink)
 }
 
 /// Prints the line of shapes: their labels with a space between them, and an empty line where there is none.
@@ -33,29 +39,29 @@ pub fn print_label<K: Sink>(shape: &Partition, sink: &mut K) -> Result<(), SinkF
 pub fn print_shapes<K: Sink>(shapes: &[Partition], sink: &mut K) -> Result<(), SinkFault>
     ensures { Prints K.written K.length K.faults sink.old sink.new (shapes_line shapes.now) result }
 {
-    let spaced = put_shapes(shapes, sink);
-    put_result(put_if(spaced, sink, b"\n"))
+    let mut text = TextBuffer::new();
+    put_shapes(shapes, &mut text, sink);
+    text.put(b"\n", sink);
+    text.finish(sink)
 }
 
 /// Puts the labels of the shapes with a space between them.
-fn put_shapes<K: Sink>(shapes: &[Partition], sink: &mut K) -> bool
-    ensures { Puts K.written K.length K.faults true sink.old result sink.new (separated (codes " ") (map label_text shapes.now)) }
+fn put_shapes<K: Sink>(shapes: &[Partition], text: &mut TextBuffer, sink: &mut K)
+    ensures { Gathers K.written K.length K.faults text.old sink.old text.new sink.new (separated (codes " ") (map label_text shapes.now)) }
 {
-    let mut well = true;
     for (at, shape) in shapes.iter().enumerate() {
-        well = put_next_shape(well, at, shape, sink);
+        put_next_shape(at, shape, text, sink);
     }
-    well
 }
 
 /// Puts the label of the shape at a place, counted from 0, with a space in front of it but at the first place.
-fn put_next_shape<K: Sink>(well: bool, at: usize, shape: &Partition, sink: &mut K) -> bool
-    ensures { Puts K.written K.length K.faults well sink.old result sink.new
+fn put_next_shape<K: Sink>(at: usize, shape: &Partition, text: &mut TextBuffer, sink: &mut K)
+    ensures { Gathers K.written K.length K.faults text.old sink.old text.new sink.new
         (if at == 0 then label_text shape.now else (codes " " ++ label_text shape.now)) }
 {
     if at == 0 {
-        return put_label(well, shape.parts(), sink);
+        return put_label(shape.parts(), text, sink);
     }
-    let parted = put_if(well, sink, b" ");
-    put_label(parted, shape.parts(), sink)
+    text.put(b" ", sink);
+    put_label(shape.parts(), text, sink);
 }

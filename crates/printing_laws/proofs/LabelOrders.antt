@@ -59,18 +59,17 @@ rising_letters-total i = record { antisymm = antisymm; trans = trans; congr = co
 one_label-total : IsTotalOrder (label_rules number).order
 one_label-total = record { antisymm = λ x y. refl; trans = λ x y z h k. h; congr = λ x y z h. refl }
 
-permutation_order-total : IsTotalOrder permutation_order
-permutation_order-total = then_total (on_total inversions nat_cmp_total) (rising_letters-total 0)
-
 pub label_order-total : (kind : Kind) → IsTotalOrder (label_rules kind).order
 label_order-total number = one_label-total
 label_order-total expansion = printed_order-total
 label_order-total product = printed_order-total
 label_order-total pairs = then_total (on_total (λ (p : List ℕ × List ℕ). p.0) printed_order-total) (on_total (λ (p : List ℕ × List ℕ). p.1) printed_order-total)
 label_order-total powers = then_total (on_total (λ (p : ℕ × List ℕ). p.0) nat_cmp_total) (on_total (λ (p : ℕ × List ℕ). p.1) printed_order-total)
-label_order-total permutations = permutation_order-total
+label_order-total permutations = then_total (on_total inversions nat_cmp_total) (rising_letters-total 0)
 label_order-total polynomial = printed_order-total
-label_order-total shifts = then_total (on_total (λ (p : List ℕ × List ℕ). p.0) permutation_order-total) (on_total (λ (p : List ℕ × List ℕ). p.1) printed_order-total)
+label_order-total shifts =
+    then_total (on_total (λ (p : List ℕ × List ℕ). p.0) (then_total (on_total inversions nat_cmp_total) (rising_letters-total 0)))
+    (on_total (λ (p : List ℕ × List ℕ). p.1) printed_order-total)
 
 -- ---- labels that tie are the same
 

@@ -1,7 +1,14 @@
-use Rattle.calc_base.proofs.PutsLaws.{Puts-then, Puts-as}
+use Rattle.std.proofs.Common.{ap, ◌∙◌, map}
+use Rattle.std.specs.Prelude.{codes, decimal}
+use Rattle.sym_model.specs.TableauText.{separated}
+use Rattle.expansion_printer.proofs.GatheringLaws.{Gathers-then, Gathers-as}
+use Rattle.expansion_printer.proofs.Texts.{numbers_text-separated, map_same}
 use Rattle.expansion_printer.proofs.atoms.put_atom.Goals as goal
 
 pub returns : goal.returns
 returns g c =
-    Puts-then (Puts-as c.letter_of.ensures c.put_if-lettered.ensures.goes)
-    (Puts-then c.put_if-opened.ensures.goes (Puts-then c.put_numbers-listed.ensures c.put_if.ensures.goes))
+    let parts = c.args.parts.now in
+    Gathers-then (Gathers-as c.letter_of.ensures c.put.ensures)
+    (Gathers-then c.put-2.ensures
+    (Gathers-then (Gathers-as (ap (λ ns. separated (codes ",") (map decimal ns)) (map_same parts) ∙ numbers_text-separated parts) c.put_separated.ensures)
+    c.put-3.ensures))

@@ -3,7 +3,7 @@ use Rattle.std.proofs.lemmas.List.{map-append}
 use Rattle.sym_model.specs.Expansion.{Fraction}
 use Rattle.sym_model.specs.PrintedBlock.{lines_by}
 use Rattle.sym_model.proofs.Lists.{all_read}
-use Rattle.calc_base.proofs.PutsLaws.{Puts-then, Puts-as, Puts-nothing}
+use Rattle.expansion_printer.proofs.GatheringLaws.{Gathers-then, Gathers-as, Gathers-nothing}
 use Rattle.sparse_polys.specs.Combination.{terms_of}
 use Rattle.expansion_printer.specs.HeldTerms.{AreHeld}
 use Rattle.expansion_printer.proofs.Texts.{lines_by-push, block_by-some, block_by-nothing}
@@ -13,7 +13,7 @@ use Rattle.expansion_printer.proofs.block.put_terms.Goals as goal
 pub returns-then-is_empty-clause-goes : goal.returns-then-is_empty-clause-goes
 returns-then-is_empty-clause-goes g c =
     let none : length c.args.terms.now ≡ 0 = search (rules, tests) in
-    Puts-as (block_by-nothing g.L.Named.line_rules c.args.terms.now none) c.put_if.ensures.goes
+    Gathers-as (block_by-nothing g.L.Named.line_rules c.args.terms.now none) c.put.ensures
 
 pub returns-then-is_empty-clause-held : goal.returns-then-is_empty-clause-held
 returns-then-is_empty-clause-held g c =
@@ -22,7 +22,7 @@ returns-then-is_empty-clause-held g c =
 
 pub loop-label-init : goal.loop-label-init
 loop-label-init g c = record {
-  goes = Puts-nothing g.K.Sink.written g.K.Sink.length g.K.Sink.faults c.args.well c.args.sink.now;
+  goes = Gathers-nothing g.K.Sink.written g.K.Sink.length g.K.Sink.faults c.args.text.now c.args.sink.now;
   held = tt;
   so_far = refl;
 }
@@ -40,10 +40,10 @@ loop-label-preserved g c =
     sym (map-append (λ (q : g.row.L.Denot × g.row.R.Denot). (q.0, value q.1)) done (p ∷ [])) ∙ ap (terms_of value) pushed in
     let rest = c.next.new.self.rest.now in
     record {
-      goes = Puts-as (lines_by-push g.L.Named.line_rules (terms_of value done) t ∙ ap (lines_by g.L.Named.line_rules) terms)
-          (Puts-then inv.goes c.put_line-well.ensures.goes);
+      goes = Gathers-as (lines_by-push g.L.Named.line_rules (terms_of value done) t ∙ ap (lines_by g.L.Named.line_rules) terms)
+          (Gathers-then inv.goes c.put_line.ensures.goes);
       held = subst (AreHeld value g.R.Scalar.is_held) terms (AreHeld-push value g.R.Scalar.is_held (terms_of value done) t inv.held
-          (record { scalar = p.1; same = refl; held = c.put_line-well.ensures.held }));
+          (record { scalar = p.1; same = refl; held = c.put_line.ensures.held }));
       so_far = ap (λ t. t ++ rest) (sym pushed) ∙ append_assoc done (p ∷ []) rest
           ∙ ap (λ t. done ++ t) (sym c.in-Some.ensures.steps) ∙ inv.so_far;
     }
@@ -56,7 +56,7 @@ returns-clause-goes g c =
     ap (terms_of g.R.Scalar.value) (all_read done _ _ c.in-None.ensures.steps.0 (c.loop-label.invariant.so_far
     ∙ ap (λ (it : Iter (g.row.L.Denot × g.row.R.Denot)). it.rest.now) c.into_iter-label-iterator.ensures.into_iter_gives))
     ∙ c.iter-label-items.ensures.rest in
-    Puts-as (ap (lines_by g.L.Named.line_rules) all ∙ block_by-some g.L.Named.line_rules c.args.terms.now some) c.loop-label.invariant.goes
+    Gathers-as (ap (lines_by g.L.Named.line_rules) all ∙ block_by-some g.L.Named.line_rules c.args.terms.now some) c.loop-label.invariant.goes
 
 pub returns-clause-held : goal.returns-clause-held
 returns-clause-held g c =

@@ -1,5 +1,5 @@
 use Rattle.std.proofs.Common.{◌≡◌, ◌++◌, map}
-use Rattle.calc_base.specs.Puts.{Puts}
+use Rattle.expansion_printer.specs.Gathering.{Gathers}
 use Rattle.sym_model.specs.PrintedBlock.{lines_by}
 use Rattle.sparse_polys.specs.Combination.{terms_of}
 use Rattle.expansion_printer.specs.HeldTerms.{AreHeld}
@@ -8,7 +8,7 @@ use Rattle.expansion_printer.proofs.block.put_terms.Given as goal
 -- the lines of the terms so far went to the sink
 abbrev pub invariant-loop-label : goal.invariant-loop-label
 invariant-loop-label g l = record {
-  goes : Puts g.K.Sink.written g.K.Sink.length g.K.Sink.faults l.fn.well l.fn.sink l.well l.sink
+  goes : Gathers g.K.Sink.written g.K.Sink.length g.K.Sink.faults l.fn.text l.fn.sink l.text l.sink
       (lines_by g.L.Named.line_rules (terms_of g.R.Scalar.value (map (λ item. item.now) l.yielded)));
   held : AreHeld g.R.Scalar.value g.R.Scalar.is_held (terms_of g.R.Scalar.value (map (λ item. item.now) l.yielded));
   so_far : map (λ item. item.now) l.yielded ++ l.label-iterator.rest.now ≡ l.initial.label-iterator.rest.now;

@@ -1,5 +1,5 @@
 use Rattle.std.proofs.Common.{◌≡◌, ◌∙◌, ap, nat_abs, to_z-of_z}
-use Rattle.calc_base.proofs.PutsLaws.{Puts-then, Puts-as}
+use Rattle.expansion_printer.proofs.GatheringLaws.{Gathers-then, Gathers-as}
 use Rattle.expansion_printer.proofs.LineTexts.{coefficient-printed}
 use Rattle.expansion_printer.proofs.coefficients.put_coefficient.Goals.{else-size-eq1-via-then-size-eq1+else-den-eq1, else-size-eq1-via-else-size-eq1}
 use Rattle.expansion_printer.proofs.coefficients.put_coefficient.Goals as goal
@@ -12,5 +12,5 @@ returns g c =
       | else-size-eq1-via-then-size-eq1+else-den-eq1 w ↦ (λ e f. w.if-den-eq1.false f)
       | else-size-eq1-via-else-size-eq1 w ↦ (λ e f. w.if-size-eq1.false e)
     ] in
-    Puts-as (coefficient-printed c.args.num c.args.den size is other)
-    (Puts-then c.put_number-upper.ensures (Puts-then c.put_denominator-lower.ensures c.put_if.ensures.goes))
+    Gathers-as (coefficient-printed c.args.num c.args.den size is other)
+    (Gathers-then c.put_number.ensures (Gathers-then c.put_denominator.ensures c.put.ensures))

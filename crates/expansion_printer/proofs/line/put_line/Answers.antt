@@ -3,7 +3,7 @@ use Rattle.std.specs.Prelude.{codes}
 use Rattle.std.proofs.lemmas.List.{map-append}
 use Rattle.sym_model.specs.Expansion.{Fraction, Terms}
 use Rattle.sym_model.proofs.Lists.{all_read}
-use Rattle.calc_base.proofs.PutsLaws.{Puts-then, Puts-as}
+use Rattle.expansion_printer.proofs.GatheringLaws.{Gathers-then, Gathers-as, Gathers-nothing}
 use Rattle.calc_expressions.specs.Trees.{basis_of}
 use Rattle.sparse_polys.specs.Combination.{terms_of}
 use Rattle.expansion_printer.specs.HeldTerms.{AreHeld}
@@ -11,6 +11,14 @@ use Rattle.expansion_printer.proofs.PrintableTerms.{AreHeld-push}
 use Rattle.expansion_printer.specs.SignedTerms.{signed_terms, is_empty}
 use Rattle.expansion_printer.proofs.LineTexts.{signed_terms-push, is_empty-push, one_line-some}
 use Rattle.expansion_printer.proofs.line.put_line.Goals as goal
+
+pub loop-label-init : goal.loop-label-init
+loop-label-init g c = record {
+  goes = Gathers-nothing g.K.Sink.written g.K.Sink.length g.K.Sink.faults c.args.text.now c.args.sink.now;
+  first = refl;
+  held = tt;
+  so_far = refl;
+}
 
 pub loop-label-preserved : goal.loop-label-preserved
 loop-label-preserved g c =
@@ -26,11 +34,11 @@ loop-label-preserved g c =
     sym (map-append (λ (q : List ℕ × g.row.R.Denot). (q.0, value q.1)) done (p ∷ [])) ∙ ap (terms_of value) pushed in
     let rest = c.next.new.self.rest.now in
     record {
-      goes = Puts-as (signed_terms-push basis (terms_of value done) c.loop-label.is_first t inv.first ∙ ap (signed_terms basis) terms)
-          (Puts-then inv.goes c.put_term-well.ensures.goes);
+      goes = Gathers-as (signed_terms-push basis (terms_of value done) c.loop-label.is_first t inv.first ∙ ap (signed_terms basis) terms)
+          (Gathers-then inv.goes c.put_term.ensures.goes);
       first = is_empty-push (terms_of value done) t ∙ ap is_empty terms;
       held = subst (AreHeld value g.R.Scalar.is_held) terms (AreHeld-push value g.R.Scalar.is_held (terms_of value done) t inv.held
-          (record { scalar = p.1; same = refl; held = c.put_term-well.ensures.held }));
+          (record { scalar = p.1; same = refl; held = c.put_term.ensures.held }));
       so_far = ap (λ t. t ++ rest) (sym pushed) ∙ append_assoc done (p ∷ []) rest
           ∙ ap (λ t. done ++ t) (sym c.in-Some.ensures.steps) ∙ inv.so_far;
     }
@@ -44,5 +52,5 @@ returns-clause-goes g c =
     ap (terms_of g.R.Scalar.value) (all_read done _ _ c.in-None.ensures.steps.0 (c.loop-label.invariant.so_far
     ∙ ap (λ (it : Iter (List ℕ × g.row.R.Denot)). it.rest.now) c.into_iter-label-iterator.ensures.into_iter_gives))
     ∙ c.iter-label-items.ensures.rest in
-    Puts-as (ap (λ (ts : Terms (List ℕ)). signed_terms basis ts ++ codes "\n") all ∙ one_line-some basis c.args.terms.now some)
-    (Puts-then c.loop-label.invariant.goes c.put_if-2.ensures.goes)
+    Gathers-as (ap (λ (ts : Terms (List ℕ)). signed_terms basis ts ++ codes "\n") all ∙ one_line-some basis c.args.terms.now some)
+    (Gathers-then c.loop-label.invariant.goes c.put-2.ensures)

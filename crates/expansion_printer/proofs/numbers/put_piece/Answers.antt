@@ -1,11 +1,11 @@
 use Rattle.std.proofs.Common.{sym, ◌++◌, ◌==◌}
 use Rattle.std.specs.Prelude.{decimal}
 use Rattle.std.proofs.lemmas.Bool.{ne_eqb, cond-false}
-use Rattle.calc_base.proofs.PutsLaws.{Puts-then, Puts-as}
+use Rattle.expansion_printer.proofs.GatheringLaws.{Gathers-then, Gathers-as}
 use Rattle.expansion_printer.proofs.numbers.put_piece.Goals as goal
 
 pub returns : goal.returns
 returns g c =
     let text = decimal c.args.number in
-    Puts-as (sym (cond-false (c.args.at == 0) text (c.args.separator.now ++ text) (ne_eqb c.args.at 0 c.if-at-eq0.false)))
-    (Puts-then c.put_if-parted.ensures.goes c.put_number-2.ensures)
+    Gathers-as (sym (cond-false (c.args.at == 0) text (c.args.separator.now ++ text) (ne_eqb c.args.at 0 c.if-at-eq0.false)))
+    (Gathers-then c.put.ensures c.put_number-2.ensures)

@@ -1,7 +1,7 @@
 use Rattle.std.proofs.Common.{ℕ, ◌+◌, ap, ap₂, ◌∙◌, nat_lt, arith}
 use Rattle.sym_model.specs.Partition.{part}
 use Rattle.expansion_printer.specs.ReadingPlaces.{before_in_row}
-use Rattle.expansion_printer.proofs.ReadingCells.{tally-more}
+use Rattle.expansion_printer.proofs.ReadingCells.{sum_by-more}
 use Rattle.expansion_printer.proofs.reading.place_in_reading.Goals as goal
 
 pub loop-at-preserved : goal.loop-at-preserved
@@ -14,6 +14,6 @@ loop-at-preserved c =
       counted = ap₂ ◌+◌ c.loop-at.invariant.counted (c.count_before-place.ensures.count
           ∙ ap (λ left. before_in_row left c.part-in-loop-at.result c.args.column (nat_lt row c.args.row)) c.part.ensures.value
           ∙ ap (λ right. before_in_row (part inner row) right c.args.column (nat_lt row c.args.row)) c.part-in-loop-at.ensures.value)
-          ∙ tally-more before c.loop-at.at;
+          ∙ sum_by-more before c.loop-at.at;
       few = omega (arith, c.loop-at.invariant.few, c.count_before-place.ensures.few);
     }

@@ -1,10 +1,17 @@
 use Rattle.std.proofs.Common.{◌≡◌, ◌≤◌, ℕ, List, ◌+◌, ◌-◌, ◌++◌, ◌==◌, ap, ◌∙◌, cond, map, arith}
 use Rattle.std.specs.Prelude.{codes, decimal}
-use Rattle.calc_base.proofs.PutsLaws.{Puts-then, Puts-as}
+use Rattle.expansion_printer.proofs.GatheringLaws.{Gathers-then, Gathers-as, Gathers-nothing}
 use Rattle.sym_model.specs.Partition.{after, part}
 use Rattle.sym_model.specs.TableauText.{separated, spaced}
 use Rattle.expansion_printer.proofs.RowTexts.{pieces-more, spaced-map}
 use Rattle.expansion_printer.proofs.rows.put_entries.Goals as goal
+
+pub loop-column-init : goal.loop-column-init
+loop-column-init g c =
+    let left = c.args.left in
+    let none : 0 ≡ left - left = omega arith in
+    Gathers-as (ap (λ k. separated (codes " ") (map (λ column. decimal (g.E.Entries.entry c.args.filling.now c.args.row column)) (after left k))) none)
+    (Gathers-nothing g.K.Sink.written g.K.Sink.length g.K.Sink.faults c.args.text.now c.args.sink.now)
 
 pub loop-column-preserved : goal.loop-column-preserved
 loop-column-preserved g c =
@@ -15,11 +22,11 @@ loop-column-preserved g c =
     let far : left ≤ c.loop-column.column = c.loop-column.auto.column in
     let next : c.loop-column.column + 1 ≡ left + at + 1 = omega arith in
     let more : at + 1 ≡ c.loop-column.column + 1 - left = omega arith in
-    Puts-as (pieces-more (codes " ") (λ column. decimal (entry column)) left at (c.loop-column.column + 1) next
+    Gathers-as (pieces-more (codes " ") (λ column. decimal (entry column)) left at (c.loop-column.column + 1) next
     ∙ ap (λ k. separated (codes " ") (map (λ column. decimal (entry column)) (after left k))) more)
-    (Puts-then c.loop-column.invariant
-    (Puts-as (ap (λ k. piece k c.from-in-loop-column.result) c.from.ensures
-    ∙ ap (piece at) (c.from-in-loop-column.ensures ∙ c.entry-entry.ensures)) c.put_piece-well.ensures))
+    (Gathers-then c.loop-column.invariant
+    (Gathers-as (ap (λ k. piece k c.from-entry.result) c.from.ensures
+    ∙ ap (piece at) (c.from-entry.ensures ∙ c.entry.ensures)) c.put_piece.ensures))
 
 pub returns : goal.returns
 returns g c =
@@ -28,7 +35,7 @@ returns g c =
     let all : c.loop-column.column - c.args.left ≡ part (g.E.Entries.outer filling) c.args.row - part (g.E.Entries.inner filling) c.args.row =
     let last : c.loop-column.column ≤ c.args.right = c.loop-column.auto.column-end c.requires.order in
     omega (arith, c.loop-column-test.false, c.requires.inner, c.requires.outer) in
-    Puts-as (spaced-map entry (after c.args.left (c.loop-column.column - c.args.left))
+    Gathers-as (spaced-map entry (after c.args.left (c.loop-column.column - c.args.left))
     ∙ ap (λ k. spaced (map entry (after c.args.left k))) all
     ∙ ap (λ a. spaced (map entry (after a (part (g.E.Entries.outer filling) c.args.row - part (g.E.Entries.inner filling) c.args.row)))) c.requires.inner)
     c.loop-column.invariant

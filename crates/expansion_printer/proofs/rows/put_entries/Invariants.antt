@@ -1,6 +1,6 @@
 use Rattle.std.proofs.Common.{map, ◌-◌}
 use Rattle.std.specs.Prelude.{codes, decimal}
-use Rattle.calc_base.specs.Puts.{Puts}
+use Rattle.expansion_printer.specs.Gathering.{Gathers}
 use Rattle.sym_model.specs.Partition.{after}
 use Rattle.sym_model.specs.TableauText.{separated}
 use Rattle.expansion_printer.proofs.rows.put_entries.Given as goal
@@ -8,5 +8,5 @@ use Rattle.expansion_printer.proofs.rows.put_entries.Given as goal
 -- the entries so far went to the sink
 abbrev pub invariant-loop-column : goal.invariant-loop-column
 invariant-loop-column g l =
-    Puts g.K.Sink.written g.K.Sink.length g.K.Sink.faults l.fn.well l.fn.sink l.well l.sink
+    Gathers g.K.Sink.written g.K.Sink.length g.K.Sink.faults l.fn.text l.fn.sink l.text l.sink
     (separated (codes " ") (map (λ column. decimal (g.E.Entries.entry l.filling l.row column)) (after l.left (l.column - l.left))))

@@ -1,5 +1,5 @@
 use Rattle.std.proofs.Common.{◌≡◌, ◌<◌, ◌+◌, ap, ◌∙◌, arith}
-use Rattle.calc_base.proofs.PutsLaws.{Puts-as}
+use Rattle.expansion_printer.proofs.GatheringLaws.{Gathers-as}
 use Rattle.sym_model.specs.Partition.{part}
 use Rattle.expansion_printer.proofs.RowTexts.{row_text-some}
 use Rattle.expansion_printer.proofs.rows.put_row.Goals as goal
@@ -12,4 +12,4 @@ returns g c =
     let left : c.part-left.result ≡ part inner (c.args.at + 1) = c.part-left.ensures.value ∙ ap (λ p. part p (c.args.at + 1)) c.inner.ensures in
     let right : c.part-right.result ≡ part outer (c.args.at + 1) = c.part-right.ensures.value ∙ ap (λ p. part p (c.args.at + 1)) c.outer.ensures in
     let some : part inner (c.args.at + 1) < part outer (c.args.at + 1) = omega (arith, c.if-right-left.false) in
-    Puts-as (row_text-some (g.E.Entries.entry filling) outer inner (c.args.at + 1) some) c.put_entries.ensures
+    Gathers-as (row_text-some (g.E.Entries.entry filling) outer inner (c.args.at + 1) some) c.put_entries.ensures

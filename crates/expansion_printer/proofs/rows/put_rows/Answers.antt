@@ -1,18 +1,21 @@
 use Rattle.std.proofs.Common.{◌≡◌, ◌<◌, ◌+◌, ap, ◌∙◌, arith}
 use Rattle.std.specs.Prelude.{codes}
-use Rattle.calc_base.proofs.PutsLaws.{Puts-then, Puts-as}
+use Rattle.expansion_printer.proofs.GatheringLaws.{Gathers-then, Gathers-as, Gathers-nothing}
 use Rattle.sym_model.specs.Partition.{rows}
 use Rattle.sym_model.specs.TableauText.{row_text}
 use Rattle.skew_shapes.specs.Rows.{row_by}
 use Rattle.expansion_printer.proofs.RowTexts.{pieces-more, tableau_text-some}
 use Rattle.expansion_printer.proofs.rows.put_rows.Goals as goal
 
+pub loop-at-init : goal.loop-at-init
+loop-at-init g c = Gathers-nothing g.K.Sink.written g.K.Sink.length g.K.Sink.faults c.args.text.now c.args.sink.now
+
 pub loop-at-preserved : goal.loop-at-preserved
 loop-at-preserved g c =
     let filling = c.args.filling.now in
     let next : c.loop-at.at + 1 ≡ 0 + c.loop-at.at + 1 = omega arith in
-    Puts-as (pieces-more (codes " / ") (λ row. row_text (row_by (g.E.Entries.entry filling) (g.E.Entries.outer filling) (g.E.Entries.inner filling) row)) 0 c.loop-at.at (c.loop-at.at + 1) next)
-    (Puts-then c.loop-at.invariant c.put_next_row-well.ensures)
+    Gathers-as (pieces-more (codes " / ") (λ row. row_text (row_by (g.E.Entries.entry filling) (g.E.Entries.outer filling) (g.E.Entries.inner filling) row)) 0 c.loop-at.at (c.loop-at.at + 1) next)
+    (Gathers-then c.loop-at.invariant c.put_next_row.ensures)
 
 pub returns : goal.returns
 returns g c =
@@ -21,4 +24,4 @@ returns g c =
     let count : c.rows-rows.result ≡ rows outer = c.rows-rows.ensures.value ∙ ap rows c.outer.ensures in
     let all : c.loop-at.at ≡ rows outer = omega (arith, c.loop-at.auto.at-end, c.loop-at-test.false) in
     let some : 0 < c.loop-at.at = omega (arith, c.if-rows-eq0.false) in
-    Puts-as (tableau_text-some (g.E.Entries.entry filling) outer (g.E.Entries.inner filling) c.loop-at.at all some) c.loop-at.invariant
+    Gathers-as (tableau_text-some (g.E.Entries.entry filling) outer (g.E.Entries.inner filling) c.loop-at.at all some) c.loop-at.invariant

@@ -1,6 +1,6 @@
 use Rattle.std.proofs.Common.{map}
 use Rattle.std.specs.Prelude.{codes}
-use Rattle.calc_base.specs.Puts.{Puts}
+use Rattle.expansion_printer.specs.Gathering.{Gathers}
 use Rattle.sym_model.specs.Partition.{after}
 use Rattle.sym_model.specs.TableauText.{separated, row_text}
 use Rattle.skew_shapes.specs.Rows.{row_by}
@@ -9,6 +9,6 @@ use Rattle.expansion_printer.proofs.rows.put_rows.Given as goal
 -- the rows so far went to the sink
 abbrev pub invariant-loop-at : goal.invariant-loop-at
 invariant-loop-at g l =
-    Puts g.K.Sink.written g.K.Sink.length g.K.Sink.faults l.fn.well l.fn.sink l.well l.sink
+    Gathers g.K.Sink.written g.K.Sink.length g.K.Sink.faults l.fn.text l.fn.sink l.text l.sink
     (separated (codes " / ") (map
     (λ row. row_text (row_by (g.E.Entries.entry l.filling) (g.E.Entries.outer l.filling) (g.E.Entries.inner l.filling) row)) (after 0 l.at)))

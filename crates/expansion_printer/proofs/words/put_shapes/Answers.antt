@@ -1,17 +1,20 @@
 use Rattle.std.proofs.Common.{ap, map, take_all}
 use Rattle.std.specs.Prelude.{codes}
-use Rattle.calc_base.proofs.PutsLaws.{Puts-then, Puts-as}
+use Rattle.expansion_printer.proofs.GatheringLaws.{Gathers-then, Gathers-as, Gathers-nothing}
 use Rattle.sym_model.specs.NumberText.{label_text}
 use Rattle.sym_model.specs.TableauText.{separated}
 use Rattle.expansion_printer.proofs.Texts.{texts-more}
 use Rattle.expansion_printer.proofs.words.put_shapes.Goals as goal
 
+pub loop-at-init : goal.loop-at-init
+loop-at-init g c = Gathers-nothing g.K.Sink.written g.K.Sink.length g.K.Sink.faults c.args.text.now c.args.sink.now
+
 pub loop-at-preserved : goal.loop-at-preserved
 loop-at-preserved g c =
-    Puts-as (texts-more (codes " ") label_text c.args.shapes.now c.loop-at.at c.index-shapes-at.result c.loop-at-test.true c.index-shapes-at.is)
-    (Puts-then c.loop-at.invariant c.put_next_shape-well.ensures)
+    Gathers-as (texts-more (codes " ") label_text c.args.shapes.now c.loop-at.at c.index-shapes-at.result c.loop-at-test.true c.index-shapes-at.is)
+    (Gathers-then c.loop-at.invariant c.put_next_shape.ensures)
 
 pub returns : goal.returns
 returns g c =
-    Puts-as (ap (λ shapes. separated (codes " ") (map label_text shapes)) (take_all c.loop-at.at c.args.shapes.now c.loop-at-test.false))
+    Gathers-as (ap (λ shapes. separated (codes " ") (map label_text shapes)) (take_all c.loop-at.at c.args.shapes.now c.loop-at-test.false))
     c.loop-at.invariant

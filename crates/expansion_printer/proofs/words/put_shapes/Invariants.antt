@@ -1,6 +1,6 @@
-use Rattle.std.proofs.Common.{map, take, true}
+use Rattle.std.proofs.Common.{map, take}
 use Rattle.std.specs.Prelude.{codes}
-use Rattle.calc_base.specs.Puts.{Puts}
+use Rattle.expansion_printer.specs.Gathering.{Gathers}
 use Rattle.sym_model.specs.NumberText.{label_text}
 use Rattle.sym_model.specs.TableauText.{separated}
 use Rattle.expansion_printer.proofs.words.put_shapes.Given as goal
@@ -8,5 +8,5 @@ use Rattle.expansion_printer.proofs.words.put_shapes.Given as goal
 -- the shapes so far went to the sink
 abbrev pub invariant-loop-at : goal.invariant-loop-at
 invariant-loop-at g l =
-    Puts g.K.Sink.written g.K.Sink.length g.K.Sink.faults true l.fn.sink l.well l.sink
+    Gathers g.K.Sink.written g.K.Sink.length g.K.Sink.faults l.fn.text l.fn.sink l.text l.sink
     (separated (codes " ") (map label_text (take l.at l.shapes)))

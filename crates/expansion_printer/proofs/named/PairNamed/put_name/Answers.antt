@@ -1,12 +1,12 @@
 use Rattle.std.proofs.Common.{ap, ◌∙◌, List, ℕ}
 use Rattle.sym_model.specs.NumberText.{label_text}
 use Rattle.sym_model.specs.Kind.{list_text}
-use Rattle.calc_base.proofs.PutsLaws.{Puts-then, Puts-as}
+use Rattle.expansion_printer.proofs.GatheringLaws.{Gathers-then, Gathers-as}
 use Rattle.expansion_printer.proofs.Texts.{map_same}
 use Rattle.expansion_printer.proofs.named.PairNamed.put_name.Goals as goal
 
 pub returns : goal.returns
 returns g c =
-    Puts-then (Puts-as (ap (λ (p : List ℕ × List ℕ). list_text p.0) c.self.view_is) c.put_name-first.ensures)
-    (Puts-then c.put_if-gap.ensures.goes
-    (Puts-as (ap label_text (map_same c.parts.result.now ∙ c.parts.ensures.value ∙ ap (λ (p : List ℕ × List ℕ). p.1) c.self.view_is)) c.put_label.ensures))
+    Gathers-then (Gathers-as (ap (λ (p : List ℕ × List ℕ). list_text p.0) c.self.view_is) c.put_name.ensures)
+    (Gathers-then c.put.ensures
+    (Gathers-as (ap label_text (map_same c.parts.result.now ∙ c.parts.ensures.value ∙ ap (λ (p : List ℕ × List ℕ). p.1) c.self.view_is)) c.put_label.ensures))

@@ -1,10 +1,10 @@
 use Rattle.std.proofs.Common.{ap, ◌∙◌}
 use Rattle.sym_model.specs.NumberText.{label_text}
-use Rattle.calc_base.proofs.PutsLaws.{Puts-then, Puts-as}
+use Rattle.expansion_printer.proofs.GatheringLaws.{Gathers-then, Gathers-as}
 use Rattle.expansion_printer.proofs.Texts.{map_same}
 use Rattle.expansion_printer.proofs.named.PartitionNamed.put_name.Goals as goal
 
 pub returns : goal.returns
 returns g c =
-    Puts-then c.put_if-gap.ensures.goes
-    (Puts-as (ap label_text (map_same c.parts.result.now ∙ c.parts.ensures.value)) c.put_label.ensures)
+    Gathers-then c.put.ensures
+    (Gathers-as (ap label_text (map_same c.parts.result.now ∙ c.parts.ensures.value)) c.put_label.ensures)

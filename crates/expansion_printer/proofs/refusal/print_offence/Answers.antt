@@ -1,0 +1,12 @@
+use Rattle.expansion_printer.proofs.GatheringLaws.{Gathers-then, Gathers-prints}
+use Rattle.expansion_printer.proofs.refusal.print_offence.Goals as goal
+
+pub returns : goal.returns
+returns g c =
+    Gathers-prints c.finish.result c.new-text.ensures
+    (Gathers-then c.put.ensures
+    (Gathers-then c.put-2.ensures
+    (Gathers-then c.put-3.ensures
+    (Gathers-then c.put_number.ensures
+    (Gathers-then c.put-4.ensures (Gathers-then c.put_number-2.ensures c.put-5.ensures))))))
+    c.finish.ensures
