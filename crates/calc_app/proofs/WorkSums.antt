@@ -9,7 +9,7 @@ use Rattle.calc_base.specs.declared.status.Status.TheVariants as status
 use Rattle.calc_base.specs.Fault.{Rose}
 use Rattle.calc_base.specs.Puts.{Puts}
 use Rattle.calc_base.specs.Sink.{Appends}
-use Rattle.calc_language.proofs.BuiltEntries.{built_of_all, kept_by_all}
+use Rattle.calc_language.proofs.Entries.{kept_by_all}
 use Rattle.calc_language.specs.BuiltCommands.{command_entries, batch_entries}
 use Rattle.sym_model.specs.BatchLine.{BatchLine, batch_line}
 use Rattle.sym_model.specs.BatchOutcome.{Block, AreBlocks, RunsWorkload}
@@ -152,7 +152,7 @@ all_ran lines seed index state sums s above = by s.rest s.count s.all
 -- ---- how `work` ends
 
 pub seed_within : (words : List (List ℕ)) (lines seed : ℕ) → SpellsWithoutOffence command_entries words (work lines seed) → seed ≤ 65536
-seed_within words lines seed spelled = (kept_by_all words (work lines seed) (built_of_all words (work lines seed) spelled)).2
+seed_within words lines seed spelled = (kept_by_all words (work lines seed) spelled).2
 
 runs_work : (lines seed : ℕ) (sums : Sums) → AreSumsOf lines seed sums → RunsWorkload batch_entries lines seed (sums_text sums)
 runs_work lines seed sums are = record { blocks = are.blocks; are_blocks = are.are; summed = ap sums_text are.sum_up }

@@ -13,8 +13,8 @@ use Rattle.word_laws.proofs.Classes.{letter_complete}
 use Rattle.sym_model.specs.Command.{expand}
 use Rattle.sym_model.specs.CommandOffence.{Offence, is_no_later, earlier_of, first_offence}
 use Rattle.sym_model.specs.Entry.{Entry, HasFirstOffence}
-use Rattle.sym_model.specs.Grammar.{expand_entry}
-use Rattle.calc_language.specs.BuiltCommands.{built_targets, IsTarget}
+use Rattle.sym_model.specs.Grammar.{all_bases, expand_entry}
+use Rattle.calc_language.specs.BuiltCommands.{IsTarget}
 use Rattle.sym_model.specs.SyntaxPlace.{IsSyntaxPlace}
 use Rattle.word_laws.specs.Reading.{is_expression, forms_of}
 use Rattle.word_laws.proofs.LongestPrefixes.{CanBe}
@@ -40,7 +40,7 @@ Words = List (List ℕ)
 
 -- the command, and the command alone
 abbrev pub the_entry : Entry
-the_entry = expand_entry built_targets
+the_entry = expand_entry all_bases
 
 abbrev pub expand_alone : List Entry
 expand_alone = the_entry ∷ []
@@ -49,8 +49,8 @@ expand_alone = the_entry ∷ []
 abbrev pub spelled_words : Bool → Basis → List ℕ → Words
 spelled_words m t z = front m ++ letter t ∷ z ∷ []
 
-has_letter : (t : Basis) → IsTarget t → is_letter_of built_targets (letter t) ≡ true
-has_letter t m = letter_complete built_targets t m
+has_letter : (t : Basis) → IsTarget t → is_letter_of all_bases (letter t) ≡ true
+has_letter t m = letter_complete all_bases t m
 
 form_allowed : (m : Bool) → May (optional form_words) (form_written m)
 form_allowed false = tt
@@ -70,7 +70,7 @@ has_command m t i z e s = record {
 
 -- what is still to come after the words so far
 abbrev target_and_expression : Form
-target_and_expression = sequence (word (target built_targets)) (word formula)
+target_and_expression = sequence (word (target all_bases)) (word formula)
 
 abbrev after_expand : Form
 after_expand = sequence empty (sequence (optional form_words) target_and_expression)
@@ -121,7 +121,7 @@ stands_third : (m : Bool) (t : Basis) → IsTarget t → (rest : Words)
 stands_third false t i rest = record {
   words_are = refl;
   still =
-      ap (λ f. kept_form f (is_letter_of built_targets (letter t))) (no_form t) ∙ ap (kept_form false) (has_letter t i);
+      ap (λ f. kept_form f (is_letter_of all_bases (letter t))) (no_form t) ∙ ap (kept_form false) (has_letter t i);
 }
 stands_third true t i rest =
     record { words_are = refl; still = ap (λ b. kept_target b ++ []) (has_letter t i) }
@@ -177,13 +177,13 @@ not_awaited true = refl
 pub place-one : (m : Bool) → IsSyntaxPlace expand_alone (front m ++ []) (length (front m)) 0
 place-one m = ends_early expand_alone can_all some_entry (front m ++ []) (front m) (after_front m) [] (stands_second m []) (unfinished m)
 
-no_target : (m : Bool) (y : List ℕ) (xs : Words) → IsBehindForm m (y ∷ xs) → is_letter_of built_targets y ≡ false
+no_target : (m : Bool) (y : List ℕ) (xs : Words) → IsBehindForm m (y ∷ xs) → is_letter_of all_bases y ≡ false
     → after_word is_expression (after_front m ∷ []) y ≡ []
 no_target false y xs b n =
-    ap (λ f. kept_form f (is_letter_of built_targets y)) (not_same (codes "-m") y b) ∙ ap (kept_form false) n
+    ap (λ f. kept_form f (is_letter_of all_bases y)) (not_same (codes "-m") y b) ∙ ap (kept_form false) n
 no_target true y xs b n = ap (λ l. kept_target l ++ []) n
 
-pub place-second : (m : Bool) (y : List ℕ) (xs : Words) → IsBehindForm m (y ∷ xs) → is_letter_of built_targets y ≡ false
+pub place-second : (m : Bool) (y : List ℕ) (xs : Words) → IsBehindForm m (y ∷ xs) → is_letter_of all_bases y ≡ false
     → IsSyntaxPlace expand_alone (front m ++ y ∷ xs) (length (front m)) 0
 place-second m y xs b n =
     wrong_word expand_alone can_all some_entry (front m ++ y ∷ xs) (front m) y xs (after_front m) [] (stands_second m (y ∷ xs))

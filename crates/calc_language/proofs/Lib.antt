@@ -1,6 +1,5 @@
 pub mod NamedEntries
-pub mod BuiltEntries
+pub mod Entries
 pub mod ExpandWords
-pub mod ReadCommands
 pub mod LineCommands
 mod ReadTableaux

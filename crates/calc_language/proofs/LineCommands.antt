@@ -15,12 +15,11 @@ use Rattle.calc_words.specs.LineBytes.{seen, seen_byte, is_passed_over}
 use Rattle.calc_words.specs.Reading.{IsRead, Refuses, GoesWrong}
 use Rattle.calc_words.proofs.ForeignBytes.{seen_read}
 use Rattle.calc_words.proofs.ReadingFacts.{accepts, refuses, goes_wrong}
-use Rattle.calc_language.specs.BuiltCommands.{all_entries, all_line_entries, is_built, batch_entries}
+use Rattle.calc_language.specs.BuiltCommands.{command_entries, batch_entries}
 use Rattle.calc_language.specs.Lines.{IsLineRead, KeepsItsLimits, AcceptsInLine}
 use Rattle.calc_language.specs.Reading.{command_of}
 use Rattle.calc_language.specs.declared.words.Command.{Command}
-use Rattle.calc_language.proofs.BuiltEntries.{kept_by_all}
-use Rattle.calc_language.proofs.NamedEntries.{some_select}
+use Rattle.calc_language.proofs.Entries.{kept_by_all}
 
 abbrev Words : Type 0
 Words = List (List ℕ)
@@ -105,10 +104,10 @@ some_append P [] ys h = absurd h
 some_append P (x ∷ xs) ys (inl h) = inl h
 some_append P (x ∷ xs) ys (inr h) = inr (some_append P xs ys h)
 
-line_of_all : (words : Words) (c : PlainCommand) → SpellsWithoutOffence batch_entries words c → SpellsWithoutOffence all_entries words c
+line_of_all : (words : Words) (c : PlainCommand) → SpellsWithoutOffence batch_entries words c → SpellsWithoutOffence command_entries words c
 line_of_all words c h =
     let P : Entry → Type 0 = λ e. SpellsFreely e words c in
-    some_append P all_line_entries (batch_entry ∷ work_entry ∷ []) (some_select P is_built all_line_entries h)
+    some_append P batch_entries (batch_entry ∷ work_entry ∷ []) h
 
 pub within : (line : BatchLine) (r : Result (Option Command) WordsFault) → IsLineRead line r → IfOk r KeepsItsLimits
 within line (Err fault) h = tt

@@ -34,14 +34,6 @@ each_among P [] h e m = absurd m
 each_among P (f ∷ entries) h e (inl s) = subst P (sym s) h.0
 each_among P (f ∷ entries) h e (inr m) = each_among P entries h.1 e m
 
-pub each_select : (P : Entry → Type 0) (test : Entry → Bool) (entries : List Entry) → EachOf P entries → EachOf P (select test entries)
-each_select P test [] h = tt
-each_select P test (e ∷ entries) h = by (test e) (each_select P test entries h.1)
-  where
-    by : (b : Bool) → EachOf P (select test entries) → EachOf P (cond b (e ∷ select test entries) (select test entries))
-    by true k = (h.0, k)
-    by false k = k
-
 pub some_select : (P : Entry → Type 0) (test : Entry → Bool) (entries : List Entry) → SomeOf P (select test entries) → SomeOf P entries
 some_select P test [] h = h
 some_select P test (e ∷ entries) h = by (test e) h (some_select P test entries)
@@ -50,13 +42,6 @@ some_select P test (e ∷ entries) h = by (test e) h (some_select P test entries
     by true (inl k) rest = inl k
     by true (inr k) rest = inr (rest k)
     by false k rest = inr (rest k)
-
-pub can_select : (test : Entry → Bool) (entries : List Entry) → EachOf (λ (e : Entry). can_be e.form ≡ true) entries → CanBe (forms_of (select test entries))
-can_select test entries h = forms (select test entries) (each_select (λ (e : Entry). can_be e.form ≡ true) test entries h)
-  where
-    forms : (es : List Entry) → EachOf (λ (e : Entry). can_be e.form ≡ true) es → CanBe (forms_of es)
-    forms [] k = tt
-    forms (e ∷ es) k = (k.0, forms es k.1)
 
 -- ---- names that tell the commands apart
 
@@ -81,16 +66,8 @@ among_names name e (f ∷ entries) (inl s) h =
     or_left (same name f.name) (is_among name (names_of entries)) (same_from name f.name (sym h ∙ ap (λ (x : Entry). x.name) s))
 among_names name e (f ∷ entries) (inr m) h = or_right (same name f.name) (is_among name (names_of entries)) (among_names name e entries m h)
 
-clash : {A : Type 0} (b : Bool) → b ≡ false → b ≡ true → A
+pub clash : {A : Type 0} (b : Bool) → b ≡ false → b ≡ true → A
 clash b h k = cc
-
--- a word that is no name of these is not that of one of them
-pub named_differently : (w : List ℕ) (e : Entry) (entries : List Entry) → is_among w (names_of entries) ≡ false → Among e entries → same e.name w ≡ false
-named_differently w e entries h m = by (same e.name w) refl
-  where
-    by : (b : Bool) → same e.name w ≡ b → b ≡ false
-    by true s = clash (is_among w (names_of entries)) h (among_names w e entries m (same_true e.name w s))
-    by false s = refl
 
 not_both : (x y : Bool) → (not x && y) ≡ true → (x ≡ false) × (y ≡ true)
 not_both true y h = cc
@@ -130,17 +107,6 @@ led_named e (inr s) = record {
       let P : Form → Type 0 = λ f. (words : Words) → Awaits f words → BeginsAs e.name words in
       subst P (sym s) (λ words h. absurd h);
 }
-
--- a command among the selected ones, with what is known of all
-pub joined : (test : Entry → Bool) (entries : List Entry) → EachOf IsLed entries → are_named_apart (select test entries) ≡ true
-    → (e : Entry) → Among e entries → test e ≡ true → Joined e (select test entries)
-joined test entries l a e m t =
-    let here = Among-select test e entries m t in
-    record {
-      among = here;
-      alone = λ f n s. one_named (select test entries) a e f here n s;
-      named = λ f n. led_named f (each_among IsLed entries l f (Among_from_select test f entries n).0);
-    }
 
 -- ---- words that begin with no name
 
@@ -190,11 +156,3 @@ pub wordless : (entries : List Entry) → EachOf IsLed entries → CanBe (forms_
 wordless [] l c n = absurd (omega (arith, n))
 wordless (e ∷ entries) l c n =
     ends_early (e ∷ entries) c n [] [] e.form (forms_of entries) (record { words_are = refl; still = refl }) (none_skips (e ∷ entries) l)
-
--- a word that is among no names is none of them
-pub not_named : (names : List (List ℕ)) (w name : List ℕ) → is_among w names ≡ false → is_among name names ≡ true → same name w ≡ false
-not_named names w name h k = by (same name w) refl
-  where
-    by : (b : Bool) → same name w ≡ b → b ≡ false
-    by true e = clash (is_among w names) h (sym (ap (λ v. is_among v names) (same_true name w e)) ∙ k)
-    by false e = refl

@@ -1,39 +1,28 @@
--- Which commands are built. What is not built is in no list here, and so is spelled by no words (this project's own).
-use Rattle.std.specs.Prelude.{◌≡◌, ℕ, Bool, List, [], ◌∷◌, codes}
+-- The commands that are read, on the command line and in a line of a batch (this project's own).
+use Rattle.std.specs.Prelude.{◌≡◌, ℕ, Bool, not, List, [], ◌∷◌, codes}
 use Rattle.sym_model.specs.Sum.{select}
 use Rattle.sym_model.specs.GoodTableau.{is_among}
-use Rattle.sym_model.specs.Expansion.{Basis, monomials, elementaries, completes, power_sums, schurs}
+use Rattle.sym_model.specs.Expansion.{Basis}
 use Rattle.sym_model.specs.Form.{SomeOf}
 use Rattle.sym_model.specs.Entry.{Entry}
-use Rattle.sym_model.specs.Grammar.{entries_of, line_entries}
+use Rattle.sym_model.specs.Grammar.{entries_of, line_entries, all_bases}
 
--- the names of the commands that are built
-abbrev pub built_names : List (List ℕ)
-built_names = codes "mult" ∷ codes "skew" ∷ codes "coef" ∷ codes "coprod" ∷ codes "tab" ∷ codes "quantum" ∷ codes "fusion" ∷ codes "schubert" ∷ codes "schubmult" ∷ codes "expand" ∷ codes "rsk" ∷ codes "unrsk" ∷ codes "rect" ∷ codes "batch" ∷ codes "work" ∷ []
-
--- whether a command is built
-abbrev pub is_built : Entry → Bool
-is_built e = is_among e.name built_names
-
--- the bases into which an expansion is built
-abbrev pub built_targets : List Basis
-built_targets = monomials ∷ elementaries ∷ completes ∷ power_sums ∷ schurs ∷ []
-
--- the expansion is into one of them
+-- the expansion is into one of the bases
 abbrev pub IsTarget : Basis → Type 0
-IsTarget basis = SomeOf (λ b. basis ≡ b) built_targets
+IsTarget basis = SomeOf (λ b. basis ≡ b) all_bases
 
--- all commands, and those of a line of a batch, as they would be built
-abbrev pub all_entries : List Entry
-all_entries = entries_of built_targets
+-- the commands that no words spell yet
+abbrev pub unread_names : List (List ℕ)
+unread_names = codes "growth" ∷ codes "plethysm" ∷ codes "dschubmult" ∷ codes "stanley" ∷ []
 
-abbrev pub all_line_entries : List Entry
-all_line_entries = line_entries built_targets
+-- whether words spell the command
+abbrev pub is_read : Entry → Bool
+is_read e = not (is_among e.name unread_names)
 
 -- the commands of the command line
 abbrev pub command_entries : List Entry
-command_entries = select is_built all_entries
+command_entries = select is_read (entries_of all_bases)
 
 -- the commands of a line of a batch
 abbrev pub batch_entries : List Entry
-batch_entries = select is_built all_line_entries
+batch_entries = select is_read (line_entries all_bases)

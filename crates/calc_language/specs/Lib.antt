@@ -1,6 +1,5 @@
 pub mod Reading
 pub mod BuiltCommands
-pub mod Names
 pub mod Lines
 pub mod Pairs
 pub mod ExpandFront

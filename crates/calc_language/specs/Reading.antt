@@ -1,6 +1,8 @@
 -- What the words of a command are read as (this project's own).
-use Rattle.std.specs.Prelude.{ℕ, List, Result}
+use Rattle.std.specs.Prelude.{◌≡◌, ℕ, cond, List, [], ◌∷◌, Option, Some, None, Result, Err}
 use Rattle.sym_model.specs.Command.{Command as PlainCommand, mult, skew, coef, coprod, quantum, fusion, expand, schubert, schubmult, tab, rsk, unrsk, rect, batch, work}
+use Rattle.sym_model.specs.Entry.{Entry}
+use Rattle.sym_model.specs.Polynomial.{same}
 use Rattle.calc_language.specs.BuiltCommands.{command_entries}
 use Rattle.calc_base.specs.declared.words.WordsFault.{WordsFault}
 use Rattle.calc_base.specs.declared.words.WordsFault.TheVariants.{Syntax, Literal, Range, Shape, NoMemory}
@@ -30,6 +32,16 @@ command_of (Unrsk pair) = unrsk pair.0.rows pair.1.rows
 command_of (Rect tableau) = rect tableau.outer tableau.inner tableau.rows
 command_of Batch = batch
 command_of (Work lines seed) = work lines seed
+
+-- the entry of this name
+abbrev pub entry_named : List ℕ → List Entry → Option Entry
+entry_named name [] = None
+entry_named name (e ∷ entries) = cond (same name e.name) (Some e) (entry_named name entries)
+
+-- the words are read as those of the entry, where there is one, and otherwise go wrong at the first word
+abbrev pub IsReadAs : Option Entry → List (List ℕ) → Result Command WordsFault → Type 0
+IsReadAs None words result = result ≡ Err (Syntax (record { word = 0; byte = 0 }))
+IsReadAs (Some e) words result = IsReadBy (e ∷ []) command_of words result
 
 -- what the command names is within the limits of words
 abbrev pub IsWithinItsLimits : Command → Type 0

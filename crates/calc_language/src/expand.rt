@@ -1,11 +1,11 @@
 //! The words of `expand`.
 ghost use Rattle.std.specs.Prelude.{◌≡◌, false, MatchOption, [], ◌∷◌, ◌++◌, length, map, string_bytes};
 ghost use Rattle.sym_model.specs.Form.{is_letter_of};
-ghost use Rattle.sym_model.specs.Grammar.{expand_entry};
+ghost use Rattle.sym_model.specs.Grammar.{all_bases, expand_entry};
 ghost use Rattle.sym_model.specs.Phrase.{letter};
 ghost use Rattle.calc_expressions.specs.Trees.{basis_of};
 ghost use Rattle.calc_words.specs.Reading.{IsRead as IsReadBy};
-ghost use Rattle.calc_language.specs.BuiltCommands.{built_targets, IsTarget};
+ghost use Rattle.calc_language.specs.BuiltCommands.{IsTarget};
 ghost use Rattle.calc_language.specs.ExpandFront.{front, IsBehindForm};
 ghost use Rattle.calc_language.specs.Reading.{command_of};
 
@@ -18,7 +18,7 @@ use std::alloc::Global;
 
 /// The target of this letter.
 fn target_named(word: &str) -> Option<Basis>
-    ensures { MatchOption result (is_letter_of built_targets word.now ≡ false)
+    ensures { MatchOption result (is_letter_of all_bases word.now ≡ false)
         (λ target. (word.now ≡ letter (basis_of target)) × IsTarget (basis_of target)) }
 {
     match word {
@@ -42,7 +42,7 @@ fn target_word(one_line: bool) -> u64
 /// there.
 fn read_target(alloc: Global, one_line: bool, words: &[String]) -> Result<Command, WordsFault>
     requires { IsBehindForm one_line (map string_bytes words.now) }
-    ensures { IsReadBy (expand_entry built_targets ∷ []) command_of (front one_line ++ map string_bytes words.now) result }
+    ensures { IsReadBy (expand_entry all_bases ∷ []) command_of (front one_line ++ map string_bytes words.now) result }
 {
     let at = target_word(one_line);
     let Some((letter, words)) = words.split_first() else {
@@ -74,7 +74,7 @@ fn read_target(alloc: Global, one_line: bool, words: &[String]) -> Result<Comman
 /// The words of `expand`: that word, `-m` where the answer is wanted on one line, the letter of a target, and an
 /// expression.
 pub(crate) fn read_expand(alloc: Global, words: &[String]) -> Result<Command, WordsFault>
-    ensures { IsReadBy (expand_entry built_targets ∷ []) command_of (map string_bytes words.now) result }
+    ensures { IsReadBy (expand_entry all_bases ∷ []) command_of (map string_bytes words.now) result }
 {
     let Some(rest) = behind(words, "expand") else {
         return Err(syntax(0, 0));

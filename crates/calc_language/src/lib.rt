@@ -3,12 +3,10 @@
 #![tactic(auto)]
 
 mod batches;
-mod built;
 mod by_name;
 mod expand;
 mod letters;
 mod lines;
-mod name;
 mod pairs;
 mod permutations;
 mod rectifying;
@@ -17,7 +15,6 @@ mod shapes;
 mod tableaux;
 mod words;
 
-pub use built::built_commands_law;
 pub use calc_expressions::{Basis, Expr, Formula, Weight, degree_limit};
 pub use lines::read_line;
 pub use pairs::TableauPair;

@@ -12,7 +12,6 @@ ghost use Rattle.calc_language.specs.Reading.{command_of};
 
 use crate::Command;
 use crate::by_name::by_name;
-use crate::name::{named, stands_in_line};
 use crate::refusal::syntax;
 use calc_base::{NoMemory, Place, WordsFault};
 use calc_words::{are_passed_over, line_words, without_return};
@@ -73,11 +72,8 @@ fn read_in_line(alloc: Global, words: &[String]) -> Result<Command, WordsFault>
     let Some((first, _)) = words.split_first() else {
         return Err(syntax(0, 0));
     };
-    let Some(name) = named(first.as_str()) else {
-        return Err(syntax(0, 0));
-    };
-    if !stands_in_line(name) {
-        return Err(syntax(0, 0));
+    match first.as_str() {
+        "batch" | "work" => Err(syntax(0, 0)),
+        name => by_name(alloc, name, words),
     }
-    by_name(alloc, name, words)
 }

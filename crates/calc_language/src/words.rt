@@ -8,7 +8,6 @@ ghost use Rattle.calc_language.specs.BuiltCommands.{command_entries};
 ghost use Rattle.calc_language.specs.Reading.{IsWithinItsLimits, IsRead, Accepts, Refuses, GoesWrong};
 
 use crate::by_name::by_name;
-use crate::name::named;
 use crate::pairs::TableauPair;
 use crate::refusal::syntax;
 use crate::{Basis, Formula};
@@ -129,8 +128,5 @@ fn read(alloc: Global, words: &[String]) -> Result<Command, WordsFault>
     let Some((first, _)) = words.split_first() else {
         return Err(syntax(0, 0));
     };
-    let Some(name) = named(first.as_str()) else {
-        return Err(syntax(0, 0));
-    };
-    by_name(alloc, name, words)
+    by_name(alloc, first.as_str(), words)
 }

@@ -7,10 +7,9 @@ use Rattle.calc_base.specs.declared.words.WordsFault.TheVariants as fault
 use Rattle.sym_model.specs.Command.{Command, batch}
 use Rattle.sym_model.specs.CommandOffence.{Offence}
 use Rattle.sym_model.specs.BatchLine.{BatchLine, too_long, passed_over, spoken}
-use Rattle.sym_model.specs.Entry.{Entry, SpellsFreely, SpellsWithoutOffence}
+use Rattle.sym_model.specs.Entry.{Entry, SpellsWithoutOffence}
 use Rattle.sym_model.specs.Form.{Written, EachOf}
-use Rattle.calc_language.proofs.NamedEntries.{some_select}
-use Rattle.calc_language.specs.BuiltCommands.{all_line_entries, is_built, command_entries, batch_entries}
+use Rattle.calc_language.specs.BuiltCommands.{command_entries, batch_entries}
 use Rattle.calc_language.specs.declared.words.Command.{Command as Read}
 use Rattle.calc_language.specs.Lines.{IsLineRead}
 use Rattle.sym_model.specs.Outcome.{MayBeLarge}
@@ -68,16 +67,14 @@ some_alone [] words command each spelled = absurd spelled
 some_alone (e ∷ entries) words command each (inl h) = subst RunsNoOther (sym h.says_it) (each.0 h.has.written)
 some_alone (e ∷ entries) words command each (inr h) = some_alone entries words command each.1 h
 
-each_alone : EachOf (λ e. (x : Written e.form) → RunsNoOther (e.says x)) all_line_entries
+each_alone : EachOf (λ e. (x : Written e.form) → RunsNoOther (e.says x)) batch_entries
 each_alone = (
   (λ x. tt),
   ((λ x. tt), ((λ x. tt), ((λ x. tt), ((λ x. tt), ((λ x. tt), ((λ x. tt), ((λ x. tt), ((λ x. tt), ((λ x. tt), ((λ x. tt), ((λ x. tt), ((λ x. tt), tt)))))))))))),
 )
 
 pub line_alone : (words : List (List ℕ)) (command : Command) → SpellsWithoutOffence batch_entries words command → RunsNoOther command
-line_alone words command spelled =
-    some_alone all_line_entries words command each_alone
-    (some_select (λ (e : Entry). SpellsFreely e words command) is_built all_line_entries spelled)
+line_alone words command spelled = some_alone batch_entries words command each_alone spelled
 
 pub read_alone : (line : BatchLine) (command : Read) → IsLineRead line (Ok (Some command)) → RunsNoOther (command_of command)
 read_alone too_long command read = absurd read

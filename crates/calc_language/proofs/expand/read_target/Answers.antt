@@ -6,12 +6,12 @@ use Rattle.calc_base.specs.declared.words.WordsFault.TheVariants.{Syntax}
 use Rattle.sym_model.specs.Phrase.{Phrase, SpellsPhrase, letter}
 use Rattle.calc_language.specs.declared.words.Command.TheVariants.{Expand}
 use Rattle.calc_expressions.specs.Trees.{basis_of}
-use Rattle.calc_language.specs.BuiltCommands.{built_targets}
+use Rattle.sym_model.specs.Grammar.{all_bases}
 use Rattle.calc_language.specs.ExpandFront.{front, IsBehindForm}
 use Rattle.calc_language.specs.Reading.{placed}
 use Rattle.sym_model.specs.Form.{is_letter_of}
 use Rattle.calc_language.proofs.ExpandWords.{place-one, place-second, place-two, place-word, place-fourth, read-expression, read-fault, IsAlone, syntax-read, some_words, cons-same}
-use Rattle.calc_language.proofs.ReadCommands.{no_words}
+use Rattle.calc_language.proofs.Entries.{empty_map}
 use Rattle.calc_language.proofs.expand.read_target.Goals as goal
 
 abbrev Words : Type 0
@@ -22,7 +22,7 @@ returns-in_default c =
     let m = c.args.one_line in
     let words = c.args.words.now in
     syntax-read (front m ++ map string_bytes words) (front m ++ []) c.syntax.result (length (front m)) 0
-    (ap (λ (ws : Words). front m ++ ws) (no_words string_bytes words c.in_default.ensures.cases))
+    (ap (λ (ws : Words). front m ++ ws) (empty_map string_bytes words c.in_default.ensures.cases))
     (c.syntax.ensures ∙ ap (λ n. Syntax (record { word = n; byte = 0 })) c.target_word-at.ensures) (place-one m)
 
 pub returns-in_default-target_named : goal.returns-in_default-target_named
@@ -31,8 +31,8 @@ returns-in_default-target_named c =
     let y = string_bytes c.in-Some.letter.now in
     let xs = map string_bytes c.in-Some.words.now in
     let words : map string_bytes c.args.words.now ≡ y ∷ xs = ap (map string_bytes) c.in-Some.ensures.cases.0 in
-    let other : is_letter_of built_targets y ≡ false =
-    subst (λ v. is_letter_of built_targets v ≡ false) c.as_str.ensures.value c.in_default-target_named.ensures in
+    let other : is_letter_of all_bases y ≡ false =
+    subst (λ v. is_letter_of all_bases v ≡ false) c.as_str.ensures.value c.in_default-target_named.ensures in
     syntax-read (front m ++ map string_bytes c.args.words.now) (front m ++ y ∷ xs) c.syntax-in_default-target_named.result (length (front m)) 0
     (ap (λ (ws : Words). front m ++ ws) words)
     (c.syntax-in_default-target_named.ensures ∙ ap (λ n. Syntax (record { word = n; byte = 0 })) c.target_word-at.ensures)
@@ -46,7 +46,7 @@ returns-in_default-split_first c =
     let first : string_bytes c.in-Some.letter.now ≡ letter t = sym c.as_str.ensures.value ∙ c.in-Some-target_named.ensures.0 in
     let words : map string_bytes c.args.words.now ≡ letter t ∷ [] =
     ap (map string_bytes) c.in-Some.ensures.cases.0
-    ∙ cons-same _ _ _ _ first (no_words string_bytes c.in-Some.words.now c.in_default-split_first.ensures.cases) in
+    ∙ cons-same _ _ _ _ first (empty_map string_bytes c.in-Some.words.now c.in_default-split_first.ensures.cases) in
     syntax-read (front m ++ map string_bytes c.args.words.now) (front m ++ letter t ∷ []) c.syntax-in_default-split_first.result (length (front m) + 1) 0
     (ap (λ (ws : Words). front m ++ ws) words)
     (c.syntax-in_default-split_first.ensures ∙ ap (λ n. Syntax (record { word = n + 1; byte = 0 })) c.target_word-at.ensures)
@@ -101,7 +101,7 @@ returns-in-Ok c =
     let words : map string_bytes c.args.words.now ≡ letter t ∷ z ∷ [] =
     ap (map string_bytes) c.in-Some.ensures.cases.0
     ∙ cons-same _ _ _ _ first
-    (ap (map string_bytes) c.in-Some-split_first.ensures.cases.0 ∙ cons-same z z _ _ refl (no_words string_bytes rest (eqb-true (length rest) 0 none))) in
+    (ap (map string_bytes) c.in-Some-split_first.ensures.cases.0 ∙ cons-same z z _ _ refl (empty_map string_bytes rest (eqb-true (length rest) 0 none))) in
     let f = c.in-Ok.formula in
     let read : IsExpression t z f = subst (λ v. IsExpression t v f) c.as_bytes-text.ensures.value c.in-Ok.ensures.read in
     subst (λ (v : Words). IsAlone (front m ++ v) (Ok (Expand c.in-Some-target_named.target m f))) (sym words)
@@ -119,7 +119,7 @@ returns-in-Err c =
     let words : map string_bytes c.args.words.now ≡ letter t ∷ z ∷ [] =
     ap (map string_bytes) c.in-Some.ensures.cases.0
     ∙ cons-same _ _ _ _ first
-    (ap (map string_bytes) c.in-Some-split_first.ensures.cases.0 ∙ cons-same z z _ _ refl (no_words string_bytes rest (eqb-true (length rest) 0 none))) in
+    (ap (map string_bytes) c.in-Some-split_first.ensures.cases.0 ∙ cons-same z z _ _ refl (empty_map string_bytes rest (eqb-true (length rest) 0 none))) in
     let e = c.in-Err.fault in
     let read : IsReadAs t z (Err e) = subst (λ v. IsReadAs t v (Err e)) c.as_bytes-text.ensures.value c.in-Err.ensures.read in
     subst (λ (v : Words). IsAlone (front m ++ v) (Err c.placed.result)) (sym words)

@@ -2,7 +2,7 @@ use Rattle.std.proofs.Common.{map, [], ◌∷◌}
 use Rattle.std.specs.Prelude.{string_bytes}
 use Rattle.sym_model.specs.Grammar.{rsk_entry}
 use Rattle.sym_model.specs.Command.{rsk}
-use Rattle.calc_language.proofs.ReadCommands.{refused}
+use Rattle.calc_language.proofs.Entries.{refused}
 use Rattle.calc_language.proofs.letters.rsk.Goals as goal
 
 pub returns-in-Err : goal.returns-in-Err

@@ -2,7 +2,7 @@ use Rattle.std.proofs.Common.{map, [], ◌∷◌}
 use Rattle.std.specs.Prelude.{string_bytes}
 use Rattle.sym_model.specs.Grammar.{schubmult_entry}
 use Rattle.calc_words.specs.PermutationWords.{permutations_of}
-use Rattle.calc_language.proofs.ReadCommands.{refused}
+use Rattle.calc_language.proofs.Entries.{refused}
 use Rattle.calc_language.proofs.permutations.schubmult.Goals as goal
 
 pub returns-in-Err : goal.returns-in-Err

@@ -1,27 +1,17 @@
 -- The words are those of the command that the first of them names.
-use Rattle.std.proofs.Common.{◌≡◌, false, [], ◌∷◌, map, sym, ap, ◌∙◌, subst}
+use Rattle.std.proofs.Common.{[], map, Err, ap, sym, subst, ◌∷◌, ◌≡◌}
 use Rattle.std.specs.Prelude.{string_bytes}
-use Rattle.sym_model.specs.GoodTableau.{is_among}
-use Rattle.calc_language.specs.BuiltCommands.{built_names, command_entries}
-use Rattle.calc_language.proofs.BuiltEntries.{no_word, no_name}
-use Rattle.calc_language.proofs.ReadCommands.{named_read, wrong_first, no_words}
+use Rattle.calc_language.specs.BuiltCommands.{command_entries}
+use Rattle.calc_language.specs.Reading.{IsReadAs, entry_named}
+use Rattle.calc_language.proofs.Entries.{read_named, no_words, commands_told, empty_map}
 use Rattle.calc_language.proofs.words.read.Goals as goal
 
 pub returns-in_default : goal.returns-in_default
 returns-in_default c =
-    wrong_first command_entries (map string_bytes c.args.words.now) [] c.syntax.result (no_words string_bytes c.args.words.now c.in_default.ensures.cases)
-    c.syntax.ensures no_word
-
-pub returns-in_default-named : goal.returns-in_default-named
-returns-in_default-named c =
-    let first = string_bytes c.in-Some.first.now in
-    let rest = map string_bytes c.in-Some.field-0-1.now in
-    let other : is_among first built_names ≡ false = subst (λ v. is_among v built_names ≡ false) c.as_str.ensures.value c.in_default-named.ensures in
-    wrong_first command_entries (map string_bytes c.args.words.now) (first ∷ rest) c.syntax-in_default-named.result
-    (ap (map string_bytes) c.in-Some.ensures.cases.0) c.syntax-in_default-named.ensures (no_name first rest other)
+    no_words (map string_bytes c.args.words.now) _ command_entries commands_told (empty_map string_bytes c.args.words.now c.in_default.ensures.cases) (ap Err c.syntax.ensures)
 
 pub returns : goal.returns
 returns c =
-    named_read c.in-Some-named.name (map string_bytes c.args.words.now) (string_bytes c.in-Some.first.now)
-    (map string_bytes c.in-Some.field-0-1.now) c.by_name.result (ap (map string_bytes) c.in-Some.ensures.cases.0)
-    (sym c.as_str.ensures.value ∙ c.in-Some-named.ensures) c.by_name.ensures
+    read_named (string_bytes c.in-Some.first.now) (map string_bytes c.args.words.now) (map string_bytes c.in-Some.field-0-1.now) c.by_name.result
+    (ap (map string_bytes) c.in-Some.ensures.cases.0)
+    (subst (λ v. IsReadAs (entry_named v command_entries) (map string_bytes c.args.words.now) c.by_name.result) c.as_str.ensures.value c.by_name.ensures)

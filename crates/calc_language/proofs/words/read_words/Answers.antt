@@ -3,7 +3,7 @@ use Rattle.std.specs.Prelude.{string_bytes}
 use Rattle.calc_words.proofs.ReadingFacts.{accepts, refuses, goes_wrong}
 use Rattle.calc_language.specs.BuiltCommands.{command_entries}
 use Rattle.calc_language.specs.Reading.{command_of}
-use Rattle.calc_language.proofs.ReadCommands.{within}
+use Rattle.calc_language.proofs.Entries.{within}
 use Rattle.calc_language.proofs.words.read_words.Goals as goal
 
 pub returns-clause-within : goal.returns-clause-within

@@ -1,0 +1,189 @@
+-- The commands by their names, and words that begin with none of them.
+use Rattle.std.proofs.Common.{◌≡◌, ℕ, ◌<◌, Bool, true, false, cond, List, [], ◌∷◌, ◌++◌, map, length, refl, sym, ap, ◌∙◌, subst, arith, inl, inr, ◌⊎◌, Option, Some, None, Result, Ok, Err}
+use Rattle.std.specs.Prelude.{IfOk, codes}
+use Rattle.sym_model.specs.Sum.{Among}
+use Rattle.sym_model.specs.Polynomial.{same}
+use Rattle.sym_model.specs.Form.{EachOf, can_be}
+use Rattle.sym_model.specs.Command.{Command as PlainCommand}
+use Rattle.sym_model.specs.Entry.{Entry, SpellsFreely, SpellsWithoutOffence}
+use Rattle.sym_model.specs.Grammar.{entries_of, all_bases, batch_entry, work_entry}
+use Rattle.sym_model.specs.SyntaxPlace.{IsSyntaxPlace}
+use Rattle.sym_model.proofs.Exponents.{same_true, same_from, same_apart}
+use Rattle.sym_model.proofs.Sums.{Among_from_append, Among-append_left}
+use Rattle.word_laws.specs.Reading.{forms_of}
+use Rattle.word_laws.proofs.LongestPrefixes.{CanBe}
+use Rattle.calc_base.specs.declared.words.WordsFault.{WordsFault}
+use Rattle.calc_base.specs.declared.words.WordsFault.TheVariants.{Syntax, Literal, Range, Shape, NoMemory}
+use Rattle.calc_language.specs.declared.words.Command.{Command}
+use Rattle.calc_words.specs.Reading.{IsRead as IsReadBy}
+use Rattle.calc_words.specs.WrittenLimits.{KeepsLimits}
+use Rattle.calc_words.proofs.Joining.{joined_read}
+use Rattle.calc_words.proofs.WrittenCommands.{Keeps, all_keep, some_keeps}
+use Rattle.calc_language.specs.BuiltCommands.{is_read, command_entries, batch_entries}
+use Rattle.calc_language.specs.Reading.{command_of, entry_named, IsReadAs, IsRead, IsWithinItsLimits}
+use Rattle.calc_language.proofs.NamedEntries.{IsLed, are_named_apart, each_among, some_select, one_named, led_named, unnamed, wordless, clash}
+
+abbrev Words : Type 0
+Words = List (List ℕ)
+
+-- ---- entries by their names
+
+some_same : (e f : Entry) → Some f ≡ Some e → f ≡ e
+some_same e f h = cc
+
+-- the entry that is found is one of them
+found : (w : List ℕ) (entries : List Entry) (e : Entry) → entry_named w entries ≡ Some e → Among e entries × (w ≡ e.name)
+found w [] e h = cc
+found w (f ∷ entries) e h = by (same w f.name) refl h (found w entries e)
+  where
+    by : (b : Bool) → same w f.name ≡ b → cond b (Some f) (entry_named w entries) ≡ Some e
+        → (entry_named w entries ≡ Some e → Among e entries × (w ≡ e.name)) → Among e (f ∷ entries) × (w ≡ e.name)
+    by true s k later = let q = some_same e f k in (inl (sym q), same_true w f.name s ∙ ap (λ (x : Entry). x.name) q)
+    by false s k later = let r = later k in (inr r.0, r.1)
+
+-- where none is found, none has the name
+none_found : (w : List ℕ) (entries : List Entry) → entry_named w entries ≡ None → (e : Entry) → Among e entries → w ≡ e.name → ⊥
+none_found w [] h e m n = absurd m
+none_found w (f ∷ entries) h e m n = by (same w f.name) refl h m (λ k a. none_found w entries k e a n)
+  where
+    by : (b : Bool) → same w f.name ≡ b → cond b (Some f) (entry_named w entries) ≡ None → Among e (f ∷ entries)
+        → (entry_named w entries ≡ None → Among e entries → ⊥) → ⊥
+    by true s k m later = cc
+    by false s k (inl q) later = clash (same w f.name) s (same_from w f.name (n ∙ ap (λ (x : Entry). x.name) q))
+    by false s k (inr m) later = later k m
+
+-- names that are not the word are not found
+pub none_named : (w : List ℕ) (entries : List Entry) → EachOf (λ (e : Entry). w ≡ e.name → ⊥) entries → entry_named w entries ≡ None
+none_named w [] h = refl
+none_named w (e ∷ entries) h = ap (λ b. cond b (Some e) (entry_named w entries)) (same_apart w e.name h.0) ∙ none_named w entries h.1
+
+-- ---- commands that are told apart by their names
+
+-- what is known of a list of commands
+pub record AreTold (entries : List Entry) : Type 0 where
+  pub led : EachOf IsLed entries
+  pub can : CanBe (forms_of entries)
+  pub some : 0 < length entries
+  pub apart : are_named_apart entries ≡ true
+
+wrong_first : (entries : List Entry) (words : Words) (r : Result Command WordsFault) → IsSyntaxPlace entries words 0 0
+    → r ≡ Err (Syntax (record { word = 0; byte = 0 })) → IsReadBy entries command_of words r
+wrong_first entries words r p h = subst (λ x. IsReadBy entries command_of words x) (sym h) p
+
+-- what is read by its name among all is read so among some that are there for this name
+pub named_among : (all entries : List Entry) → AreTold entries → (w : List ℕ) (words rest : Words) (r : Result Command WordsFault) → words ≡ w ∷ rest
+    → ((e : Entry) → Among e all → w ≡ e.name → Among e entries) → ((e : Entry) → Among e entries → Among e all)
+    → IsReadAs (entry_named w all) words r → IsReadBy entries command_of words r
+named_among all entries t w words rest r is here there h = by (entry_named w all) refl h
+  where
+    by : (o : Option Entry) → entry_named w all ≡ o → IsReadAs o words r → IsReadBy entries command_of words r
+    by None s k =
+        wrong_first entries words r
+        (subst (λ ws. IsSyntaxPlace entries ws 0 0) (sym is)
+        (unnamed entries t.led t.can t.some w rest (λ e m. same_apart e.name w (λ q. none_found w all s e (there e m) (sym q))))) k
+    by (Some e) s k =
+        let f = found w all e s in
+        let m = here e f.0 f.1 in
+        joined_read e entries
+        (record { among = m; alone = λ f n q. one_named entries t.apart e f m n q; named = λ f n. led_named f (each_among IsLed entries t.led f n) })
+        command_of words rest (is ∙ ap (λ v. v ∷ rest) f.1) r k
+
+-- ---- the commands of the command line and of a batch
+
+pub commands_told : AreTold command_entries
+commands_told = record {
+  led = (inl refl, (inl refl, (inl refl, (inl refl, (inl refl, (inl refl, (inl refl, (inl refl, (inl refl, (inl refl, (inl refl, (inl refl, (inl refl, (inr refl, (inl refl, tt)))))))))))))));
+  can = (refl, (refl, (refl, (refl, (refl, (refl, (refl, (refl, (refl, (refl, (refl, (refl, (refl, (refl, (refl, tt)))))))))))))));
+  some = omega arith;
+  apart = refl;
+}
+
+pub lines_told : AreTold batch_entries
+lines_told = record {
+  led = (inl refl, (inl refl, (inl refl, (inl refl, (inl refl, (inl refl, (inl refl, (inl refl, (inl refl, (inl refl, (inl refl, (inl refl, (inl refl, tt)))))))))))));
+  can = (refl, (refl, (refl, (refl, (refl, (refl, (refl, (refl, (refl, (refl, (refl, (refl, (refl, tt)))))))))))));
+  some = omega arith;
+  apart = refl;
+}
+
+pub read_named : (w : List ℕ) (words rest : Words) (r : Result Command WordsFault) → words ≡ w ∷ rest
+    → IsReadAs (entry_named w command_entries) words r → IsRead words r
+read_named w words rest r is h = named_among command_entries command_entries commands_told w words rest r is (λ e m n. m) (λ e m. m) h
+
+pub read_in_line : (w : List ℕ) (words rest : Words) (r : Result Command WordsFault) → words ≡ w ∷ rest
+    → (w ≡ codes "batch" → ⊥) → (w ≡ codes "work" → ⊥)
+    → IsReadAs (entry_named w command_entries) words r → IsReadBy batch_entries command_of words r
+read_in_line w words rest r is b k h = named_among command_entries batch_entries lines_told w words rest r is here there h
+  where
+    there : (e : Entry) → Among e batch_entries → Among e command_entries
+    there e m = Among-append_left e batch_entries (batch_entry ∷ work_entry ∷ []) m
+
+    here : (e : Entry) → Among e command_entries → w ≡ e.name → Among e batch_entries
+    here e m n = by (Among_from_append e batch_entries (batch_entry ∷ work_entry ∷ []) m)
+      where
+        by : Among e batch_entries ⊎ Among e (batch_entry ∷ work_entry ∷ []) → Among e batch_entries
+        by (inl a) = a
+        by (inr (inl q)) = absurd (b (n ∙ ap (λ (x : Entry). x.name) q))
+        by (inr (inr (inl q))) = absurd (k (n ∙ ap (λ (x : Entry). x.name) q))
+        by (inr (inr (inr q))) = absurd q
+
+-- a refusal says nothing of what would have been answered
+pub refused : {A : Type 0} (entries : List Entry) (says : A → PlainCommand) (words : Words) (fault : WordsFault)
+    → IsReadBy entries says words (Err fault) → IsReadBy entries command_of words (Err fault)
+refused entries says words (Syntax at) h = h
+refused entries says words (Literal at) h = h
+refused entries says words (Range at) h = h
+refused entries says words (Shape at) h = h
+refused entries says words NoMemory h = h
+
+-- no word, or a name that stands in no line
+pub no_words : (words : Words) (r : Result Command WordsFault) (entries : List Entry) → AreTold entries → words ≡ [] → r ≡ Err (Syntax (record { word = 0; byte = 0 }))
+    → IsReadBy entries command_of words r
+no_words words r entries t is h =
+    wrong_first entries words r (subst (λ ws. IsSyntaxPlace entries ws 0 0) (sym is) (wordless entries t.led t.can t.some)) h
+
+-- words without an offence keep the limits
+pub kept_by_all : (words : Words) (c : PlainCommand) → SpellsWithoutOffence command_entries words c → KeepsLimits c
+kept_by_all words c h =
+    some_keeps (entries_of all_bases) (all_keep all_bases) words c (some_select (λ (e : Entry). SpellsFreely e words c) is_read (entries_of all_bases) h)
+
+pub within : (words : Words) (result : Result Command WordsFault) → IsRead words result → IfOk result IsWithinItsLimits
+within words (Ok command) h = kept_by_all words (command_of command) h
+within words (Err fault) h = tt
+
+pub empty_map : {A : Type 0} (f : A → List ℕ) (xs : List A) → length xs ≡ 0 → map f xs ≡ []
+empty_map f [] h = refl
+empty_map f (x ∷ xs) h = absurd (omega (arith, h))
+
+-- words whose first word is the name of a command that stands in no line
+pub elsewhere : (w : List ℕ) (words rest : Words) (r : Result Command WordsFault) → words ≡ w ∷ rest
+    → EachOf (λ (e : Entry). w ≡ e.name → ⊥) batch_entries → r ≡ Err (Syntax (record { word = 0; byte = 0 })) → IsReadBy batch_entries command_of words r
+elsewhere w words rest r is apart h =
+    wrong_first batch_entries words r
+    (subst (λ ws. IsSyntaxPlace batch_entries ws 0 0) (sym is)
+    (unnamed batch_entries lines_told.led lines_told.can lines_told.some w rest
+    (λ e m. same_apart e.name w (λ q. none_found w batch_entries (none_named w batch_entries apart) e m (sym q))))) h
+
+not_it : (w a b : List ℕ) → w ≡ a → same a b ≡ false → w ≡ b → ⊥
+not_it w a b h s q = clash (same a b) s (same_from a b (sym h ∙ q))
+
+of_no_line : (w a : List ℕ) → w ≡ a → EachOf (λ (e : Entry). same a e.name ≡ false) batch_entries → EachOf (λ (e : Entry). w ≡ e.name → ⊥) batch_entries
+of_no_line w a h k = all batch_entries k
+  where
+    all : (entries : List Entry) → EachOf (λ (e : Entry). same a e.name ≡ false) entries → EachOf (λ (e : Entry). w ≡ e.name → ⊥) entries
+    all [] k = tt
+    all (e ∷ entries) k = (not_it w a e.name h k.0, all entries k.1)
+
+none_same : (a : List ℕ) (entries : List Entry) → entry_named a entries ≡ None → EachOf (λ (e : Entry). same a e.name ≡ false) entries
+none_same a [] h = tt
+none_same a (e ∷ entries) h = by (same a e.name) refl h (none_same a entries)
+  where
+    by : (b : Bool) → same a e.name ≡ b → cond b (Some e) (entry_named a entries) ≡ None
+        → (entry_named a entries ≡ None → EachOf (λ (x : Entry). same a x.name ≡ false) entries) → EachOf (λ (x : Entry). same a x.name ≡ false) (e ∷ entries)
+    by true s k later = cc
+    by false s k later = (s, later k)
+
+-- `batch` and `work` stand in no line
+pub runs_others : (w : List ℕ) → (w ≡ codes "batch") ⊎ (w ≡ codes "work") → EachOf (λ (e : Entry). w ≡ e.name → ⊥) batch_entries
+runs_others w (inl h) = of_no_line w (codes "batch") h (none_same (codes "batch") batch_entries refl)
+runs_others w (inr h) = of_no_line w (codes "work") h (none_same (codes "work") batch_entries refl)
