@@ -1,4 +1,5 @@
-//! Rows of growth grids.
+//! Rows of growth grids, and of the tableaux that their edges give.
+use crate::made::rows;
 use anyhow::Result;
 use growth_diagrams::{Grid, grow};
 use perm_codes::Perm;
@@ -12,11 +13,19 @@ pub fn print(rt: &(impl Print + Alloc<A = Global>)) -> Result<()> {
     grown(rt, &[2, 3, 1])
 }
 
-/// Prints the grid of a permutation.
+/// Prints the grid of a permutation, and both tableaux.
 fn grown(rt: &(impl Print + Alloc<A = Global>), letters: &[u16]) -> Result<()> {
     let w = Perm::from_letters(rt.alloc(), letters)?;
     let grid = grow(rt.alloc(), &w)?;
-    lines(rt, &grid)
+    lines(rt, &grid)?;
+    pair(rt, &grid)
+}
+
+/// Prints the rows of both tableaux of a grid.
+fn pair(rt: &impl Print, grid: &Grid) -> Result<()> {
+    let (p, q) = grid.pair_of()?;
+    rows(rt, "growth P", p.tableau())?;
+    rows(rt, "growth Q", q.tableau())
 }
 
 fn lines(rt: &impl Print, grid: &Grid) -> Result<()> {

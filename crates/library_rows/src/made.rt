@@ -53,7 +53,7 @@ fn by_rows(rt: &(impl Print + Alloc<A = Global>), tableau: &Tableau) -> Result<(
 }
 
 /// Prints the rows of a tableau, a line each.
-fn rows(rt: &impl Print, what: &str, tableau: &Tableau) -> Result<()> {
+pub fn rows(rt: &impl Print, what: &str, tableau: &Tableau) -> Result<()> {
     for row in 1..tableau.shape().outer().rows() + 1 {
         line(rt, what, tableau.row(row))?;
     }
