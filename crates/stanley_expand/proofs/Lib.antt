@@ -1,0 +1,5 @@
+pub mod Steps
+pub mod Weights
+pub mod ShapeLimits
+pub mod Popped
+pub mod Expansions

@@ -1,0 +1,29 @@
+use Rattle.std.proofs.Common.{◌≤◌, length, sym, subst, arith}
+use Rattle.schubert_laws.proofs.Members.{place_within, short_transition}
+use Rattle.stanley_expand.proofs.walk.expand.Goals as goal
+
+pub times_swap-requires-clause-first : goal.times_swap-requires-clause-first
+times_swap-requires-clause-first c = (place_within c.args.perm.now c.args.r c.args.s c.requires.short.one_line c.requires.places).0
+
+pub times_swap-requires-clause-order : goal.times_swap-requires-clause-order
+times_swap-requires-clause-order c = (place_within c.args.perm.now c.args.r c.args.s c.requires.short.one_line c.requires.places).2
+
+pub times_swap-requires-clause-second : goal.times_swap-requires-clause-second
+times_swap-requires-clause-second c =
+    let p = (place_within c.args.perm.now c.args.r c.args.s c.requires.short.one_line c.requires.places).3 in
+    let few = c.requires.short.few in
+    omega arith
+
+pub covers_at-requires-clause-place : goal.covers_at-requires-clause-place
+covers_at-requires-clause-place c = (place_within c.args.perm.now c.args.r c.args.s c.requires.short.one_line c.requires.places).0
+
+pub covers_at-requires-clause-last : goal.covers_at-requires-clause-last
+covers_at-requires-clause-last c =
+    let p = (place_within c.args.perm.now c.args.r c.args.s c.requires.short.one_line c.requires.places).1 in
+    let few = c.requires.short.few in
+    omega arith
+
+pub covers_at-requires-clause-letters : goal.covers_at-requires-clause-letters
+covers_at-requires-clause-letters c =
+    let few = (short_transition 254 c.args.perm.now c.args.r c.args.s c.requires.short c.requires.places).few in
+    subst (λ v. length v ≤ 254) (sym c.in_ok-lower.ensures) few

@@ -1,0 +1,13 @@
+use Rattle.std.proofs.Common.{◌≡◌, ◌≤◌, ◌++◌}
+use Rattle.stanley_laws.specs.Grassmannian.{front_beta}
+use Rattle.stanley_expand.proofs.walk.front.Given as goal
+
+-- what is still to come
+abbrev pub invariant-loop-i : goal.invariant-loop-i
+invariant-loop-i l = record {
+  all : l.list.items ++ front_beta l.i l.perm ≡ front_beta l.rows l.perm;
+  small : l.i ≤ l.rows;
+}
+
+abbrev pub decreases-loop-i : goal.decreases-loop-i
+decreases-loop-i l = l.i
