@@ -10,14 +10,11 @@ use Rattle.sym_model.specs.Canonical.{is_label}
 use Rattle.sym_model.specs.LabelLimits.{is_pair_label, is_power_label, is_permutation_label}
 use Rattle.sym_model.specs.Kind.{pairs, powers, permutations}
 use Rattle.sym_model.specs.PrintedOrder.{printed_order, pair_order, power_order, permutation_order}
-use Rattle.sym_model.proofs.Orders.{is_label-tells, printed_order-equal, printed_order-total}
+use Rattle.sym_model.proofs.Orders.{is_label-tells, printed_order-equal}
 use Rattle.printing_laws.proofs.LabelOrders.{label_order-total, label_order-ties}
 
 pub same_partition : (a b : List ℕ) → pointwise nat_eq a b ≡ true → a ≡ b
 same_partition a b h = (bytes_eq-Decides a b).0 h
-
-pub printed_order_is_total : IsTotalOrder printed_order
-printed_order_is_total = printed_order-total
 
 pub partition_order_equal : (a b : List ℕ) → IsTrue (is_label a) → IsTrue (is_label b) → printed_order a b ≡ Equal → a ≡ b
 partition_order_equal a b h k e =

@@ -42,7 +42,8 @@ pub trait Label: Eq + Hash + Drop {
 }
 
 impl Label for Partition {
-    ghost use Rattle.sparse_polys.specs.Labels.{same_partition, partition_order_equal, printed_order_is_total};
+    ghost use Rattle.sym_model.proofs.Orders.{printed_order-total};
+    ghost use Rattle.sparse_polys.specs.Labels.{same_partition, partition_order_equal};
 
     ghost is_label = { is_label };
 
@@ -60,7 +61,7 @@ impl Label for Partition {
 
     ghost same_label = { same_partition };
 
-    ghost order_total = { printed_order_is_total };
+    ghost order_total = { printed_order-total };
 
     ghost order_equal = { partition_order_equal };
 }

@@ -8,7 +8,8 @@ use calc_base::NoMemory;
 use std::cmp::Ordering;
 
 impl Label for Monomial {
-    ghost use Rattle.sparse_polys.specs.Labels.{printed_order_is_total, same_partition};
+    ghost use Rattle.sym_model.proofs.Orders.{printed_order-total};
+    ghost use Rattle.sparse_polys.specs.Labels.{same_partition};
     ghost use Rattle.sparse_polys.specs.Ties.{monomial_order_equal};
 
     ghost is_label = { is_monomial_label };
@@ -27,7 +28,7 @@ impl Label for Monomial {
 
     ghost same_label = { same_partition };
 
-    ghost order_total = { printed_order_is_total };
+    ghost order_total = { printed_order-total };
 
     ghost order_equal = { monomial_order_equal };
 }
