@@ -18,7 +18,7 @@ use Rattle.calc_base.specs.Fault.{Rose, counted_up}
 use Rattle.calc_base.specs.Puts.{Puts}
 use Rattle.calc_base.specs.Sink.{Appends, AppendsPrefix}
 use Rattle.calc_language.specs.BuiltCommands.{batch_entries}
-use Rattle.calc_language.specs.declared.words.Command.{Command}
+use Rattle.calc_commands.specs.declared.command.Command.{Command}
 use Rattle.calc_language.specs.Lines.{IsLineRead}
 use Rattle.calc_language.specs.Reading.{IsFaultOf, command_of}
 use Rattle.sym_model.specs.BatchLine.{BatchLine, too_long, passed_over, spoken, batch_line, lines_of, line_of_words, words_of_line, without_return, most_bytes, too_long_offence}

@@ -10,11 +10,12 @@ use Rattle.sym_model.specs.Grammar.{entries_of, all_bases, batch_entry, work_ent
 use Rattle.sym_model.specs.SyntaxPlace.{IsSyntaxPlace}
 use Rattle.sym_model.proofs.Exponents.{same_true, same_from, same_apart}
 use Rattle.sym_model.proofs.Sums.{Among_from_append, Among-append_left}
+use Rattle.word_laws.specs.Words.{Words}
 use Rattle.word_laws.specs.Reading.{forms_of}
 use Rattle.word_laws.proofs.LongestPrefixes.{CanBe}
 use Rattle.calc_base.specs.declared.words.WordsFault.{WordsFault}
-use Rattle.calc_base.specs.declared.words.WordsFault.TheVariants.{Syntax, Literal, Range, Shape, NoMemory}
-use Rattle.calc_language.specs.declared.words.Command.{Command}
+use Rattle.calc_base.specs.declared.words.WordsFault.TheVariants.{Syntax}
+use Rattle.calc_commands.specs.declared.command.Command.{Command}
 use Rattle.calc_words.specs.Reading.{IsRead as IsReadBy}
 use Rattle.calc_words.specs.WrittenLimits.{KeepsLimits}
 use Rattle.calc_words.proofs.Joining.{joined_read}
@@ -22,9 +23,6 @@ use Rattle.calc_words.proofs.WrittenCommands.{Keeps, all_keep, some_keeps}
 use Rattle.calc_language.specs.BuiltCommands.{is_read, command_entries, batch_entries}
 use Rattle.calc_language.specs.Reading.{command_of, entry_named, IsReadAs, IsRead, IsWithinItsLimits}
 use Rattle.calc_language.proofs.NamedEntries.{IsLed, are_named_apart, each_among, some_select, one_named, led_named, unnamed, wordless, clash}
-
-abbrev Words : Type 0
-Words = List (List ℕ)
 
 -- ---- entries by their names
 
@@ -98,13 +96,23 @@ commands_told = record {
   apart = refl;
 }
 
+each_front : (P : Entry → Type 0) (xs ys : List Entry) → EachOf P (xs ++ ys) → EachOf P xs
+each_front P [] ys h = tt
+each_front P (x ∷ xs) ys h = (h.0, each_front P xs ys h.1)
+
+can_front : (xs ys : List Entry) → CanBe (forms_of (xs ++ ys)) → CanBe (forms_of xs)
+can_front [] ys h = tt
+can_front (x ∷ xs) ys h = (h.0, can_front xs ys h.1)
+
 pub lines_told : AreTold batch_entries
-lines_told = record {
-  led = (inl refl, (inl refl, (inl refl, (inl refl, (inl refl, (inl refl, (inl refl, (inl refl, (inl refl, (inl refl, (inl refl, (inl refl, (inl refl, tt)))))))))))));
-  can = (refl, (refl, (refl, (refl, (refl, (refl, (refl, (refl, (refl, (refl, (refl, (refl, (refl, tt)))))))))))));
-  some = omega arith;
-  apart = refl;
-}
+lines_told =
+    let more : List Entry = batch_entry ∷ work_entry ∷ [] in
+    record {
+      led = each_front IsLed batch_entries more commands_told.led;
+      can = can_front batch_entries more commands_told.can;
+      some = omega arith;
+      apart = refl;
+    }
 
 pub read_named : (w : List ℕ) (words rest : Words) (r : Result Command WordsFault) → words ≡ w ∷ rest
     → IsReadAs (entry_named w command_entries) words r → IsRead words r
@@ -126,15 +134,6 @@ read_in_line w words rest r is b k h = named_among command_entries batch_entries
         by (inr (inl q)) = absurd (b (n ∙ ap (λ (x : Entry). x.name) q))
         by (inr (inr (inl q))) = absurd (k (n ∙ ap (λ (x : Entry). x.name) q))
         by (inr (inr (inr q))) = absurd q
-
--- a refusal says nothing of what would have been answered
-pub refused : {A : Type 0} (entries : List Entry) (says : A → PlainCommand) (words : Words) (fault : WordsFault)
-    → IsReadBy entries says words (Err fault) → IsReadBy entries command_of words (Err fault)
-refused entries says words (Syntax at) h = h
-refused entries says words (Literal at) h = h
-refused entries says words (Range at) h = h
-refused entries says words (Shape at) h = h
-refused entries says words NoMemory h = h
 
 -- no word, or a name that stands in no line
 pub no_words : (words : Words) (r : Result Command WordsFault) (entries : List Entry) → AreTold entries → words ≡ [] → r ≡ Err (Syntax (record { word = 0; byte = 0 }))

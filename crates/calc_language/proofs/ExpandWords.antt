@@ -16,6 +16,8 @@ use Rattle.sym_model.specs.Entry.{Entry, HasFirstOffence}
 use Rattle.sym_model.specs.Grammar.{all_bases, expand_entry}
 use Rattle.calc_language.specs.BuiltCommands.{IsTarget}
 use Rattle.sym_model.specs.SyntaxPlace.{IsSyntaxPlace}
+use Rattle.calc_words.proofs.Standing.{not_same}
+use Rattle.word_laws.specs.Words.{Words}
 use Rattle.word_laws.specs.Reading.{is_expression, forms_of}
 use Rattle.word_laws.proofs.LongestPrefixes.{CanBe}
 use Rattle.word_laws.proofs.ExpressionWords.{tells_expressions}
@@ -27,16 +29,13 @@ use Rattle.calc_expressions.specs.declared.formula.Formula.{Formula}
 use Rattle.calc_expressions.specs.declared.reading.ExpressionFault.{ExpressionFault}
 use Rattle.calc_expressions.specs.declared.reading.ExpressionFault.TheVariants.{Syntax as Wrong, Literal as Wide, Range as Past, Shape as Misshapen, NoMemory as Full}
 use Rattle.calc_expressions.specs.Reading.{IsRead as IsReadAs, IsExpression, IsWrongByte}
-use Rattle.calc_language.specs.declared.words.Command.TheVariants.{Expand}
+use Rattle.calc_commands.specs.declared.command.Command.TheVariants.{Expand}
 use Rattle.calc_words.specs.NumberRuns.{BeginsOtherwise}
 use Rattle.calc_words.specs.Reading.{IsRead as IsReadBy}
 use Rattle.calc_expressions.specs.Trees.{basis_of}
-use Rattle.calc_language.specs.declared.words.Command.{Command}
+use Rattle.calc_commands.specs.declared.command.Command.{Command}
 use Rattle.calc_language.specs.ExpandFront.{form_written, front, IsBehindForm}
 use Rattle.calc_language.specs.Reading.{placed, command_of}
-
-abbrev Words : Type 0
-Words = List (List ℕ)
 
 -- the command, and the command alone
 abbrev pub the_entry : Entry
@@ -138,13 +137,6 @@ with_expression true t z = refl
 expression_word : (m : Bool) → 2 + length (words_of (optional form_words) (form_written m)) ≡ length (front m) + 1
 expression_word false = refl
 expression_word true = refl
-
-not_same : (u v : List ℕ) → (v ≡ u → ⊥) → same u v ≡ false
-not_same u v n = by (same u v) refl
-  where
-    by : (b : Bool) → same u v ≡ b → b ≡ false
-    by true e = absurd (n (sym (same_true u v e)))
-    by false e = refl
 
 no_expression : (z : List ℕ) → ((e : Phrase) → SpellsPhrase z e → ⊥) → is_expression z ≡ false
 no_expression z n = by (is_expression z) refl

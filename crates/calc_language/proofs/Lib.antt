@@ -2,4 +2,3 @@ pub mod NamedEntries
 pub mod Entries
 pub mod ExpandWords
 pub mod LineCommands
-mod ReadTableaux

@@ -9,8 +9,8 @@ use Rattle.sym_model.specs.Entry.{Entry, SpellsFreely, SpellsWithoutOffence, Has
 use Rattle.sym_model.specs.Form.{SomeOf}
 use Rattle.sym_model.specs.Grammar.{batch_entry, work_entry}
 use Rattle.sym_model.specs.SyntaxPlace.{IsSyntaxPlace}
+use Rattle.word_laws.specs.Words.{Words}
 use Rattle.calc_base.specs.declared.words.WordsFault.{WordsFault}
-use Rattle.calc_base.specs.declared.words.WordsFault.TheVariants.{Syntax, Literal, Range, Shape, NoMemory}
 use Rattle.calc_words.specs.LineBytes.{seen, seen_byte, is_passed_over}
 use Rattle.calc_words.specs.Reading.{IsRead, Refuses, GoesWrong}
 use Rattle.calc_words.proofs.ForeignBytes.{seen_read}
@@ -18,11 +18,8 @@ use Rattle.calc_words.proofs.ReadingFacts.{accepts, refuses, goes_wrong}
 use Rattle.calc_language.specs.BuiltCommands.{command_entries, batch_entries}
 use Rattle.calc_language.specs.Lines.{IsLineRead, KeepsItsLimits, AcceptsInLine}
 use Rattle.calc_language.specs.Reading.{command_of}
-use Rattle.calc_language.specs.declared.words.Command.{Command}
+use Rattle.calc_commands.specs.declared.command.Command.{Command}
 use Rattle.calc_language.proofs.Entries.{kept_by_all}
-
-abbrev Words : Type 0
-Words = List (List ℕ)
 
 -- ---- which line it is
 
@@ -62,24 +59,7 @@ passed_line line kept n k h =
     let words = words_of_line (without_return line) in
     line_is line passed_over n (no_words words (sym (ap is_passed_over k) ∙ h))
 
-pub long_line : (line : List ℕ) → nat_lt most_bytes (length line) ≡ true → batch_line line ≡ too_long
-long_line line n = ap (λ t. cond t too_long (line_of_words (words_of_line (without_return line)))) n
-
 -- ---- what is read of it
-
-line_err : (words : Words) (fault : WordsFault) → IsRead {A = Command} batch_entries command_of words (Err fault) → IsLineRead (spoken words) (Err fault)
-line_err words (Syntax at) h = h
-line_err words (Literal at) h = h
-line_err words (Range at) h = h
-line_err words (Shape at) h = h
-line_err words NoMemory h = tt
-
-err_line : (words : Words) (fault : WordsFault) → IsLineRead (spoken words) (Err fault) → IsRead {A = Command} batch_entries command_of words (Err fault)
-err_line words (Syntax at) h = h
-err_line words (Literal at) h = h
-err_line words (Range at) h = h
-err_line words (Shape at) h = h
-err_line words NoMemory h = tt
 
 abbrev whole : Result Command WordsFault → Result (Option Command) WordsFault
 whole (Ok command) = Ok (Some command)
@@ -87,7 +67,7 @@ whole (Err fault) = Err fault
 
 words_line : (words : Words) (r : Result Command WordsFault) → IsRead batch_entries command_of words r → IsLineRead (spoken words) (whole r)
 words_line words (Ok command) h = h
-words_line words (Err fault) h = line_err words fault h
+words_line words (Err fault) h = h
 
 pub line_read : (line : List ℕ) (kept : Words) (r : Result Command WordsFault) → nat_lt most_bytes (length line) ≡ false
     → kept ≡ map seen (words_of_line (without_return line)) → is_passed_over kept ≡ false → IsRead batch_entries command_of kept r
@@ -122,19 +102,19 @@ spoken_accepts : (words : Words) (r : Result (Option Command) WordsFault) → Is
     → SpellsWithoutOffence batch_entries words c → AcceptsInLine c r
 spoken_accepts words (Ok None) h c s = absurd h
 spoken_accepts words (Ok (Some command)) h c s = accepts batch_entries refl command_of words (Ok command) h c s
-spoken_accepts words (Err fault) h c s = accepts {A = Command} batch_entries refl command_of words (Err fault) (err_line words fault h) c s
+spoken_accepts words (Err fault) h c s = accepts {A = Command} batch_entries refl command_of words (Err fault) h c s
 
 spoken_refuses : (words : Words) (r : Result (Option Command) WordsFault) → IsLineRead (spoken words) r → (o : Offence)
     → HasFirstOffence batch_entries words (Some o) → Refuses o r
 spoken_refuses words (Ok None) h o s = absurd h
 spoken_refuses words (Ok (Some command)) h o s = refuses batch_entries refl command_of words (Ok command) h o s
-spoken_refuses words (Err fault) h o s = refuses {A = Command} batch_entries refl command_of words (Err fault) (err_line words fault h) o s
+spoken_refuses words (Err fault) h o s = refuses {A = Command} batch_entries refl command_of words (Err fault) h o s
 
 spoken_wrong : (words : Words) (r : Result (Option Command) WordsFault) → IsLineRead (spoken words) r → (w b : ℕ)
     → IsSyntaxPlace batch_entries words w b → GoesWrong w b r
 spoken_wrong words (Ok None) h w b s = absurd h
 spoken_wrong words (Ok (Some command)) h w b s = goes_wrong batch_entries refl command_of words (Ok command) h w b s
-spoken_wrong words (Err fault) h w b s = goes_wrong {A = Command} batch_entries refl command_of words (Err fault) (err_line words fault h) w b s
+spoken_wrong words (Err fault) h w b s = goes_wrong {A = Command} batch_entries refl command_of words (Err fault) h w b s
 
 pub line_accepts : (line : BatchLine) (r : Result (Option Command) WordsFault) → IsLineRead line r → (words : Words) (c : PlainCommand) → line ≡ spoken words
     → SpellsWithoutOffence batch_entries words c → AcceptsInLine c r

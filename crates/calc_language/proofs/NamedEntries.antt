@@ -9,14 +9,12 @@ use Rattle.sym_model.specs.Form.{Form, empty, sequence, SomeOf, EachOf, Has, Awa
 use Rattle.sym_model.specs.Entry.{Entry}
 use Rattle.sym_model.specs.SyntaxPlace.{IsSyntaxPlace}
 use Rattle.sym_model.specs.WordForms.{the}
+use Rattle.word_laws.specs.Words.{Words}
 use Rattle.word_laws.specs.Reading.{is_expression, forms_of}
 use Rattle.word_laws.proofs.LongestPrefixes.{CanBe}
 use Rattle.word_laws.proofs.Stands.{wrong_word, ends_early}
 use Rattle.calc_words.specs.Joined.{Named, Joined}
 use Rattle.calc_words.proofs.Joining.{first_spells, first_awaits}
-
-abbrev Words : Type 0
-Words = List (List ℕ)
 
 -- what stands behind the first of two forms
 abbrev pub behind : Form → Form

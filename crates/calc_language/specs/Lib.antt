@@ -1,5 +1,4 @@
 pub mod Reading
 pub mod BuiltCommands
 pub mod Lines
-pub mod Pairs
 pub mod ExpandFront

@@ -5,23 +5,24 @@ use Rattle.sym_model.specs.Command.{Command as PlainCommand}
 use Rattle.sym_model.specs.Entry.{SpellsWithoutOffence}
 use Rattle.calc_base.specs.declared.words.WordsFault.{WordsFault}
 use Rattle.calc_base.specs.declared.words.WordsFault.TheVariants.{NoMemory}
-use Rattle.calc_words.specs.Reading.{IsRead, IsFaultOf}
+use Rattle.calc_words.specs.Reading.{IsRefusal, IsFaultOf}
 use Rattle.calc_language.specs.BuiltCommands.{batch_entries}
-use Rattle.calc_language.specs.declared.words.Command.{Command}
+use Rattle.calc_commands.specs.declared.command.Command.{Command}
 use Rattle.calc_language.specs.Reading.{command_of, IsWithinItsLimits}
 
 -- a line that is too long is refused by its offence, one that is passed over is no command, and the words of another are read
 -- among the commands of a line; want of memory says nothing
 abbrev pub IsLineRead : BatchLine → Result (Option Command) WordsFault → Type 0
-IsLineRead line (Err NoMemory) = Unit {0}
 IsLineRead too_long (Ok answer) = ⊥
+IsLineRead too_long (Err NoMemory) = Unit {0}
 IsLineRead too_long (Err fault) = IsFaultOf too_long_offence fault
 IsLineRead passed_over (Ok None) = Unit {0}
 IsLineRead passed_over (Ok (Some command)) = ⊥
+IsLineRead passed_over (Err NoMemory) = Unit {0}
 IsLineRead passed_over (Err fault) = ⊥
 IsLineRead (spoken words) (Ok None) = ⊥
 IsLineRead (spoken words) (Ok (Some command)) = SpellsWithoutOffence batch_entries words (command_of command)
-IsLineRead (spoken words) (Err fault) = IsRead {A = Command} batch_entries command_of words (Err fault)
+IsLineRead (spoken words) (Err fault) = IsRefusal batch_entries words fault
 
 -- what a command of a line names is within the limits of words
 abbrev pub KeepsItsLimits : Option Command → Type 0

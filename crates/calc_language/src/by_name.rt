@@ -4,37 +4,36 @@ ghost use Rattle.calc_language.specs.BuiltCommands.{command_entries};
 ghost use Rattle.calc_language.specs.Reading.{IsReadAs, entry_named};
 
 use crate::Command;
-use crate::batches::{batch, work};
 use crate::expand::read_expand;
-use crate::letters::rsk;
-use crate::pairs::unrsk;
-use crate::permutations::{schubert, schubmult};
-use crate::rectifying::rect;
 use crate::refusal::syntax;
-use crate::shapes::{coef, coprod, fusion, mult, quantum, skew, tab};
 use calc_base::WordsFault;
+use calc_words::{
+    read_batch, read_coef, read_coprod, read_fusion, read_mult, read_quantum, read_rsk,
+    read_schubert, read_schubmult, read_skew, read_work,
+};
 use std::alloc::Global;
+use tableau_words::{read_rect, read_tab, read_unrsk};
 
 /// The words as those of the command of this name alone; where there is none, they go wrong at the first word.
 pub(crate) fn by_name(alloc: Global, name: &str, words: &[String]) -> Result<Command, WordsFault>
     ensures { IsReadAs (entry_named name.now command_entries) (map string_bytes words.now) result }
 {
     match name {
-        "mult" => mult(alloc, words),
-        "skew" => skew(alloc, words),
-        "coef" => coef(alloc, words),
-        "coprod" => coprod(alloc, words),
-        "tab" => tab(alloc, words),
-        "quantum" => quantum(alloc, words),
-        "fusion" => fusion(alloc, words),
-        "schubert" => schubert(alloc, words),
-        "schubmult" => schubmult(alloc, words),
+        "mult" => read_mult(alloc, words),
+        "skew" => read_skew(alloc, words),
+        "coef" => read_coef(alloc, words),
+        "coprod" => read_coprod(alloc, words),
+        "tab" => read_tab(alloc, words),
+        "quantum" => read_quantum(alloc, words),
+        "fusion" => read_fusion(alloc, words),
+        "schubert" => read_schubert(alloc, words),
+        "schubmult" => read_schubmult(alloc, words),
         "expand" => read_expand(alloc, words),
-        "rsk" => rsk(alloc, words),
-        "unrsk" => unrsk(alloc, words),
-        "rect" => rect(alloc, words),
-        "batch" => batch(words),
-        "work" => work(words),
+        "rsk" => read_rsk(alloc, words),
+        "unrsk" => read_unrsk(alloc, words),
+        "rect" => read_rect(alloc, words),
+        "batch" => read_batch(words),
+        "work" => read_work(words),
         _ => Err(syntax(0, 0)),
     }
 }

@@ -10,7 +10,7 @@ use Rattle.sym_model.specs.BatchLine.{BatchLine, too_long, passed_over, spoken}
 use Rattle.sym_model.specs.Entry.{Entry, SpellsWithoutOffence}
 use Rattle.sym_model.specs.Form.{Written, EachOf}
 use Rattle.calc_language.specs.BuiltCommands.{command_entries, batch_entries}
-use Rattle.calc_language.specs.declared.words.Command.{Command as Read}
+use Rattle.calc_commands.specs.declared.command.Command.{Command as Read}
 use Rattle.calc_language.specs.Lines.{IsLineRead}
 use Rattle.sym_model.specs.Outcome.{MayBeLarge}
 use Rattle.calc_language.specs.Reading.{IsFaultOf, command_of}

@@ -7,12 +7,13 @@ use Rattle.sym_model.proofs.Sums.{Among_from_append}
 use Rattle.sym_model.specs.PrintedBlock.{decimal_value}
 use Rattle.sym_model.specs.ExpressionOffence.{literal, range, shape, is_wide}
 use Rattle.sym_model.specs.Form.{word, number, Written, words_of, EachOf, May, Has, can_be}
-use Rattle.sym_model.specs.Command.{Command, coprod, coef, skew}
+use Rattle.sym_model.specs.Command.{Command, skew}
 use Rattle.sym_model.specs.CommandOffence.{Offence, Rule, first_offence, part_offences, part_rule, rows_rule, offences_by, when, is_outside, most_rows}
 use Rattle.sym_model.specs.Entry.{Entry}
 use Rattle.sym_model.specs.Grammar.{coprod_words, coprod_entry, coef_entry, skew_entry, two_partitions, option_words}
 use Rattle.sym_model.specs.SyntaxPlace.{IsSyntaxPlace}
 use Rattle.sym_model.specs.WordForms.{optional, rows_words, form_words, numbers, partition, row_limit, row_limit_offences}
+use Rattle.word_laws.specs.Words.{Words}
 use Rattle.word_laws.proofs.Classes.{number_sound}
 use Rattle.calc_base.specs.declared.words.WordsFault.{WordsFault}
 use Rattle.calc_base.specs.declared.words.WordsFault.TheVariants.{Syntax, Literal, Range, Shape, NoMemory}
@@ -20,19 +21,15 @@ use Rattle.calc_words.specs.NumberRuns.{IsNumber, AreTwoLists, narrow}
 use Rattle.calc_words.specs.declared.offence.Kind.TheVariants.{Literal as Wide, Range as Past}
 use Rattle.calc_words.specs.Faults.{fault_of}
 use Rattle.calc_words.specs.Rows.{AreOptions, IsLimitWord}
-use Rattle.calc_words.specs.ReadShapes.{AreShapes, AreSkewShapes, skew_of, AreThree, coefficient_of}
-use Rattle.calc_words.specs.declared.coef.ThreeShapes.{ThreeShapes}
+use Rattle.calc_commands.specs.Commands.{command_of}
+use Rattle.calc_commands.specs.declared.command.Command.{Command as Read}
+use Rattle.calc_commands.specs.declared.command.Command.TheVariants.{Skew, Coef, Coprod}
 use Rattle.calc_words.specs.declared.options.Options.{Options}
-use Rattle.calc_words.specs.declared.skew_command.SkewShapes.{SkewShapes}
-use Rattle.calc_words.specs.declared.two_shapes.TwoShapes.{TwoShapes}
 use Rattle.calc_words.proofs.FirstOffences.{of_kind, first-kind, first_of_three, lowest, within, AllBefore, first-append, none-append}
 use Rattle.calc_words.proofs.Judging.{narrow_none, narrow_some}
-use Rattle.calc_words.specs.Reading.{IsRead, IsJudged}
+use Rattle.calc_words.specs.Reading.{IsRead, IsRefusal, IsJudged, IsFirst}
 use Rattle.calc_words.specs.Standing.{WrongAt}
 use Rattle.calc_words.proofs.Standing.{wrong_place}
-
-abbrev Words : Type 0
-Words = List (List ℕ)
 
 -- number words as what is written of them
 pub may_be : (ns : Words) → EachOf IsNumber ns → EachOf (May (word number)) ns
@@ -55,11 +52,11 @@ read_judged e words has says P f (Err (Shape at)) h = inl (record { has = has; f
 read_judged e words has says P f (Err NoMemory) h = tt
 
 -- words that go wrong
-pub syntax_read : {A : Type 0} (e : Entry) (says : A → Command) (words : Words) (left place : ℕ) (fault : WordsFault) → can_be e.form ≡ true
+pub syntax_read : (e : Entry) (words : Words) (left place : ℕ) (fault : WordsFault) → can_be e.form ≡ true
     → WrongAt e.form words left → place ≡ length words - left → fault ≡ Syntax (record { word = place; byte = 0 })
-    → IsRead (e ∷ []) says words (Err fault)
-syntax_read e says words left place fault c w k f =
-    subst (λ y. IsRead (e ∷ []) says words (Err y)) (sym f)
+    → IsRefusal (e ∷ []) words fault
+syntax_read e words left place fault c w k f =
+    subst (λ y. IsRefusal (e ∷ []) words y) (sym f)
     (subst (λ n. IsSyntaxPlace (e ∷ []) words n 0) (sym k) (wrong_place e words left c w))
 
 -- the words of `coprod`
@@ -70,32 +67,33 @@ coprod_has ns e = record {
   spelled = ap (λ ws. codes "coprod" ∷ ws) (sym (singles ns));
 }
 
-pub coprod_read : (words ns : Words) (r : Result (List ℕ) WordsFault) → words ≡ codes "coprod" ∷ ns → EachOf IsNumber ns
-    → IsJudged (λ p. p ≡ partition ns) (first_offence (part_offences 1 (numbers ns))) r → IsRead (coprod_entry ∷ []) coprod words r
+pub coprod_read : (words ns : Words) (r : Result Read WordsFault) → words ≡ codes "coprod" ∷ ns → EachOf IsNumber ns
+    → IsJudged (λ c. c ≡ Coprod (partition ns)) (first_offence (part_offences 1 (numbers ns))) r → IsRead (coprod_entry ∷ []) command_of words r
 coprod_read words ns r e n h =
-    subst (λ ws. IsRead (coprod_entry ∷ []) coprod ws r) (sym e)
-    (read_judged coprod_entry (codes "coprod" ∷ ns) (coprod_has ns n) coprod (λ p. p ≡ partition ns) (λ p k. ap coprod k) r h)
+    subst (λ ws. IsRead (coprod_entry ∷ []) command_of ws r) (sym e)
+    (read_judged coprod_entry (codes "coprod" ∷ ns) (coprod_has ns n) command_of (λ c. c ≡ Coprod (partition ns)) (λ c k. ap command_of k) r h)
+
+-- what offends first in one list does in another
+pub judged_on : (first later : Option Offence) (fault : WordsFault) → ((o : Offence) → first ≡ Some o → later ≡ Some o)
+    → IsFirst first fault → IsFirst later fault
+judged_on first later (Syntax at) f h = h
+judged_on first later (Literal at) f h = f (at.word, at.byte, literal) h
+judged_on first later (Range at) f h = f (at.word, at.byte, range) h
+judged_on first later (Shape at) f h = f (at.word, at.byte, shape) h
+judged_on first later NoMemory f h = h
 
 -- two lists, one behind the other
-pub judged_err : {A B : Type 0} (P : A → Type 0) (Q : B → Type 0) (xs ys : List Offence) (fault : WordsFault) → AllBefore xs ys
-    → IsJudged P (first_offence xs) (Err fault) → IsJudged Q (first_offence (xs ++ ys)) (Err fault)
-judged_err P Q xs ys (Syntax at) b h = h
-judged_err P Q xs ys (Literal at) b h = first-append xs ys (at.word, at.byte, literal) h b
-judged_err P Q xs ys (Range at) b h = first-append xs ys (at.word, at.byte, range) h b
-judged_err P Q xs ys (Shape at) b h = first-append xs ys (at.word, at.byte, shape) h b
-judged_err P Q xs ys NoMemory b h = tt
+pub judged_err : (xs ys : List Offence) (fault : WordsFault) → AllBefore xs ys
+    → IsFirst (first_offence xs) fault → IsFirst (first_offence (xs ++ ys)) fault
+judged_err xs ys fault b h = judged_on (first_offence xs) (first_offence (xs ++ ys)) fault (λ o e. first-append xs ys o e b) h
+
+pub judged_later : (xs ys : List Offence) (fault : WordsFault) → first_offence xs ≡ None → IsFirst (first_offence ys) fault
+    → IsFirst (first_offence (xs ++ ys)) fault
+judged_later xs ys fault n h = subst (λ o. IsFirst o fault) (sym (none-append xs ys n)) h
 
 pub judged_next : {A : Type 0} (P : A → Type 0) (xs ys : List Offence) (r : Result A WordsFault) → first_offence xs ≡ None
     → IsJudged P (first_offence ys) r → IsJudged P (first_offence (xs ++ ys)) r
 judged_next P xs ys r n h = subst (λ o. IsJudged P o r) (sym (none-append xs ys n)) h
-
-pub judged_other : {A B : Type 0} (P : A → Type 0) (Q : B → Type 0) (first : Option Offence) (fault : WordsFault)
-    → IsJudged P first (Err fault) → IsJudged Q first (Err fault)
-judged_other P Q first (Syntax at) h = h
-judged_other P Q first (Literal at) h = h
-judged_other P Q first (Range at) h = h
-judged_other P Q first (Shape at) h = h
-judged_other P Q first NoMemory h = h
 
 parts_before : (k : ℕ) (left right : Words) → AllBefore (part_offences k (numbers left)) (part_offences (k + length left + 1) (numbers right))
 parts_before k left right p q m n =
@@ -105,11 +103,11 @@ parts_before k left right p q m n =
     omega (arith, a.1, b.0, l)
 
 -- the first of two partitions offends
-pub first_faulty : {A B : Type 0} (P : A → Type 0) (Q : B → Type 0) (k : ℕ) (left right : Words) (fault : WordsFault)
-    → IsJudged P (first_offence (part_offences k (numbers left))) (Err fault)
-    → IsJudged Q (first_offence (two_partitions k left right)) (Err fault)
-first_faulty P Q k left right fault h =
-    judged_err P Q (part_offences k (numbers left)) (part_offences (k + length left + 1) (numbers right)) fault (parts_before k left right) h
+pub first_faulty : (k : ℕ) (left right : Words) (fault : WordsFault)
+    → IsFirst (first_offence (part_offences k (numbers left))) fault
+    → IsFirst (first_offence (two_partitions k left right)) fault
+first_faulty k left right fault h =
+    judged_err (part_offences k (numbers left)) (part_offences (k + length left + 1) (numbers right)) fault (parts_before k left right) h
 
 pub two_within : (k : ℕ) (left right : Words) (p : Offence) → Among p (two_partitions k left right) → k ≤ p.0
 two_within k left right p m = by (Among_from_append p (part_offences k (numbers left)) (part_offences (k + length left + 1) (numbers right)) m)
@@ -119,43 +117,12 @@ two_within k left right p m = by (Among_from_append p (part_offences k (numbers 
     by (inr a) = let b = within part_rule [] (k + length left + 1) (numbers right) p a in omega (arith, b.0)
 
 -- a number that stands before other lists offends
-pub number_faulty : {A B : Type 0} (P : A → Type 0) (Q : B → Type 0) (rule : Rule) (k a : ℕ) (ys : List Offence) (fault : WordsFault)
-    → ((p : Offence) → Among p ys → k + 1 ≤ p.0) → IsJudged P (first_offence (offences_by rule k (a ∷ []))) (Err fault)
-    → IsJudged Q (first_offence (offences_by rule k (a ∷ []) ++ ys)) (Err fault)
-number_faulty P Q rule k a ys fault b h =
-    judged_err P Q (offences_by rule k (a ∷ [])) ys fault
+pub number_faulty : (rule : Rule) (k a : ℕ) (ys : List Offence) (fault : WordsFault)
+    → ((p : Offence) → Among p ys → k + 1 ≤ p.0) → IsFirst (first_offence (offences_by rule k (a ∷ []))) fault
+    → IsFirst (first_offence (offences_by rule k (a ∷ []) ++ ys)) fault
+number_faulty rule k a ys fault b h =
+    judged_err (offences_by rule k (a ∷ [])) ys fault
     (λ p q m n. let x = within rule [] k (a ∷ []) p m in let y = b q n in omega (arith, x.1, y)) h
-
--- a number of rows, columns or a level
-two_kinds : (k : ℕ) (x y : Bool) → first_offence (map (of_kind k) (when x literal ++ when y range) ++ []) ≡ first_of_three k x y false None
-two_kinds k true y = first-kind k literal (when y range) [] (λ q m. lowest q) (λ p m. absurd m)
-two_kinds k false true = refl
-two_kinds k false false = refl
-
-rows_first_is : (k a : ℕ) (x y : Bool) → is_wide a ≡ x → is_outside most_rows a ≡ y
-    → first_offence (offences_by rows_rule k (a ∷ [])) ≡ first_of_three k x y false None
-rows_first_is k a x y e f =
-    two_kinds k (is_wide a) (is_outside most_rows a)
-    ∙ ap (λ b. first_of_three k b (is_outside most_rows a) false None) e
-    ∙ ap (λ b. first_of_three k x b false None) f
-
-pub rows_wide : {A : Type 0} (P : A → Type 0) (k a : ℕ) (fault : WordsFault) → narrow a ≡ None → fault ≡ fault_of k Wide
-    → IsJudged P (first_offence (offences_by rows_rule k (a ∷ []))) (Err fault)
-rows_wide P k a fault n f =
-    subst (λ r. IsJudged P (first_offence (offences_by rows_rule k (a ∷ []))) (Err r)) (sym f)
-    (rows_first_is k a true (is_outside most_rows a) (narrow_none a n) refl)
-
-pub rows_outside : {A : Type 0} (P : A → Type 0) (k a v : ℕ) (fault : WordsFault) → Some v ≡ narrow a → is_outside most_rows v ≡ true → fault ≡ fault_of k Past
-    → IsJudged P (first_offence (offences_by rows_rule k (a ∷ []))) (Err fault)
-rows_outside P k a v fault n o f =
-    let s = narrow_some a v n in
-    subst (λ r. IsJudged P (first_offence (offences_by rows_rule k (a ∷ []))) (Err r)) (sym f)
-    (rows_first_is k a false true s.0 (ap (is_outside most_rows) (sym s.1) ∙ o))
-
-pub rows_fine : (k a v : ℕ) → Some v ≡ narrow a → is_outside most_rows v ≡ false
-    → (v ≡ a) × (first_offence (offences_by rows_rule k (a ∷ [])) ≡ None)
-rows_fine k a v n o =
-    let s = narrow_some a v n in (s.1, rows_first_is k a false false s.0 (ap (is_outside most_rows) (sym s.1) ∙ o))
 
 -- the words of two shapes
 lists_spelled : (sep : List ℕ) (left right : Words) → ◌≡◌ {A = Words} (left ++ sep ∷ right) (each (λ t. t ∷ []) left ++ (sep ∷ each (λ t. t ∷ []) right))
@@ -172,18 +139,10 @@ limit_before (inr x) ys b p q m n =
     omega (arith, a.1, y)
 
 -- a number of rows in front of other lists offends
-pub limit_faulty : {A B : Type 0} (P : A → Type 0) (Q : B → Type 0) (limit : Written (optional rows_words)) (ys : List Offence) (fault : WordsFault)
+pub limit_faulty : (limit : Written (optional rows_words)) (ys : List Offence) (fault : WordsFault)
     → ((p : Offence) → Among p ys → 1 + length (words_of (optional rows_words) limit) ≤ p.0)
-    → IsJudged P (first_offence (row_limit_offences 1 limit)) (Err fault) → IsJudged Q (first_offence (row_limit_offences 1 limit ++ ys)) (Err fault)
-limit_faulty P Q limit ys fault b h = judged_err P Q (row_limit_offences 1 limit) ys fault (limit_before limit ys b) h
-
-skew_same : (rows : Option ℕ) (one_line : Bool) (outer inner : List ℕ) (s : SkewShapes) → AreSkewShapes rows one_line outer inner s
-    → skew_of s ≡ skew rows one_line outer inner
-skew_same rows one_line outer inner s h =
-    ap (λ r. skew r s.one_line s.outer s.inner) h.0
-    ∙ ap (λ b. skew rows b s.outer s.inner) h.1
-    ∙ ap (λ l. skew rows one_line l s.inner) h.2
-    ∙ ap (skew rows one_line outer) h.3
+    → IsFirst (first_offence (row_limit_offences 1 limit)) fault → IsFirst (first_offence (row_limit_offences 1 limit ++ ys)) fault
+limit_faulty limit ys fault b h = judged_err (row_limit_offences 1 limit) ys fault (limit_before limit ys b) h
 
 -- where the shapes begin behind the options
 pub options_place : (name : List ℕ) (words optioned rest : Words) (limit : Written (optional rows_words)) (form : Written (optional form_words)) (at : ℕ)
@@ -196,11 +155,11 @@ options_place name words optioned rest limit form at e f k =
     let d = length-append (words_of (optional form_words) form) rest in
     omega (arith, a, b, c, d, k)
 
-pub skew_read : (words optioned rest outer inner : Words) (o : Options) (at : ℕ) (r : Result SkewShapes WordsFault)
+pub skew_read : (words optioned rest outer inner : Words) (o : Options) (at : ℕ) (r : Result Read WordsFault)
     → words ≡ codes "skew" ∷ optioned → AreOptions o optioned rest → AreTwoLists (codes "/") outer inner rest → at ≡ length words - length rest
     → ((limit : Written (optional rows_words)) → IsLimitWord o.rows limit → 1 + length (words_of (optional rows_words) limit) ≤ at
-    → IsJudged (AreSkewShapes (row_limit limit) o.one_line (partition outer) (partition inner)) (first_offence (row_limit_offences 1 limit ++ two_partitions at outer inner)) r)
-    → IsRead (skew_entry ∷ []) skew_of words r
+    → IsJudged (λ c. c ≡ Skew (row_limit limit) o.one_line (partition outer) (partition inner)) (first_offence (row_limit_offences 1 limit ++ two_partitions at outer inner)) r)
+    → IsRead (skew_entry ∷ []) command_of words r
 skew_read words optioned rest outer inner o at r e a l k h =
     let at_is = options_place (codes "skew") words optioned rest a.limit a.form at e a.words_are k in
     read_judged skew_entry words
@@ -214,19 +173,18 @@ skew_read words optioned rest outer inner o at r e a l k h =
           ∙ ap (λ ws. words_of (optional rows_words) a.limit ++ (words_of (optional form_words) a.form ++ ws))
           (l.words_are ∙ lists_spelled (codes "/") outer inner));
     })
-    skew_of (AreSkewShapes (row_limit a.limit) o.one_line (partition outer) (partition inner))
-    (λ s j. skew_same (row_limit a.limit) o.one_line (partition outer) (partition inner) s j ∙ ap (λ b. skew (row_limit a.limit) b (partition outer) (partition inner)) a.form_is)
+    command_of (λ c. c ≡ Skew (row_limit a.limit) o.one_line (partition outer) (partition inner))
+    (λ s j. ap command_of j ∙ ap (λ b. skew (row_limit a.limit) b (partition outer) (partition inner)) a.form_is)
     r
-    (subst (λ n. IsJudged (AreSkewShapes (row_limit a.limit) o.one_line (partition outer) (partition inner)) (first_offence (row_limit_offences 1 a.limit ++ two_partitions n outer inner)) r)
+    (subst (λ n. IsJudged (λ c. c ≡ Skew (row_limit a.limit) o.one_line (partition outer) (partition inner)) (first_offence (row_limit_offences 1 a.limit ++ two_partitions n outer inner)) r)
     at_is (h a.limit a.limit_is (omega (arith, at_is))))
 
 -- two partitions of which the first has no offence
-pub second_judged : {B : Type 0} (Q : B → Type 0) (k m : ℕ) (left right : Words) (r : Result B WordsFault) → m ≡ k + length left + 1
-    → first_offence (part_offences k (numbers left)) ≡ None → IsJudged Q (first_offence (part_offences m (numbers right))) r
-    → IsJudged Q (first_offence (two_partitions k left right)) r
-second_judged Q k m left right r e n h =
-    judged_next Q (part_offences k (numbers left)) (part_offences (k + length left + 1) (numbers right)) r n
-    (subst (λ j. IsJudged Q (first_offence (part_offences j (numbers right))) r) e h)
+pub second_faulty : (k m : ℕ) (left right : Words) (fault : WordsFault) → m ≡ k + length left + 1 → first_offence (part_offences k (numbers left)) ≡ None
+    → IsFirst (first_offence (part_offences m (numbers right))) fault → IsFirst (first_offence (two_partitions k left right)) fault
+second_faulty k m left right fault e n h =
+    judged_later (part_offences k (numbers left)) (part_offences (k + length left + 1) (numbers right)) fault n
+    (subst (λ j. IsFirst (first_offence (part_offences j (numbers right))) fault) e h)
 
 pub both_fine : (k m : ℕ) (left right : Words) → m ≡ k + length left + 1 → first_offence (part_offences k (numbers left)) ≡ None
     → first_offence (part_offences m (numbers right)) ≡ None → first_offence (two_partitions k left right) ≡ None
@@ -249,18 +207,18 @@ outer_before outer left right p q m n =
     let l = length-map outer decimal_value in
     omega (arith, a.1, b, l)
 
-pub outer_faulty : {A B : Type 0} (P : A → Type 0) (Q : B → Type 0) (outer left right : Words) (fault : WordsFault)
-    → IsJudged P (first_offence (part_offences 1 (numbers outer))) (Err fault)
-    → IsJudged Q (first_offence (three_offences (2 + length outer) outer left right)) (Err fault)
-outer_faulty P Q outer left right fault h =
-    judged_err P Q (part_offences 1 (numbers outer)) (two_partitions (2 + length outer) left right) fault (outer_before outer left right) h
+pub outer_faulty : (outer left right : Words) (fault : WordsFault)
+    → IsFirst (first_offence (part_offences 1 (numbers outer))) fault
+    → IsFirst (first_offence (three_offences (2 + length outer) outer left right)) fault
+outer_faulty outer left right fault h =
+    judged_err (part_offences 1 (numbers outer)) (two_partitions (2 + length outer) left right) fault (outer_before outer left right) h
 
-pub others_judged : {B : Type 0} (Q : B → Type 0) (m : ℕ) (outer left right : Words) (r : Result B WordsFault) → m ≡ 2 + length outer
-    → first_offence (part_offences 1 (numbers outer)) ≡ None → IsJudged Q (first_offence (two_partitions m left right)) r
-    → IsJudged Q (first_offence (three_offences (2 + length outer) outer left right)) r
-others_judged Q m outer left right r e n h =
-    subst (λ j. IsJudged Q (first_offence (three_offences j outer left right)) r) e
-    (judged_next Q (part_offences 1 (numbers outer)) (two_partitions m left right) r n h)
+pub others_faulty : (m : ℕ) (outer left right : Words) (fault : WordsFault) → m ≡ 2 + length outer
+    → first_offence (part_offences 1 (numbers outer)) ≡ None → IsFirst (first_offence (two_partitions m left right)) fault
+    → IsFirst (first_offence (three_offences (2 + length outer) outer left right)) fault
+others_faulty m outer left right fault e n h =
+    subst (λ j. IsFirst (first_offence (three_offences j outer left right)) fault) e
+    (judged_later (part_offences 1 (numbers outer)) (two_partitions m left right) fault n h)
 
 pub all_fine : (m : ℕ) (outer left right : Words) → m ≡ 2 + length outer → first_offence (part_offences 1 (numbers outer)) ≡ None
     → first_offence (two_partitions m left right) ≡ None → first_offence (three_offences (2 + length outer) outer left right) ≡ None
@@ -268,10 +226,10 @@ all_fine m outer left right e n h =
     ap (λ j. first_offence (three_offences j outer left right)) (sym e)
     ∙ (none-append (part_offences 1 (numbers outer)) (two_partitions m left right) n ∙ h)
 
-pub coef_read : (words outer left right : Words) (r : Result ThreeShapes WordsFault)
+pub coef_read : (words outer left right : Words) (r : Result Read WordsFault)
     → words ≡ codes "coef" ∷ (outer ++ codes "-" ∷ (left ++ codes "-" ∷ right)) → EachOf IsNumber outer → EachOf IsNumber left → EachOf IsNumber right
-    → IsJudged (AreThree (partition outer) (partition left) (partition right)) (first_offence (three_offences (2 + length outer) outer left right)) r
-    → IsRead (coef_entry ∷ []) coefficient_of words r
+    → IsJudged (λ c. c ≡ Coef (partition outer) (partition left) (partition right)) (first_offence (three_offences (2 + length outer) outer left right)) r
+    → IsRead (coef_entry ∷ []) command_of words r
 coef_read words outer left right r e o l k h =
     read_judged coef_entry words
     (record {
@@ -282,5 +240,4 @@ coef_read words outer left right r e o l k h =
           ∙ ap (λ ws. codes "coef" ∷ (ws ++ codes "-" ∷ (left ++ codes "-" ∷ right))) (sym (singles outer))
           ∙ ap (λ ws. codes "coef" ∷ (each (λ t. t ∷ []) outer ++ (codes "-" ∷ ws))) (lists_spelled (codes "-") left right);
     })
-    coefficient_of (AreThree (partition outer) (partition left) (partition right))
-    (λ s j. ap (λ x. coef x s.left s.right) j.0 ∙ ap (λ x. coef (partition outer) x s.right) j.1 ∙ ap (coef (partition outer) (partition left)) j.2) r h
+    command_of (λ c. c ≡ Coef (partition outer) (partition left) (partition right)) (λ s j. ap command_of j) r h

@@ -5,12 +5,10 @@ use Rattle.sym_model.specs.Sum.{each}
 use Rattle.sym_model.specs.Partition.{without_last_zeros}
 use Rattle.sym_model.specs.Form.{Written, words_of, May, EachOf}
 use Rattle.sym_model.specs.WordForms.{next_words, factors_words, numbers, partition, factors, factor_numbers}
+use Rattle.word_laws.specs.Words.{Words}
 use Rattle.calc_words.specs.NumberRuns.{IsNumber, BeginsOtherwise}
 use Rattle.calc_words.proofs.Commands.{may_be, singles}
 use Rattle.calc_words.specs.FactorWords.{IsPiece, next_text}
-
-abbrev Words : Type 0
-Words = List (List ℕ)
 
 -- numbers, and further factors behind them
 pub record Cut (words : Words) : Type 0 where

@@ -1,5 +1,5 @@
 -- The first offence of factors that are read one after another.
-use Rattle.std.proofs.Common.{◌≡◌, ℕ, ◌+◌, ◌-◌, ◌<◌, ◌≤◌, ◌==◌, Bool, true, false, cond, List, [], ◌∷◌, ◌++◌, append_assoc, map, length, length-append, sym, ap, ◌∙◌, subst, arith, ◌⊎◌, inl, inr, Result, Err, Some, None}
+use Rattle.std.proofs.Common.{◌≡◌, ℕ, ◌+◌, ◌-◌, ◌<◌, ◌≤◌, ◌==◌, Bool, true, false, cond, List, [], ◌∷◌, ◌++◌, append_assoc, map, length, length-append, sym, ap, ◌∙◌, subst, arith, ◌⊎◌, inl, inr, Result, Some, None}
 use Rattle.std.proofs.lemmas.List.{length-map}
 use Rattle.sym_model.specs.Sum.{Among}
 use Rattle.sym_model.proofs.Sums.{Among_from_append}
@@ -8,14 +8,12 @@ use Rattle.sym_model.specs.ExpressionOffence.{range}
 use Rattle.sym_model.specs.CommandOffence.{Offence, first_offence, part_offences, part_rule, factor_offences, most_factors}
 use Rattle.sym_model.specs.Grammar.{two_partitions}
 use Rattle.sym_model.specs.WordForms.{numbers, partition}
+use Rattle.word_laws.specs.Words.{Words}
 use Rattle.calc_base.specs.declared.words.WordsFault.{WordsFault}
-use Rattle.calc_words.specs.Reading.{IsJudged}
+use Rattle.calc_words.specs.Reading.{IsJudged, IsFirst}
 use Rattle.calc_words.proofs.FirstOffences.{within, AllBefore, first-head, no_later_word}
 use Rattle.calc_words.proofs.Commands.{judged_err, judged_next}
 use Rattle.calc_words.specs.ReadProducts.{ninth_offences}
-
-abbrev Words : Type 0
-Words = List (List ℕ)
 
 -- the offence in front of the ninth factor
 the_ninth : (ninth : Bool) (o p : Offence) → Among p (cond ninth (o ∷ []) []) → p ≡ o
@@ -80,17 +78,13 @@ ninth_first count at list h =
     ∙ first-head (at, 0, range) (part_offences (at + 1) (numbers list))
     (λ p m. no_later_word (at, 0, range) p (let w = within part_rule [] (at + 1) (numbers list) p m in let l = w.0 in omega (arith, l)))
 
--- no factor before the ninth does
-pub no_ninth : (count at : ℕ) (list : Words) → (count == most_factors) ≡ false → next_offences count at list ≡ part_offences (at + 1) (numbers list)
-no_ninth count at list h = ap (λ b. cond b ((at, 0, range) ∷ []) [] ++ part_offences (at + 1) (numbers list)) h
-
 -- the next factor offends
-pub next_faulty : {A B : Type 0} (P : A → Type 0) (Q : B → Type 0) (count at : ℕ) (list : Words) (more : List Words) (fault : WordsFault)
-    → IsJudged P (first_offence (next_offences count at list)) (Err fault)
-    → IsJudged Q (first_offence (factor_offences count (at + 1) (map numbers (list ∷ more)))) (Err fault)
-next_faulty P Q count at list more fault h =
-    subst (λ os. IsJudged Q (first_offence os) (Err fault)) (sym (next_is count at list more))
-    (judged_err P Q (next_offences count at list) (rest_offences count at list more) fault (next_before count at list more) h)
+pub next_faulty : (count at : ℕ) (list : Words) (more : List Words) (fault : WordsFault)
+    → IsFirst (first_offence (next_offences count at list)) fault
+    → IsFirst (first_offence (factor_offences count (at + 1) (map numbers (list ∷ more)))) fault
+next_faulty count at list more fault h =
+    subst (λ os. IsFirst (first_offence os) fault) (sym (next_is count at list more))
+    (judged_err (next_offences count at list) (rest_offences count at list more) fault (next_before count at list more) h)
 
 -- the next factor has no offence
 pub next_fine : (factors next : List (List ℕ)) (at after : ℕ) (list : Words) (more : List Words) (r : Result (List (List ℕ)) WordsFault)
@@ -149,12 +143,12 @@ two_before at first second others p q m n =
     let w = factor_within 2 (at + length first + 1 + length second + 1) (map numbers others) q n in
     omega (arith, l, w)
 
-pub two_faulty : {A B : Type 0} (P : A → Type 0) (Q : B → Type 0) (at : ℕ) (first second : Words) (others : List Words) (fault : WordsFault)
-    → IsJudged P (first_offence (two_partitions at first second)) (Err fault)
-    → IsJudged Q (first_offence (factor_offences 0 at (numbers first ∷ numbers second ∷ map numbers others))) (Err fault)
-two_faulty P Q at first second others fault h =
-    subst (λ os. IsJudged Q (first_offence os) (Err fault)) (sym (two_are at first second others))
-    (judged_err P Q (two_partitions at first second) (factor_offences 2 (at + length first + 1 + length second + 1) (map numbers others)) fault
+pub two_faulty : (at : ℕ) (first second : Words) (others : List Words) (fault : WordsFault)
+    → IsFirst (first_offence (two_partitions at first second)) fault
+    → IsFirst (first_offence (factor_offences 0 at (numbers first ∷ numbers second ∷ map numbers others))) fault
+two_faulty at first second others fault h =
+    subst (λ os. IsFirst (first_offence os) fault) (sym (two_are at first second others))
+    (judged_err (two_partitions at first second) (factor_offences 2 (at + length first + 1 + length second + 1) (map numbers others)) fault
     (two_before at first second others) h)
 
 pub two_fine : {B : Type 0} (Q : B → Type 0) (at after : ℕ) (first second : Words) (others : List Words) (r : Result B WordsFault)

@@ -5,14 +5,12 @@ use Rattle.std.proofs.lemmas.List.{length-map}
 use Rattle.sym_model.specs.Polynomial.{same}
 use Rattle.sym_model.specs.Form.{Form, empty, sequence, many, EachOf, is_number_word, derivatives}
 use Rattle.sym_model.specs.WordForms.{partition_words, next_words, factors_words}
+use Rattle.word_laws.specs.Words.{Words}
 use Rattle.word_laws.specs.Reading.{is_expression}
 use Rattle.calc_words.specs.NumberRuns.{IsNumber, BeginsOtherwise}
 use Rattle.calc_words.specs.Standing.{GoesAs, WrongAt}
 use Rattle.calc_words.proofs.Standing.{Refuses, wrong_here, step, behind_list, not_same, not_number}
 use Rattle.calc_words.specs.FactorWords.{IsPiece, later_factors}
-
-abbrev Words : Type 0
-Words = List (List ℕ)
 
 -- what is still to come behind a number or a `-`
 abbrev behind_piece : Form
@@ -94,9 +92,3 @@ minus_wrong words ns rest more left e n b d w =
     subst (λ ws. WrongAt factors_words ws left) (sym e)
     (behind_list ns from_minus rest left (λ t k. minus_by t (no_minus t k)) n b
     (subst (λ ws. WrongAt from_minus ws left) (sym d) (minus_then more left w)))
-
--- factors begin with no other word
-pub factors_begin_otherwise : (other : List ℕ) → is_number_word other ≡ false → (other ≡ codes "-" → ⊥) → derivatives is_expression factors_words other ≡ []
-factors_begin_otherwise other n b =
-    ap (λ x. map (λ h. sequence h from_minus) (map (λ h. sequence h partition_words) (cond x (empty ∷ []) [])) ++ derivatives is_expression from_minus other) n
-    ∙ minus_by other b

@@ -18,7 +18,7 @@ first-head o os h = by (first_offence os) refl
 pub no_later_word : (o p : Offence) → o.0 < p.0 → is_no_later o p ≡ true
 no_later_word o p h = ap (λ x. x || ((o.0 == p.0) && (nat_lt o.1 p.1 || ((o.1 == p.1) && nat_le (rank o.2) (rank p.2))))) (lt-ltb o.0 p.0 h)
 
-or_true : (b : Bool) → (b || true) ≡ true
+pub or_true : (b : Bool) → (b || true) ≡ true
 or_true true = refl
 or_true false = refl
 

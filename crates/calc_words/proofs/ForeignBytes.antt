@@ -2,21 +2,19 @@
 use Rattle.std.proofs.Common.{◌≡◌, ℕ, zero, suc, ◌<◌, ◌≤◌, ◌==◌, nat_lt, Bool, true, false, not, ◌&&◌, cond, List, [], ◌∷◌, ◌++◌, map, length, length-append, take, refl, sym, ap, ◌∙◌, subst, arith, ◌⊎◌, inl, inr, Result, Ok, Err}
 use Rattle.std.specs.Prelude.{slice_index_or}
 use Rattle.std.proofs.lemmas.Bool.{ltb-true, ltb-false}
-use Rattle.std.proofs.lemmas.List.{take-append-le, get_or_append_left}
+use Rattle.std.proofs.lemmas.List.{take-append-le, get_or_append_left, map-append}
 use Rattle.std.proofs.Math.Seq.{get_or-append_seam}
 use Rattle.sym_model.specs.Command.{Command}
 use Rattle.sym_model.specs.Entry.{Entry, BeginsCommand, AwaitsExpression}
 use Rattle.sym_model.specs.LongestPrefix.{IsLongestPrefix}
 use Rattle.sym_model.specs.Phrase.{BeginsExpression}
 use Rattle.sym_model.specs.SyntaxPlace.{IsExpressionWord, IsSyntaxByte, IsSyntaxPlace}
+use Rattle.word_laws.specs.Words.{Words}
 use Rattle.calc_base.specs.declared.words.WordsFault.{WordsFault}
 use Rattle.calc_base.specs.declared.words.WordsFault.TheVariants.{Syntax, Literal, Range, Shape, NoMemory}
 use Rattle.calc_words.specs.LineBytes.{seen_byte, seen}
 use Rattle.calc_words.specs.Reading.{IsRead}
 use Rattle.calc_words.proofs.PlainBytes.{is_plain, are_plain, all_plain, entries_plain, not_plain, not_all_plain, expression_plain, begins_plain, spells_plain, freely_plain, first_plain}
-
-abbrev Words : Type 0
-Words = List (List ℕ)
 
 -- ---- longest prefixes of lists that are the same up to a place behind which no prefix has the property
 
@@ -164,21 +162,17 @@ told_words (w ∷ words) = by (told_word w) (told_words words)
           has = f.has;
         })
 
-map_append : {A B : Type 0} (f : A → B) (xs ys : List A) → map f (xs ++ ys) ≡ map f xs ++ map f ys
-map_append f [] ys = refl
-map_append f (x ∷ xs) ys = ap (λ zs. f x ∷ zs) (map_append f xs ys)
-
 seen_word : (w : List ℕ) (f : Foreign w) → seen w ≡ f.front ++ 63 ∷ seen f.behind
 seen_word w f =
     ap seen f.is
-    ∙ map_append seen_byte f.front (f.byte ∷ f.behind)
+    ∙ map-append seen_byte f.front (f.byte ∷ f.behind)
     ∙ ap (λ u. u ++ seen (f.byte ∷ f.behind)) f.kept
     ∙ ap (λ b. f.front ++ cond b f.byte 63 ∷ seen f.behind) f.foreign
 
 seen_words : (words : Words) (f : ForeignWord words) → map seen words ≡ f.before ++ (f.has.front ++ 63 ∷ seen f.has.behind) ∷ map seen f.rest
 seen_words words f =
     ap (map seen) f.is
-    ∙ map_append seen f.before (f.foreign ∷ f.rest)
+    ∙ map-append seen f.before (f.foreign ∷ f.rest)
     ∙ ap (λ ws. ws ++ seen f.foreign ∷ map seen f.rest) f.kept
     ∙ ap (λ w. f.before ++ w ∷ map seen f.rest) (seen_word f.foreign f.has)
 

@@ -9,13 +9,11 @@ use Rattle.sym_model.specs.SyntaxPlace.{IsExpressionWord, IsSyntaxByte, IsSyntax
 use Rattle.sym_model.specs.WordForms.{the}
 use Rattle.word_laws.proofs.LongestPrefixes.{some_in, some_out}
 use Rattle.sym_model.specs.ExpressionOffence.{literal, range, shape}
+use Rattle.word_laws.specs.Words.{Words}
 use Rattle.calc_base.specs.declared.words.WordsFault.{WordsFault}
 use Rattle.calc_base.specs.declared.words.WordsFault.TheVariants.{Syntax, Literal, Range, Shape, NoMemory}
 use Rattle.calc_words.specs.Joined.{Joined}
 use Rattle.calc_words.specs.Reading.{IsRead}
-
-abbrev Words : Type 0
-Words = List (List ℕ)
 
 -- a form that begins with a word
 pub first_spells : (text : List ℕ) (g : Form) (words : Words) → Has (sequence (the text) g) words → (rest : Words) × (words ≡ text ∷ rest)

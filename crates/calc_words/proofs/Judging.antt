@@ -1,5 +1,5 @@
 -- The numbers of a partition, judged one after another.
-use Rattle.std.proofs.Common.{◌≡◌, ℕ, zero, suc, ◌+◌, ◌^◌, ◌<◌, ◌≤◌, ◌==◌, nat_le, nat_lt, Bool, true, false, ◌&&◌, ◌||◌, cond, List, [], ◌∷◌, ◌++◌, map, length, take, drop, get_or, drop-cons, refl, sym, ap, ◌∙◌, subst, arith, Option, Some, None, Err}
+use Rattle.std.proofs.Common.{◌≡◌, ℕ, zero, suc, ◌+◌, ◌^◌, ◌<◌, ◌≤◌, ◌==◌, nat_le, nat_lt, Bool, true, false, ◌&&◌, ◌||◌, cond, List, [], ◌∷◌, ◌++◌, map, length, take, drop, get_or, drop-cons, refl, sym, ap, ◌∙◌, subst, arith, Option, Some, None}
 use Rattle.std.proofs.lemmas.Bool.{le-leb, leb-false, ltb-false, eqb-false}
 use Rattle.std.proofs.Math.ListN.{drop_of_length-le, set, length-set}
 use Rattle.std.proofs.lemmas.List.{take_all, take_more, take_more_set}
@@ -12,7 +12,7 @@ use Rattle.calc_words.specs.declared.offence.Kind.TheVariants.{Literal, Range, S
 use Rattle.calc_words.specs.Faults.{fault_of}
 use Rattle.calc_words.specs.NumberRuns.{narrow}
 use Rattle.calc_words.specs.PartRules.{part_kind, range_or_shape}
-use Rattle.calc_words.specs.Reading.{IsJudged}
+use Rattle.calc_words.specs.Reading.{IsFirst}
 use Rattle.calc_words.proofs.FirstOffences.{of_kind, first_of_three, three_kinds_left, within}
 
 -- what is kept of the first numbers of a list that begins at the word `at`: these have been heard, the last one first
@@ -72,11 +72,11 @@ narrow_none a h = by (is_wide a) refl
     by false e = let k : None ≡ Some a = sym h ∙ ap (λ b. cond b None (Some a)) e in cc
 
 -- a number that is too wide
-pub wide_first : {A : Type 0} (P : A → Type 0) (at : ℕ) (ns : List ℕ) (i cells a : ℕ) (last : Option ℕ) (parts : List ℕ) → Judging at ns i cells last parts → i < length ns → get_or ns i 0 ≡ a
+pub wide_first : (at : ℕ) (ns : List ℕ) (i cells a : ℕ) (last : Option ℕ) (parts : List ℕ) → Judging at ns i cells last parts → i < length ns → get_or ns i 0 ≡ a
     → narrow a ≡ None → (fault : WordsFault) → fault ≡ fault_of (at + i) Literal
-    → IsJudged P (first_offence (part_offences at ns)) (Err fault)
-wide_first P at ns i cells a last parts j h e w fault f =
-    subst (λ r. IsJudged P (first_offence (part_offences at ns)) (Err r)) (sym f)
+    → IsFirst (first_offence (part_offences at ns)) fault
+wide_first at ns i cells a last parts j h e w fault f =
+    subst (λ r. IsFirst (first_offence (part_offences at ns)) r) (sym f)
     (judged at ns i cells a last parts j h e
     ∙ ap (λ b. first_of_three (at + i) b ((i == most_parts) || nat_lt most_cells (cells + a)) (rises last a)
     (first_offence (offences_after part_rule (a ∷ j.heard) (at + i + 1) (drop (suc i) ns)))) (narrow_none a w))
@@ -89,24 +89,21 @@ narrow_some a v h = by (is_wide a) refl
     by true e = let k : Some v ≡ None = h ∙ ap (λ b. cond b None (Some a)) e in cc
     by false e = let k : Some v ≡ Some a = h ∙ ap (λ b. cond b None (Some a)) e in (e, cc)
 
-pub narrow_low : (a v : ℕ) → Some v ≡ narrow a → v < 2 ^ 127
-narrow_low a v h = let n = narrow_some a v h in let k = leb-false (2 ^ 127) a n.0 in let e = n.1 in omega arith
-
 -- a number that offends
-pub kind_judged : {A : Type 0} (P : A → Type 0) (k : ℕ) (y z : Bool) (rest first : Option Offence) (kind : Kind) → first ≡ first_of_three k false y z rest
-    → Some kind ≡ range_or_shape y z → IsJudged P first (Err (fault_of k kind))
-kind_judged P k true z rest first kind h e = subst (λ x. IsJudged P first (Err (fault_of k x))) (sym (let g : kind ≡ Range = cc in g)) h
-kind_judged P k false true rest first kind h e = subst (λ x. IsJudged P first (Err (fault_of k x))) (sym (let g : kind ≡ Shape = cc in g)) h
-kind_judged P k false false rest first kind h e = cc
+pub kind_judged : (k : ℕ) (y z : Bool) (rest first : Option Offence) (kind : Kind) → first ≡ first_of_three k false y z rest
+    → Some kind ≡ range_or_shape y z → IsFirst first (fault_of k kind)
+kind_judged k true z rest first kind h e = subst (λ x. IsFirst first (fault_of k x)) (sym (let g : kind ≡ Range = cc in g)) h
+kind_judged k false true rest first kind h e = subst (λ x. IsFirst first (fault_of k x)) (sym (let g : kind ≡ Shape = cc in g)) h
+kind_judged k false false rest first kind h e = cc
 
-pub kind_first : {A : Type 0} (P : A → Type 0) (at : ℕ) (ns : List ℕ) (i cells a v : ℕ) (last : Option ℕ) (parts : List ℕ) → Judging at ns i cells last parts → i < length ns → get_or ns i 0 ≡ a
+pub kind_first : (at : ℕ) (ns : List ℕ) (i cells a v : ℕ) (last : Option ℕ) (parts : List ℕ) → Judging at ns i cells last parts → i < length ns → get_or ns i 0 ≡ a
     → Some v ≡ narrow a → (kind : Kind) → Some kind ≡ part_kind i cells last v → (fault : WordsFault) → fault ≡ fault_of (at + i) kind
-    → IsJudged P (first_offence (part_offences at ns)) (Err fault)
-kind_first P at ns i cells a v last parts j h e w kind k fault f =
+    → IsFirst (first_offence (part_offences at ns)) fault
+kind_first at ns i cells a v last parts j h e w kind k fault f =
     let n = narrow_some a v w in
     let rest = first_offence (offences_after part_rule (a ∷ j.heard) (at + i + 1) (drop (suc i) ns)) in
-    subst (λ r. IsJudged P (first_offence (part_offences at ns)) (Err r)) (sym f)
-    (kind_judged P (at + i) ((i == most_parts) || nat_lt most_cells (cells + a)) (rises last a) rest (first_offence (part_offences at ns)) kind
+    subst (λ r. IsFirst (first_offence (part_offences at ns)) r) (sym f)
+    (kind_judged (at + i) ((i == most_parts) || nat_lt most_cells (cells + a)) (rises last a) rest (first_offence (part_offences at ns)) kind
     (judged at ns i cells a last parts j h e
     ∙ ap (λ b. first_of_three (at + i) b ((i == most_parts) || nat_lt most_cells (cells + a)) (rises last a) rest) n.0)
     (k ∙ ap (part_kind i cells last) n.1))
@@ -121,7 +118,7 @@ range_none : (count cells : ℕ) (last : Option ℕ) (v : ℕ) → part_kind cou
     → (((count == most_parts) || nat_lt most_cells (cells + v)) ≡ false) × (rises last v ≡ false)
 range_none count cells last v h = none_kinds ((count == most_parts) || nat_lt most_cells (cells + v)) (rises last v) h
 
-or_both : (x y : Bool) → (x || y) ≡ false → (x ≡ false) × (y ≡ false)
+pub or_both : (x y : Bool) → (x || y) ≡ false → (x ≡ false) × (y ≡ false)
 or_both true y h = cc
 or_both false y h = (refl, h)
 

@@ -4,12 +4,10 @@ use Rattle.std.proofs.lemmas.Bool.{eqb-false, eqb-true}
 use Rattle.sym_model.specs.Form.{empty, word, number}
 use Rattle.sym_model.specs.WordForms.{the}
 use Rattle.sym_model.proofs.Exponents.{same_refl, same_apart}
+use Rattle.word_laws.specs.Words.{Words}
 use Rattle.calc_words.specs.NumberRuns.{IsNumber, BeginsOtherwise}
 use Rattle.calc_words.specs.Standing.{GoesAs, WrongAt}
 use Rattle.calc_words.proofs.Standing.{Refuses, step, wrong_here, not_number}
-
-abbrev Words : Type 0
-Words = List (List ℕ)
 
 -- nothing more may come
 too_many : (words : Words) → 0 < length words → WrongAt empty words (length words)

@@ -1,5 +1,5 @@
 -- The letters of a permutation, judged one after another.
-use Rattle.std.proofs.Common.{◌≡◌, ℕ, suc, ◌+◌, ◌<◌, ◌≤◌, ◌==◌, nat_lt, Bool, true, false, ◌||◌, List, [], ◌∷◌, ◌++◌, map, length, length-append, take, drop, get_or, drop-cons, refl, sym, ap, ◌∙◌, subst, arith, Some, None, Err}
+use Rattle.std.proofs.Common.{◌≡◌, ℕ, suc, ◌+◌, ◌<◌, ◌≤◌, ◌==◌, nat_lt, Bool, true, false, ◌||◌, List, [], ◌∷◌, ◌++◌, map, length, length-append, take, drop, get_or, drop-cons, refl, sym, ap, ◌∙◌, subst, arith, Some, None}
 use Rattle.std.proofs.lemmas.Bool.{eqb-false}
 use Rattle.std.proofs.Math.ListN.{drop_of_length-le, set, length-set}
 use Rattle.std.proofs.lemmas.List.{take_all, take_more, take_more_set}
@@ -11,10 +11,9 @@ use Rattle.calc_words.specs.declared.offence.Kind.TheVariants.{Literal}
 use Rattle.calc_words.specs.Faults.{fault_of}
 use Rattle.calc_words.specs.LetterRules.{letter_kind}
 use Rattle.calc_words.specs.NumberRuns.{narrow}
-use Rattle.calc_words.specs.Reading.{IsJudged}
+use Rattle.calc_words.specs.Reading.{IsFirst}
 use Rattle.calc_words.proofs.FirstOffences.{of_kind, first_of_three, three_kinds_left, within}
-use Rattle.calc_words.proofs.Judging.{narrow_none, narrow_some, kind_judged, no_kinds, none_kinds}
-use Rattle.calc_words.proofs.WrittenLists.{not_either}
+use Rattle.calc_words.proofs.Judging.{narrow_none, narrow_some, kind_judged, no_kinds, none_kinds, or_both}
 
 -- what is kept of the first letters of a list that begins at the word `at`: these have been heard, the last one first
 pub record Hearing (at : ℕ) (ns : List ℕ) (i : ℕ) (letters : List ℕ) : Type 0 where
@@ -45,26 +44,26 @@ judged at ns i a letters j h e =
     (j.heard_are a)
 
 -- a letter that is too wide
-pub wide_letter : {A : Type 0} (P : A → Type 0) (at : ℕ) (ns : List ℕ) (i a : ℕ) (letters : List ℕ) → Hearing at ns i letters → i < length ns → get_or ns i 0 ≡ a
+pub wide_letter : (at : ℕ) (ns : List ℕ) (i a : ℕ) (letters : List ℕ) → Hearing at ns i letters → i < length ns → get_or ns i 0 ≡ a
     → narrow a ≡ None → (fault : WordsFault) → fault ≡ fault_of (at + i) Literal
-    → IsJudged P (first_offence (permutation_offences at ns)) (Err fault)
-wide_letter P at ns i a letters j h e w fault f =
-    subst (λ r. IsJudged P (first_offence (permutation_offences at ns)) (Err r)) (sym f)
+    → IsFirst (first_offence (permutation_offences at ns)) fault
+wide_letter at ns i a letters j h e w fault f =
+    subst (λ r. IsFirst (first_offence (permutation_offences at ns)) r) (sym f)
     (judged at ns i a letters j h e
     ∙ ap (λ b. first_of_three (at + i) b (nat_lt most_permuted a || (length (take i letters) == most_permuted)) (is_outside (length ns) a || stands_in a (take i letters))
     (first_offence (offences_after (permutation_rule (length ns)) (a ∷ j.heard) (at + i + 1) (drop (suc i) ns)))) (narrow_none a w))
 
 -- a letter that offends otherwise
-pub letter_first : {A : Type 0} (P : A → Type 0) (at : ℕ) (ns : List ℕ) (i a v : ℕ) (letters : List ℕ) → Hearing at ns i letters → i < length ns → get_or ns i 0 ≡ a
+pub letter_first : (at : ℕ) (ns : List ℕ) (i a v : ℕ) (letters : List ℕ) → Hearing at ns i letters → i < length ns → get_or ns i 0 ≡ a
     → Some v ≡ narrow a → (kind : Kind) → Some kind ≡ letter_kind (length ns) (take i letters) v → (fault : WordsFault) → fault ≡ fault_of (at + i) kind
-    → IsJudged P (first_offence (permutation_offences at ns)) (Err fault)
-letter_first P at ns i a v letters j h e w kind k fault f =
+    → IsFirst (first_offence (permutation_offences at ns)) fault
+letter_first at ns i a v letters j h e w kind k fault f =
     let n = narrow_some a v w in
     let y = nat_lt most_permuted a || (length (take i letters) == most_permuted) in
     let z = is_outside (length ns) a || stands_in a (take i letters) in
     let rest = first_offence (offences_after (permutation_rule (length ns)) (a ∷ j.heard) (at + i + 1) (drop (suc i) ns)) in
-    subst (λ r. IsJudged P (first_offence (permutation_offences at ns)) (Err r)) (sym f)
-    (kind_judged P (at + i) y z rest (first_offence (permutation_offences at ns)) kind
+    subst (λ r. IsFirst (first_offence (permutation_offences at ns)) r) (sym f)
+    (kind_judged (at + i) y z rest (first_offence (permutation_offences at ns)) kind
     (judged at ns i a letters j h e ∙ ap (λ b. first_of_three (at + i) b y z rest) n.0)
     (k ∙ ap (letter_kind (length ns) (take i letters)) n.1))
 
@@ -85,7 +84,7 @@ letter_goes_on at ns i a v letters j h e w k =
     let n = narrow_some a v w in
     let rule = permutation_rule (length ns) in
     let r = none_kinds (nat_lt most_permuted v || (length (take i letters) == most_permuted)) (is_outside (length ns) v || stands_in v (take i letters)) k in
-    let here_few = not_either (nat_lt most_permuted v) (length (take i letters) == most_permuted) r.0 in
+    let here_few = or_both (nat_lt most_permuted v) (length (take i letters) == most_permuted) r.0 in
     let few : i + 1 ≤ 16 = let x = j.few in let l = j.length_is in let m = eqb-false (length (take i letters)) 16 here_few.1 in omega (arith, x, l, m) in
     let room = j.room in
     let here : i < length letters = omega (arith, room, few) in

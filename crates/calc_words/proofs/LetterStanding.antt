@@ -3,13 +3,11 @@ use Rattle.std.proofs.Common.{◌≡◌, ℕ, ◌<◌, Bool, true, false, cond, 
 use Rattle.std.proofs.lemmas.List.{length-map}
 use Rattle.sym_model.specs.Form.{Form, empty, sequence, EachOf, is_number_word, derivatives}
 use Rattle.sym_model.specs.WordForms.{the, partition_words, permutation_words}
+use Rattle.word_laws.specs.Words.{Words}
 use Rattle.word_laws.specs.Reading.{is_expression}
 use Rattle.calc_words.specs.NumberRuns.{IsNumber, BeginsOtherwise}
 use Rattle.calc_words.specs.Standing.{GoesAs, WrongAt}
 use Rattle.calc_words.proofs.Standing.{Refuses, NoNumber, step, wrong_here, not_number, behind_list, no_number_before, wrong_the, behind_the}
-
-abbrev Words : Type 0
-Words = List (List ℕ)
 
 -- the first letter, by whether it is a number
 first_next : (text : List ℕ) (g : Form) (b : Bool) → is_number_word text ≡ b

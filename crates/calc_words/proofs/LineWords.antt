@@ -1,15 +1,13 @@
 -- The words of a line, one byte after another.
 use Rattle.std.proofs.Common.{◌≡◌, ℕ, zero, suc, ◌+◌, ◌<◌, ◌≤◌, ◌==◌, nat_lt, Bool, true, false, ◌||◌, cond, List, [], ◌∷◌, ◌++◌, append_assoc, map, length, drop, get_or, drop-cons, refl, sym, ap, ◌∙◌, arith}
 use Rattle.std.proofs.lemmas.Bool.Decides.{nat_tests}
-use Rattle.std.proofs.lemmas.List.{append-nil, length-map}
+use Rattle.std.proofs.lemmas.List.{append-nil, length-map, map-append}
 use Rattle.std.proofs.Math.ListN.{drop_of_length-le}
 use Rattle.sym_model.specs.BatchLine.{is_some_text, words_of_line, without_return}
 use Rattle.sym_model.specs.NumberText.{split_at, before_first}
 use Rattle.sym_model.specs.Sum.{each, select}
+use Rattle.word_laws.specs.Words.{Words}
 use Rattle.calc_words.specs.LineBytes.{seen_byte, seen, word_with_bytes, is_space}
-
-abbrev Words : Type 0
-Words = List (List ℕ)
 
 -- the words of what is left of a line, where these bytes of a word have been read
 abbrev pub words_from : List ℕ → List ℕ → Words
@@ -143,10 +141,6 @@ space_seen b = by (nat_lt b 128) refl
     by true e = ap (λ x. is_space (cond x b 63)) e
     by false e = ap (λ x. is_space (cond x b 63)) e ∙ high b e
 
-map_append : {A B : Type 0} (f : A → B) (xs ys : List A) → map f (xs ++ ys) ≡ map f xs ++ map f ys
-map_append f [] ys = refl
-map_append f (x ∷ xs) ys = ap (λ zs. f x ∷ zs) (map_append f xs ys)
-
 words_seen : (w line : List ℕ) → words_from (seen w) (seen line) ≡ map seen (words_from w line)
 words_seen w [] = with_bytes_seen w
 words_seen w (b ∷ line) = ap (λ t. cond t (word_with_bytes (seen w) ++ words_from [] (seen line)) (words_from (seen w ++ seen_byte b ∷ []) (seen line))) (space_seen b)
@@ -158,8 +152,8 @@ words_seen w (b ∷ line) = ap (λ t. cond t (word_with_bytes (seen w) ++ words_
     by true r q =
         ap (λ ws. ws ++ words_from [] (seen line)) (with_bytes_seen w)
         ∙ ap (λ ws. map seen (word_with_bytes w) ++ ws) r
-        ∙ sym (map_append seen (word_with_bytes w) (words_from [] line))
-    by false r q = ap (λ v. words_from v (seen line)) (sym (map_append seen_byte w (b ∷ []))) ∙ q
+        ∙ sym (map-append seen (word_with_bytes w) (words_from [] line))
+    by false r q = ap (λ v. words_from v (seen line)) (sym (map-append seen_byte w (b ∷ []))) ∙ q
 
 -- the words of a line as they are kept
 pub kept_words : (line : List ℕ) → words_from [] (seen line) ≡ map seen (words_of_line line)

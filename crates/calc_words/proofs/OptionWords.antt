@@ -2,13 +2,11 @@
 use Rattle.std.proofs.Common.{◌≡◌, ℕ, Bool, true, false, List, ◌++◌, refl, ap, ◌∙◌, inl, inr}
 use Rattle.sym_model.specs.Form.{Written, May, words_of}
 use Rattle.sym_model.specs.WordForms.{optional, rows_words, form_words, is_one_line}
+use Rattle.word_laws.specs.Words.{Words}
 use Rattle.word_laws.proofs.Classes.{number_sound}
 use Rattle.calc_words.specs.Rows.{RowsAre, FormIs, IsLimitWord, AreOptions}
 use Rattle.calc_words.specs.declared.splitting.RowsWord.{RowsWord}
 use Rattle.calc_words.specs.declared.splitting.RowsWord.TheVariants.{Absent, Given}
-
-abbrev Words : Type 0
-Words = List (List ℕ)
 
 record LimitIs (rows : RowsWord) (words rest : Words) : Type 0 where
   limit : Written (optional rows_words)

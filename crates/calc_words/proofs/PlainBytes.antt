@@ -12,9 +12,7 @@ use Rattle.sym_model.specs.Command.{Command}
 use Rattle.sym_model.specs.Entry.{Entry, SpellsCommand, BeginsCommand, HasFirstOffence, SpellsWithoutOffence}
 use Rattle.sym_model.specs.CommandOffence.{Offence}
 use Rattle.std.specs.Prelude.{Option}
-
-abbrev Words : Type 0
-Words = List (List ℕ)
+use Rattle.word_laws.specs.Words.{Words}
 
 abbrev pub is_plain : ℕ → Bool
 is_plain byte = nat_lt byte 128 && not (byte == 63)

@@ -4,6 +4,7 @@ use Rattle.sym_model.specs.Command.{Command}
 use Rattle.sym_model.specs.CommandOffence.{Offence}
 use Rattle.sym_model.specs.Entry.{Entry, SpellsCommand, HasFirstOffence, SpellsWithoutOffence}
 use Rattle.sym_model.specs.SyntaxPlace.{IsSyntaxPlace}
+use Rattle.word_laws.specs.Words.{Words}
 use Rattle.expression_laws.proofs.PhraseRuns.{one_phrase}
 use Rattle.calc_base.specs.declared.words.Place.{Place}
 use Rattle.calc_base.specs.declared.words.WordsFault.{WordsFault}
@@ -12,9 +13,6 @@ use Rattle.calc_words.specs.Reading.{IsRead, Accepts, Refuses, GoesWrong}
 use Rattle.word_laws.specs.OneReading.{are_unambiguous}
 use Rattle.word_laws.specs.Reading.{forms_of}
 use Rattle.word_laws.proofs.EntryLists.{one_command, one_offence, one_place}
-
-abbrev Words : Type 0
-Words = List (List ℕ)
 
 -- words of the commands are read in one way
 abbrev pub Clear : List Entry → Type 0

@@ -8,6 +8,7 @@ use Rattle.sym_model.specs.Form.{Form, empty, word, sequence, number, EachOf, is
 use Rattle.sym_model.specs.Entry.{Entry}
 use Rattle.sym_model.specs.SyntaxPlace.{IsSyntaxPlace}
 use Rattle.sym_model.specs.WordForms.{the, optional, partition_words, rows_words, form_words}
+use Rattle.word_laws.specs.Words.{Words}
 use Rattle.word_laws.specs.Reading.{is_expression}
 use Rattle.word_laws.proofs.Stands.{stands_next, wrong_word, ends_early}
 use Rattle.word_laws.proofs.NumberLists.{behind_numbers, IsListed, after_number, after_numbers}
@@ -16,9 +17,6 @@ use Rattle.calc_words.specs.declared.splitting.RowsWord.{RowsWord}
 use Rattle.calc_words.specs.declared.splitting.RowsWord.TheVariants.{Absent, Given}
 use Rattle.calc_words.specs.Rows.{RowsAre, FormIs, behind_options}
 use Rattle.calc_words.specs.Standing.{GoesAs, At, WrongAt}
-
-abbrev Words : Type 0
-Words = List (List ℕ)
 
 -- neither the next word nor the end goes on as the form
 abbrev pub Refuses : Form → Words → Type 0

@@ -1,5 +1,5 @@
 -- The letters of a word, judged one after another.
-use Rattle.std.proofs.Common.{◌≡◌, ℕ, suc, ◌+◌, ◌<◌, ◌≤◌, ◌==◌, Bool, true, false, ◌||◌, List, [], ◌∷◌, ◌++◌, map, length, take, drop, get_or, drop-cons, refl, sym, ap, ◌∙◌, subst, arith, Some, None, Err, inl, inr}
+use Rattle.std.proofs.Common.{◌≡◌, ℕ, suc, ◌+◌, ◌<◌, ◌≤◌, ◌==◌, Bool, true, false, ◌||◌, List, [], ◌∷◌, ◌++◌, map, length, take, drop, get_or, drop-cons, refl, sym, ap, ◌∙◌, subst, arith, Some, None, inl, inr}
 use Rattle.std.proofs.lemmas.Bool.{eqb-false}
 use Rattle.std.proofs.Math.ListN.{drop_of_length-le, set, length-set}
 use Rattle.std.proofs.lemmas.List.{take_all, take_more, take_more_set}
@@ -11,11 +11,11 @@ use Rattle.word_laws.proofs.FirstOffences.{first_none}
 use Rattle.calc_words.specs.declared.offence.Kind.TheVariants.{Literal, Range}
 use Rattle.calc_words.specs.Faults.{fault_of}
 use Rattle.calc_words.specs.NumberRuns.{narrow}
-use Rattle.calc_words.specs.Reading.{IsJudged}
+use Rattle.calc_words.specs.Reading.{IsFirst}
 use Rattle.calc_words.specs.WrittenLimits.{IsWrittenWord}
 use Rattle.calc_words.proofs.FirstOffences.{of_kind, first-kind, first_of_three, lowest, Behind, within}
-use Rattle.calc_words.proofs.Judging.{narrow_none, narrow_some}
-use Rattle.calc_words.proofs.WrittenLists.{none_append, none_next, not_when, not_either, inside}
+use Rattle.calc_words.proofs.Judging.{narrow_none, narrow_some, or_both}
+use Rattle.calc_words.proofs.WrittenLists.{none_append, none_next, not_when, inside}
 
 two_kinds : (k : ℕ) (x y : Bool) (rest : List Offence) → Behind k rest
     → first_offence (map (of_kind k) (when x literal ++ when y range) ++ rest) ≡ first_of_three k x y false (first_offence rest)
@@ -43,22 +43,22 @@ judged at ns i a letters j h e =
     (λ p m. let w = within letter_rule (a ∷ j.heard) (at + i + 1) (drop (suc i) ns) p m in omega arith)
     ∙ ap (λ n. first_of_three (at + i) (is_wide a) (is_outside greatest_letter a || (n == most_letters)) false (first_offence more)) j.count_is
 
-pub wide_in_word : {A : Type 0} (P : A → Type 0) (at : ℕ) (ns : List ℕ) (i a : ℕ) (letters : List ℕ) → Spelling at ns i letters → i < length ns → get_or ns i 0 ≡ a
+pub wide_in_word : (at : ℕ) (ns : List ℕ) (i a : ℕ) (letters : List ℕ) → Spelling at ns i letters → i < length ns → get_or ns i 0 ≡ a
     → narrow a ≡ None → (fault : WordsFault) → fault ≡ fault_of (at + i) Literal
-    → IsJudged P (first_offence (offences_by letter_rule at ns)) (Err fault)
-wide_in_word P at ns i a letters j h e w fault f =
-    subst (λ r. IsJudged P (first_offence (offences_by letter_rule at ns)) (Err r)) (sym f)
+    → IsFirst (first_offence (offences_by letter_rule at ns)) fault
+wide_in_word at ns i a letters j h e w fault f =
+    subst (λ r. IsFirst (first_offence (offences_by letter_rule at ns)) r) (sym f)
     (judged at ns i a letters j h e
     ∙ ap (λ b. first_of_three (at + i) b (is_outside greatest_letter a || (i == most_letters)) false
     (first_offence (offences_after letter_rule (a ∷ j.heard) (at + i + 1) (drop (suc i) ns)))) (narrow_none a w))
 
-pub past_in_word : {A : Type 0} (P : A → Type 0) (at : ℕ) (ns : List ℕ) (i a v : ℕ) (letters : List ℕ) → Spelling at ns i letters → i < length ns → get_or ns i 0 ≡ a
+pub past_in_word : (at : ℕ) (ns : List ℕ) (i a v : ℕ) (letters : List ℕ) → Spelling at ns i letters → i < length ns → get_or ns i 0 ≡ a
     → Some v ≡ narrow a → (is_outside greatest_letter v || (i == most_letters)) ≡ true → (fault : WordsFault) → fault ≡ fault_of (at + i) Range
-    → IsJudged P (first_offence (offences_by letter_rule at ns)) (Err fault)
-past_in_word P at ns i a v letters j h e w o fault f =
+    → IsFirst (first_offence (offences_by letter_rule at ns)) fault
+past_in_word at ns i a v letters j h e w o fault f =
     let n = narrow_some a v w in
     let rest = first_offence (offences_after letter_rule (a ∷ j.heard) (at + i + 1) (drop (suc i) ns)) in
-    subst (λ r. IsJudged P (first_offence (offences_by letter_rule at ns)) (Err r)) (sym f)
+    subst (λ r. IsFirst (first_offence (offences_by letter_rule at ns)) r) (sym f)
     (judged at ns i a letters j h e
     ∙ ap (λ b. first_of_three (at + i) b (is_outside greatest_letter a || (i == most_letters)) false rest) n.0
     ∙ ap (λ b. first_of_three (at + i) false b false rest) (ap (λ x. is_outside greatest_letter x || (i == most_letters)) (sym n.1) ∙ o))
@@ -70,7 +70,7 @@ pub word_goes_on : (at : ℕ) (ns : List ℕ) (i a v : ℕ) (letters : List ℕ)
     → Some v ≡ narrow a → (is_outside greatest_letter v || (i == most_letters)) ≡ false → Spelling at ns (i + 1) (set letters i v)
 word_goes_on at ns i a v letters j h e w o =
     let n = narrow_some a v w in
-    let m = eqb-false i 256 (not_either (is_outside greatest_letter v) (i == most_letters) o).1 in
+    let m = eqb-false i 256 (or_both (is_outside greatest_letter v) (i == most_letters) o).1 in
     let few : i + 1 ≤ 256 = let x = j.few in omega (arith, x, m) in
     let room = j.room in
     let here : i < length letters = omega (arith, room, few) in
@@ -95,16 +95,6 @@ word_goes_on at ns i a v letters j h e w o =
       room = length-set letters i v ∙ j.room;
     }
 
-pub word_ends : (at : ℕ) (ns : List ℕ) (i : ℕ) (letters : List ℕ) → Spelling at ns i letters → length ns ≤ i
-    → first_offence (offences_by letter_rule at ns) ≡ None
-word_ends at ns i letters j h = ap first_offence (j.rest_is ∙ ap (offences_after letter_rule j.heard (at + i)) (drop_of_length-le ns h))
-
-pub whole_word : (at : ℕ) (ns : List ℕ) (i : ℕ) (letters : List ℕ) → Spelling at ns i letters → length ns ≤ i → i ≤ length ns
-    → take (length ns) letters ≡ ns
-whole_word at ns i letters j h k =
-    let same : length ns ≡ i = omega arith in
-    ap (λ n. take n letters) same ∙ j.letters_are ∙ take_all i ns h
-
 -- ---- the limits of letters without an offence
 
 record Fit (before ns : List ℕ) : Type 0 where
@@ -117,7 +107,7 @@ letters_fit before k (a ∷ ns) f h =
     let n = none_next letter_rule before k a ns h in
     let y = is_outside greatest_letter a || (length before == most_letters) in
     let p = none_append (when (is_wide a) literal) (when y range) n.0 in
-    let o = not_either (is_outside greatest_letter a) (length before == most_letters) (not_when y range p.1) in
+    let o = or_both (is_outside greatest_letter a) (length before == most_letters) (not_when y range p.1) in
     let more = eqb-false (length before) 256 o.1 in
     let r = letters_fit (a ∷ before) (k + 1) ns (omega (arith, more, f)) n.1 in
     record { letters = λ b m. by b (inside greatest_letter a o.0) r.letters m; few = (let x = r.few in omega (arith, x)) }

@@ -17,15 +17,13 @@ use Rattle.sym_model.specs.Schur.{row_lengths}
 use Rattle.sym_model.specs.Entry.{Entry, SpellsFreely, SpellsWithoutOffence}
 use Rattle.sym_model.specs.WordForms.{optional, rows_words, form_words, factors_words, from_words, tableau_rows, numbers, factors, factor_numbers, row_limit, row_limit_offences, partition}
 use Rattle.sym_model.specs.Grammar.{entries_of, two_partitions, option_words, mult_entry, skew_entry, coef_entry, coprod_entry, tab_entry, last_reading, not_listed, from_entries, quantum_entry, fusion_entry, schubert_entry, schubmult_entry, expand_entry, work_entry, rsk_entry, growth_entry, plethysm_entry, dschubmult_entry, stanley_entry}
+use Rattle.word_laws.specs.Words.{Words}
 use Rattle.word_laws.proofs.FirstOffences.{first_none}
 use Rattle.calc_words.specs.WrittenLimits.{IsWritten, KeepsLimits, IsInList, IsRowLimit, AreWrittenFactors}
 use Rattle.calc_words.proofs.WrittenLetters.{letters_within, written_letters}
 use Rattle.calc_words.proofs.WordJudging.{written_word}
 use Rattle.calc_words.proofs.WrittenExpressions.{not_past, none_in_word, within_limit, within_degree}
 use Rattle.calc_words.proofs.WrittenLists.{none_append, none_first, none_judged, written, two_written, row_number, lines_number, seed_number}
-
-abbrev Words : Type 0
-Words = List (List ℕ)
 
 -- what the words of the entry say where they have no offence
 abbrev pub Keeps : Entry → Type 0

@@ -5,11 +5,12 @@ use Rattle.sym_model.specs.Sum.{Among, Once}
 use Rattle.sym_model.specs.ExpressionOffence.{is_wide, literal, range, shape}
 use Rattle.sym_model.specs.CommandOffence.{first_offence, permutation_offences, permutation_offences_within, permutation_rule_within, offences_after, when, is_outside, stands_in, most_permuted}
 use Rattle.sym_model.specs.Permutation.{in_front_unless_fixed, without_fixed_from, kept}
+use Rattle.calc_words.proofs.Judging.{or_both}
 use Rattle.perm_codes.specs.Limits.{IsShortPermutation}
 use Rattle.perm_codes.proofs.WithinLimits.{kept_limits}
 use Rattle.word_laws.proofs.FirstOffences.{first_none}
 use Rattle.calc_words.specs.WrittenLimits.{IsPermutationWithin, IsWrittenPermutation}
-use Rattle.calc_words.proofs.WrittenLists.{none_append, none_next, not_when, not_either, inside}
+use Rattle.calc_words.proofs.WrittenLists.{none_append, none_next, not_when, inside}
 
 -- letters that stand behind others, none of which they are
 record AreLetters (most count : ℕ) (before ns : List ℕ) : Type 0 where
@@ -27,8 +28,8 @@ letters_fine most count before k (a ∷ ns) f h =
     let z = is_outside count a || stands_in a before in
     let p = none_append (when (is_wide a) literal ++ when y range) (when z shape) n.0 in
     let q = none_append (when (is_wide a) literal) (when y range) p.0 in
-    let room = not_either (nat_lt most a) (length before == most) (not_when y range q.1) in
-    let own = not_either (is_outside count a) (stands_in a before) (not_when z shape p.1) in
+    let room = or_both (nat_lt most a) (length before == most) (not_when y range q.1) in
+    let own = or_both (is_outside count a) (stands_in a before) (not_when z shape p.1) in
     let more = eqb-false (length before) most room.1 in
     let r = letters_fine most count (a ∷ before) (k + 1) ns (omega (arith, more, f)) n.1 in
     let bound = inside count a own.0 in
@@ -45,10 +46,10 @@ letters_fine most count before k (a ∷ ns) f h =
 
     new_of : (b : ℕ) → stands_in a before ≡ false → ((c : ℕ) → Among c ns → stands_in c (a ∷ before) ≡ false) → Among b (a ∷ ns) → stands_in b before ≡ false
     new_of b i r (inl e) = ap (λ c. stands_in c before) e ∙ i
-    new_of b i r (inr m) = (not_either (b == a) (stands_in b before) (r b m)).1
+    new_of b i r (inr m) = (or_both (b == a) (stands_in b before) (r b m)).1
 
     itself : stands_in a (a ∷ before) ≡ false → ⊥
-    itself e = let x = (not_either (a == a) (stands_in a before) e).0 in let y = eq-eqb a a refl in cc
+    itself e = let x = (or_both (a == a) (stands_in a before) e).0 in let y = eq-eqb a a refl in cc
 
 short_within : (most k : ℕ) (ns : List ℕ) → most ≤ 16 → 0 < length ns → first_offence (permutation_offences_within most k ns) ≡ None
     → IsShortPermutation ns × (length ns ≤ most)

@@ -7,12 +7,12 @@ use Rattle.sym_model.specs.ExpressionOffence.{OffenceKind, is_wide, rises, liter
 use Rattle.sym_model.specs.CommandOffence.{Offence, Rule, first_offence, part_offences, part_rule, rows_rule, lines_rule, seed_rule, offences_by, offences_after, left_of, judged_against, when, is_outside, most_parts, most_cells, most_rows, most_lines, greatest_seed}
 use Rattle.sym_model.specs.Grammar.{two_partitions}
 use Rattle.sym_model.specs.WordForms.{numbers, partition}
+use Rattle.sym_model.proofs.Parts.{length-without_last_zeros}
+use Rattle.calc_words.proofs.Judging.{or_both}
+use Rattle.word_laws.specs.Words.{Words}
 use Rattle.partitions.specs.Limits.{IsWithinLimits}
 use Rattle.word_laws.proofs.FirstOffences.{first_none}
 use Rattle.calc_words.specs.WrittenLimits.{IsWritten, IsRowNumber}
-
-abbrev Words : Type 0
-Words = List (List ℕ)
 
 -- ---- lists of offences that are empty
 
@@ -41,10 +41,6 @@ pub none_next : (rule : Rule) (before : List ℕ) (k a : ℕ) (ns : List ℕ) �
 none_next rule before k a ns h =
     let p = none_append (map (λ kind. (k, 0, kind)) (rule before a)) (offences_after rule (a ∷ before) (k + 1) ns) h in
     (none_map (λ kind. (k, 0, kind)) (rule before a) p.0, p.1)
-
-pub not_either : (x y : Bool) → (x || y) ≡ false → (x ≡ false) × (y ≡ false)
-not_either true y h = cc
-not_either false y h = (refl, h)
 
 -- ---- partitions
 
@@ -78,7 +74,7 @@ fits before k (a ∷ ns) f s h =
     let y = (length before == most_parts) || (nat_le (size before) most_cells && nat_lt most_cells (size before + a)) in
     let p = none_append (when (is_wide a) literal ++ when y range) (when (rises (left_of before) a) shape) n.0 in
     let q = none_append (when (is_wide a) literal) (when y range) p.0 in
-    let o = not_either (length before == most_parts) (nat_le (size before) most_cells && nat_lt most_cells (size before + a)) (not_when y range q.1) in
+    let o = or_both (length before == most_parts) (nat_le (size before) most_cells && nat_lt most_cells (size before + a)) (not_when y range q.1) in
     let low = not_past (size before) a s o.1 in
     let more = eqb-false (length before) 64 o.0 in
     let r = fits (a ∷ before) (k + 1) ns (omega (arith, more, f)) (omega (arith, low)) n.1 in
@@ -88,22 +84,13 @@ fits before k (a ∷ ns) f s h =
       small = let x = r.small in omega (arith, x);
     }
 
-rows-without_last_zeros : (ns : List ℕ) → length (without_last_zeros ns) ≤ length ns
-rows-without_last_zeros [] = omega arith
-rows-without_last_zeros (a ∷ ns) = front a (without_last_zeros ns) (length ns) (rows-without_last_zeros ns)
-  where
-    front : (a : ℕ) (xs : List ℕ) (n : ℕ) → length xs ≤ n → length (in_front a xs) ≤ suc n
-    front zero [] n h = omega arith
-    front zero (x ∷ xs) n h = omega arith
-    front (suc a) xs n h = omega arith
-
 -- numbers of a partition without an offence
 pub written : (k : ℕ) (ns : List ℕ) → first_offence (part_offences k ns) ≡ None → IsWritten (without_last_zeros ns)
 written k ns h =
     let f = fits [] k ns (omega arith) (omega arith) (first_none (part_offences k ns) h) in
     record {
       partition = IsPartition-without_last_zeros ns f.falls;
-      few = let x = f.few in let y = rows-without_last_zeros ns in omega (arith, x, y);
+      few = let x = f.few in let y = length-without_last_zeros ns in omega (arith, x, y);
       small = let x = f.small in let y = size-without_last_zeros ns in omega (arith, x, y);
     }
 
@@ -123,7 +110,7 @@ not_zero : (a : ℕ) → (a == 0) ≡ false → 1 ≤ a
 not_zero a h = let x = eqb-false a 0 h in omega (arith, x)
 
 pub inside : (limit a : ℕ) → is_outside limit a ≡ false → (1 ≤ a) × (a ≤ limit)
-inside limit a h = let o = not_either (a == 0) (nat_lt limit a) h in (not_zero a o.0, ltb-false limit a o.1)
+inside limit a h = let o = or_both (a == 0) (nat_lt limit a) h in (not_zero a o.0, ltb-false limit a o.1)
 
 pub row_number : (k a : ℕ) → first_offence (offences_by rows_rule k (a ∷ [])) ≡ None → IsRowNumber a
 row_number k a h =

@@ -4,12 +4,10 @@ pub mod Faults
 pub mod PartRules
 pub mod Standing
 pub mod Rows
-pub mod ReadShapes
 pub mod Joined
 pub mod WrittenLimits
 pub mod LetterRules
 pub mod PermutationWords
-pub mod BatchWords
 pub mod LineBytes
 pub mod FactorWords
 pub mod ReadProducts

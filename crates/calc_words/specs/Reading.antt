@@ -8,23 +8,31 @@ use Rattle.sym_model.specs.SyntaxPlace.{IsSyntaxPlace}
 use Rattle.calc_base.specs.declared.words.WordsFault.{WordsFault}
 use Rattle.calc_base.specs.declared.words.WordsFault.TheVariants.{Syntax, Literal, Range, Shape, NoMemory}
 
--- the words say this command without offence, or go wrong or first offend at this place; want of memory says nothing of them
+-- the words go wrong or first offend at this place; want of memory says nothing of them
+abbrev pub IsRefusal : List Entry → List (List ℕ) → WordsFault → Type 0
+IsRefusal entries words (Syntax at) = IsSyntaxPlace entries words at.word at.byte
+IsRefusal entries words (Literal at) = HasFirstOffence entries words (Some (at.word, at.byte, literal))
+IsRefusal entries words (Range at) = HasFirstOffence entries words (Some (at.word, at.byte, range))
+IsRefusal entries words (Shape at) = HasFirstOffence entries words (Some (at.word, at.byte, shape))
+IsRefusal entries words NoMemory = Unit {0}
+
+-- the words say this command without offence, or are refused for what is wrong with them
 abbrev pub IsRead : {A : Type 0} → List Entry → (A → Command) → List (List ℕ) → Result A WordsFault → Type 0
 IsRead entries says words (Ok answer) = SpellsWithoutOffence entries words (says answer)
-IsRead entries says words (Err (Syntax at)) = IsSyntaxPlace entries words at.word at.byte
-IsRead entries says words (Err (Literal at)) = HasFirstOffence entries words (Some (at.word, at.byte, literal))
-IsRead entries says words (Err (Range at)) = HasFirstOffence entries words (Some (at.word, at.byte, range))
-IsRead entries says words (Err (Shape at)) = HasFirstOffence entries words (Some (at.word, at.byte, shape))
-IsRead entries says words (Err NoMemory) = Unit {0}
+IsRead entries says words (Err fault) = IsRefusal entries words fault
 
--- the answer has the property and there is no offence, or the refusal is that of the first one; want of memory says nothing
+-- the refusal is that of the first offence; want of memory says nothing
+abbrev pub IsFirst : Option Offence → WordsFault → Type 0
+IsFirst first (Syntax at) = ⊥
+IsFirst first (Literal at) = first ≡ Some (at.word, at.byte, literal)
+IsFirst first (Range at) = first ≡ Some (at.word, at.byte, range)
+IsFirst first (Shape at) = first ≡ Some (at.word, at.byte, shape)
+IsFirst first NoMemory = Unit {0}
+
+-- the answer has the property and there is no offence, or the refusal is that of the first one
 abbrev pub IsJudged : {A : Type 0} → (A → Type 0) → Option Offence → Result A WordsFault → Type 0
 IsJudged P first (Ok answer) = P answer × (first ≡ None)
-IsJudged P first (Err (Syntax at)) = ⊥
-IsJudged P first (Err (Literal at)) = first ≡ Some (at.word, at.byte, literal)
-IsJudged P first (Err (Range at)) = first ≡ Some (at.word, at.byte, range)
-IsJudged P first (Err (Shape at)) = first ≡ Some (at.word, at.byte, shape)
-IsJudged P first (Err NoMemory) = Unit {0}
+IsJudged P first (Err fault) = IsFirst first fault
 
 -- the refusal names the offence
 abbrev pub IsFaultOf : Offence → WordsFault → Type 0

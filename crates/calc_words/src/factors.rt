@@ -9,7 +9,7 @@ ghost use Rattle.calc_words.specs.WrittenLimits.{IsWritten};
 ghost use Rattle.calc_words.specs.FactorWords.{next_text};
 ghost use Rattle.calc_words.specs.ReadProducts.{ninth_offences};
 
-use crate::{TwoShapes, behind, numbers_first, read_partition, read_two};
+use crate::{behind, numbers_first, read_partition, read_two};
 use calc_base::{Place, WordsFault};
 use partitions::{Factors, FactorsFault, Partition};
 use std::alloc::Global;
@@ -109,11 +109,7 @@ pub(crate) fn read_factors(
 {
     let (second, rest) = numbers_first(later);
     let after = at + first.len() as u64 + 1 + second.len() as u64;
-    match read_two(alloc, at, None, first, second) {
-        Err(fault) => Err(fault),
-        Ok(two) => match paired(alloc, two.first, two.second) {
-            Err(fault) => Err(fault),
-            Ok(factors) => read_later(alloc, after, factors, rest),
-        },
-    }
+    let (first, second) = read_two(alloc, at, first, second)?;
+    let factors = paired(alloc, first, second)?;
+    read_later(alloc, after, factors, rest)
 }

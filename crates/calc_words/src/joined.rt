@@ -1,5 +1,4 @@
 //! A command among others.
-
 ghost use Rattle.std.specs.Prelude.{◌≡◌, ℕ, List, [], ◌∷◌, Option};
 ghost use Rattle.sym_model.specs.Command.{Command};
 ghost use Rattle.sym_model.specs.CommandOffence.{Offence};

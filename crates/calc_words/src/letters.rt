@@ -1,17 +1,16 @@
 //! The words of `rsk`.
-ghost use Rattle.std.specs.Prelude.{◌≡◌, ◌<◌, ◌+◌, ◌^◌, ◌==◌, ◌||◌, IfOk, IfErr, ℕ, List, [], ◌∷◌, Some, length, map, string_bytes};
-ghost use Rattle.sym_model.specs.Command.{Command, rsk};
-ghost use Rattle.sym_model.specs.CommandOffence.{Offence, first_offence, offences_by, letter_rule, is_outside, greatest_letter, most_letters};
-ghost use Rattle.sym_model.specs.Entry.{HasFirstOffence, SpellsWithoutOffence};
+ghost use Rattle.std.specs.Prelude.{◌≡◌, ◌<◌, ◌+◌, ◌^◌, ◌==◌, ◌||◌, IfOk, IfErr, [], ◌∷◌, Some, length, map, string_bytes};
+ghost use Rattle.sym_model.specs.CommandOffence.{first_offence, offences_by, letter_rule, is_outside, greatest_letter, most_letters};
 ghost use Rattle.sym_model.specs.Grammar.{rsk_entry};
-ghost use Rattle.sym_model.specs.SyntaxPlace.{IsSyntaxPlace};
 ghost use Rattle.sym_model.specs.WordForms.{numbers as numbers_of};
-ghost use Rattle.calc_words.specs.Reading.{IsRead, IsJudged, Accepts, Refuses, GoesWrong};
+ghost use Rattle.calc_commands.specs.Commands.{command_of};
+ghost use Rattle.calc_words.specs.Reading.{IsRead, IsJudged};
 
 use crate::numbers::value_of;
 use crate::offence::{Kind, offence, syntax};
 use crate::splitting::{behind, last_list};
 use calc_base::{Word, WordsFault};
+use calc_commands::Command;
 use std::alloc::Global;
 
 /// The most letters, and the greatest of them.
@@ -57,31 +56,21 @@ fn read_letters(alloc: Global, at: u64, words: &[String]) -> Result<Word, WordsF
     word_of(alloc, &letters[..words.len()])
 }
 
-/// Reads the words of `rsk`: that word and the letters of a word, which is the answer.
+/// Reads the words of `rsk`: that word and the letters of a word.
 ///
 /// Words that are no such command are refused as `Syntax`, at the word where they go wrong. Otherwise the first offence is
 /// refused: a letter past 2^127 - 1 as `Literal`; one that is 0 or past 65,535, and the 257th, as `Range`.
-pub fn read_rsk(alloc: Global, words: &[String]) -> Result<Word, WordsFault>
-    ensures read { IsRead (rsk_entry ∷ []) rsk (map string_bytes words.now) result }
-    ensures accepts { (command : Command) → SpellsWithoutOffence (rsk_entry ∷ []) (map string_bytes words.now) command
-        → Accepts rsk command result }
-    ensures refuses { (offence : Offence) → HasFirstOffence (rsk_entry ∷ []) (map string_bytes words.now) (Some offence)
-        → Refuses offence result }
-    ensures goes_wrong { (word byte : ℕ) → IsSyntaxPlace (rsk_entry ∷ []) (map string_bytes words.now) word byte
-        → GoesWrong word byte result }
-{
-    rsk_words(alloc, words)
-}
-
-/// The words as they are read: what follows for each command and offence, the public call says.
-fn rsk_words(alloc: Global, words: &[String]) -> Result<Word, WordsFault>
-    ensures { IsRead (rsk_entry ∷ []) rsk (map string_bytes words.now) result }
+pub fn read_rsk(alloc: Global, words: &[String]) -> Result<Command, WordsFault>
+    ensures { IsRead (rsk_entry ∷ []) command_of (map string_bytes words.now) result }
 {
     let Some(rest) = behind(words, "rsk") else {
         return Err(syntax(0));
     };
     match last_list(rest) {
-        Ok(letters) => read_letters(alloc, 1, letters),
+        Ok(letters) => {
+            let letters = read_letters(alloc, 1, letters)?;
+            Ok(Command::Rsk { letters })
+        }
         Err(left) => Err(syntax((words.len() - left) as u64)),
     }
 }

@@ -1,5 +1,4 @@
 //! The limits of what words without an offence name.
-
 ghost use Rattle.std.specs.Prelude.{ℕ, List};
 ghost use Rattle.sym_model.specs.Command.{Command};
 ghost use Rattle.sym_model.specs.Entry.{SpellsWithoutOffence};

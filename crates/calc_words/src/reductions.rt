@@ -1,31 +1,23 @@
 //! The words of `quantum` and `fusion`.
-ghost use Rattle.std.specs.Prelude.{◌≡◌, ◌≤◌, ◌<◌, ◌+◌, ◌^◌, ℕ, List, [], ◌∷◌, ◌++◌, Some, length, map, string_bytes};
-ghost use Rattle.sym_model.specs.Command.{Command};
-ghost use Rattle.sym_model.specs.CommandOffence.{Offence, first_offence, offences_by, rows_rule, factor_offences};
-ghost use Rattle.sym_model.specs.Entry.{HasFirstOffence, SpellsWithoutOffence};
+ghost use Rattle.std.specs.Prelude.{◌≡◌, ◌<◌, ◌+◌, ◌^◌, ℕ, List, [], ◌∷◌, ◌++◌, Some, length, map, string_bytes};
+ghost use Rattle.sym_model.specs.Command.{Command as PlainCommand};
+ghost use Rattle.sym_model.specs.CommandOffence.{first_offence, offences_by, rows_rule, factor_offences};
 ghost use Rattle.sym_model.specs.Form.{EachOf};
 ghost use Rattle.sym_model.specs.Grammar.{quantum_entry, fusion_entry};
-ghost use Rattle.sym_model.specs.SyntaxPlace.{IsSyntaxPlace};
 ghost use Rattle.sym_model.specs.WordForms.{numbers as numbers_of, partition};
 ghost use Rattle.calc_words.specs.NumberRuns.{IsNumber, narrow};
-ghost use Rattle.calc_words.specs.Reading.{IsRead, IsJudged, Accepts, Refuses, GoesWrong};
+ghost use Rattle.calc_commands.specs.Commands.{command_of};
+ghost use Rattle.calc_words.specs.Reading.{IsRead, IsJudged};
 ghost use Rattle.calc_words.specs.FactorWords.{next_text};
-ghost use Rattle.calc_words.specs.ReadProducts.{IsReduction, reduction_entry, quantum_of, fusion_of};
+ghost use Rattle.calc_words.specs.ReadProducts.{reduction_entry};
 
 use crate::factors::read_factors;
 use crate::lists::factor_lists;
 use crate::{behind, first_number, rows_number, syntax, value_of};
 use calc_base::WordsFault;
+use calc_commands::Command;
 use partitions::Factors;
 use std::alloc::Global;
-
-/// The factors of a product, with a number of rows, and a number of columns or a level.
-#[derive(Debug, Drop)]
-pub struct Reduction {
-    pub rows: u16,
-    pub bound: u16,
-    pub factors: Factors,
-}
 
 /// The factors that begin at the fourth word, behind these two numbers, or the first offence.
 fn read_bounded(
@@ -34,35 +26,29 @@ fn read_bounded(
     bound: Option<u128>,
     first: &[String],
     later: &[String],
-) -> Result<Reduction, WordsFault>
+) -> Result<(u16, u16, Factors), WordsFault>
     requires { 3 + length first.now + 1 + length later.now < 2 ^ 64 }
     ensures { (a b : ℕ) → rows ≡ narrow a → bound ≡ narrow b
         → (second : List (List ℕ)) (others : List (List (List ℕ))) → map string_bytes later.now ≡ second ++ next_text others
         → EachOf IsNumber second → EachOf (EachOf IsNumber) others
-        → IsJudged (IsReduction a b (partition (map string_bytes first.now) ∷ partition second ∷ map partition others))
+        → IsJudged (λ r. r ≡ (a, b, partition (map string_bytes first.now) ∷ partition second ∷ map partition others))
         (first_offence (offences_by rows_rule 1 (a ∷ []) ++ (offences_by rows_rule 2 (b ∷ [])
         ++ factor_offences 0 3 (numbers_of (map string_bytes first.now) ∷ numbers_of second ∷ map numbers_of others)))) result }
 {
-    match rows_number(1, rows) {
-        Err(fault) => Err(fault),
-        Ok(rows) => match rows_number(2, bound) {
-            Err(fault) => Err(fault),
-            Ok(bound) => match read_factors(alloc, 3, first, later) {
-                Err(fault) => Err(fault),
-                Ok(factors) => Ok(Reduction {
-                    rows,
-                    bound,
-                    factors,
-                }),
-            },
-        },
-    }
+    let rows = rows_number(1, rows)?;
+    let bound = rows_number(2, bound)?;
+    let factors = read_factors(alloc, 3, first, later)?;
+    Ok((rows, bound, factors))
 }
 
-/// The words of the command of this name.
-fn read_reduction(alloc: Global, words: &[String], name: &str) -> Result<Reduction, WordsFault>
-    ensures { (says : ℕ → ℕ → List (List ℕ) → Command)
-        → IsRead (reduction_entry name.now says ∷ []) (λ r. says r.rows r.bound r.factors) (map string_bytes words.now) result }
+/// The two numbers and the factors of the words of the command of this name.
+fn read_reduction(
+    alloc: Global,
+    words: &[String],
+    name: &str,
+) -> Result<(u16, u16, Factors), WordsFault>
+    ensures { (says : ℕ → ℕ → List (List ℕ) → PlainCommand)
+        → IsRead (reduction_entry name.now says ∷ []) (λ r. says r.0 r.1 r.2) (map string_bytes words.now) result }
 {
     let Some(rest) = behind(words, name) else {
         return Err(syntax(0));
@@ -87,28 +73,26 @@ fn read_reduction(alloc: Global, words: &[String], name: &str) -> Result<Reducti
 
 /// Reads the words of `quantum`: that word, a number of rows, a number of columns, and two to eight
 /// partitions with `-` between them. Words are refused as `read_mult` says, and a number of columns as one of rows.
-pub fn read_quantum(alloc: Global, words: &[String]) -> Result<Reduction, WordsFault>
-    ensures read { IsRead (quantum_entry ∷ []) quantum_of (map string_bytes words.now) result }
-    ensures accepts { (command : Command) → SpellsWithoutOffence (quantum_entry ∷ []) (map string_bytes words.now) command
-        → Accepts quantum_of command result }
-    ensures refuses { (offence : Offence) → HasFirstOffence (quantum_entry ∷ []) (map string_bytes words.now) (Some offence)
-        → Refuses offence result }
-    ensures goes_wrong { (word byte : ℕ) → IsSyntaxPlace (quantum_entry ∷ []) (map string_bytes words.now) word byte
-        → GoesWrong word byte result }
+pub fn read_quantum(alloc: Global, words: &[String]) -> Result<Command, WordsFault>
+    ensures { IsRead (quantum_entry ∷ []) command_of (map string_bytes words.now) result }
 {
-    read_reduction(alloc, words, "quantum")
+    let (rows, cols, factors) = read_reduction(alloc, words, "quantum")?;
+    Ok(Command::Quantum {
+        rows,
+        cols,
+        factors,
+    })
 }
 
 /// Reads the words of `fusion`: that word, a number of rows, a level, and two to eight partitions with `-` between
 /// them. Words are refused as `read_mult` says, and a level as a number of rows.
-pub fn read_fusion(alloc: Global, words: &[String]) -> Result<Reduction, WordsFault>
-    ensures read { IsRead (fusion_entry ∷ []) fusion_of (map string_bytes words.now) result }
-    ensures accepts { (command : Command) → SpellsWithoutOffence (fusion_entry ∷ []) (map string_bytes words.now) command
-        → Accepts fusion_of command result }
-    ensures refuses { (offence : Offence) → HasFirstOffence (fusion_entry ∷ []) (map string_bytes words.now) (Some offence)
-        → Refuses offence result }
-    ensures goes_wrong { (word byte : ℕ) → IsSyntaxPlace (fusion_entry ∷ []) (map string_bytes words.now) word byte
-        → GoesWrong word byte result }
+pub fn read_fusion(alloc: Global, words: &[String]) -> Result<Command, WordsFault>
+    ensures { IsRead (fusion_entry ∷ []) command_of (map string_bytes words.now) result }
 {
-    read_reduction(alloc, words, "fusion")
+    let (rows, level, factors) = read_reduction(alloc, words, "fusion")?;
+    Ok(Command::Fusion {
+        rows,
+        level,
+        factors,
+    })
 }

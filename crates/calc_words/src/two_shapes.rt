@@ -4,7 +4,6 @@ ghost use Rattle.sym_model.specs.CommandOffence.{first_offence, offences_by, row
 ghost use Rattle.sym_model.specs.Grammar.{two_partitions};
 ghost use Rattle.sym_model.specs.WordForms.{partition};
 ghost use Rattle.calc_words.specs.NumberRuns.{narrow};
-ghost use Rattle.calc_words.specs.ReadShapes.{AreShapes};
 ghost use Rattle.calc_words.specs.Reading.{IsJudged};
 
 use crate::offence::{Kind, offence};
@@ -12,14 +11,6 @@ use crate::partition_list::read_partition;
 use calc_base::WordsFault;
 use partitions::Partition;
 use std::alloc::Global;
-
-/// Two partitions, and a number of rows where one is given.
-#[derive(Debug, Drop)]
-pub struct TwoShapes {
-    pub rows: Option<u16>,
-    pub first: Partition,
-    pub second: Partition,
-}
 
 /// The greatest number of rows or columns, and the greatest level.
 const MOST_ROWS: u128 = 64;
@@ -48,24 +39,15 @@ pub fn rows_number(word: u64, number: Option<u128>) -> Result<u16, WordsFault>
 pub fn read_two(
     alloc: Global,
     at: u64,
-    rows: Option<u16>,
     first: &[String],
     second: &[String],
-) -> Result<TwoShapes, WordsFault>
+) -> Result<(Partition, Partition), WordsFault>
     requires { at + length first.now + 1 + length second.now < 2 ^ 64 }
-    ensures { IsJudged (AreShapes rows (partition (map string_bytes first.now)) (partition (map string_bytes second.now)))
+    ensures { IsJudged (λ p. p ≡ (partition (map string_bytes first.now), partition (map string_bytes second.now)))
         (first_offence (two_partitions at (map string_bytes first.now) (map string_bytes second.now))) result }
 {
     let behind = at + first.len() as u64 + 1;
-    match read_partition(alloc, at, first) {
-        Err(fault) => Err(fault),
-        Ok(first) => match read_partition(alloc, behind, second) {
-            Err(fault) => Err(fault),
-            Ok(second) => Ok(TwoShapes {
-                rows,
-                first,
-                second,
-            }),
-        },
-    }
+    let first = read_partition(alloc, at, first)?;
+    let second = read_partition(alloc, behind, second)?;
+    Ok((first, second))
 }

@@ -16,7 +16,7 @@ use Rattle.tableau_words.specs.FoundOffences.{kind_of, kind_by, left_at, is_diso
 use Rattle.calc_words.specs.NumberRuns.{narrow}
 use Rattle.calc_words.specs.PartRules.{range_or_shape}
 use Rattle.calc_words.proofs.Judging.{number_at, counted, narrow_none, narrow_some}
-use Rattle.calc_words.proofs.FirstOffences.{of_kind, first-kind, first_of_three, lowest, Behind, within}
+use Rattle.calc_words.proofs.FirstOffences.{of_kind, first-kind, first_of_three, lowest, Behind, within, or_true}
 
 -- ---- the first of the kinds of a cell
 
@@ -113,13 +113,6 @@ before_left ns (suc i) h =
     not_zero : (i : ℕ) → (suc i == 0) ≡ false
     not_zero i = grind (arith)
 
-or_swap : (x y z : Bool) → (x || (y || z)) ≡ ((x || z) || y)
-or_swap true y z = refl
-or_swap false true true = refl
-or_swap false true false = refl
-or_swap false false true = refl
-or_swap false false false = refl
-
 onto_stands : (a : ℕ) (ns heard : List ℕ) → stands_in a (onto ns heard) ≡ (stands_in a ns || stands_in a heard)
 onto_stands a [] heard = refl
 onto_stands a (b ∷ ns) heard = onto_stands a ns (b ∷ heard) ∙ moved (stands_in a ns) (a == b) (stands_in a heard)
@@ -179,12 +172,6 @@ next_place count most test at ns i kind h e =
     (ap (λ xs. first_offence (offences_after rule xs (at + i + 1) (drop (suc i) ns))) (sym (before_next ns i h))
     ∙ ap (λ n. first_offence (offences_after rule (before_of ns (i + 1)) n (drop (suc i) ns))) (let z : at + i + 1 ≡ at + (i + 1) = omega arith in z)
     ∙ ap (λ n. first_offence (offences_after rule (before_of ns (i + 1)) (at + (i + 1)) (drop n ns))) (let z : suc i ≡ i + 1 = omega arith in z))
-
-pub last_place : (rule : Rule) (at : ℕ) (ns : List ℕ) (i : ℕ) → length ns ≤ i → from_place rule at ns i ≡ None
-last_place rule at ns i h = ap (λ xs. first_offence (offences_after rule (before_of ns i) (at + i) xs)) (drop_of_length-le ns h)
-
-pub first_place : (rule : Rule) (at : ℕ) (ns : List ℕ) → first_offence (offences_by rule at ns) ≡ from_place rule at ns 0
-first_place rule at ns = let z : at ≡ at + 0 = omega arith in ap (λ n. first_offence (offences_after rule [] n ns)) z
 
 -- ---- the numbers at places of words
 
@@ -282,10 +269,6 @@ row_stands v rows i row h e =
     ∙ gathered_stands v (row ++ []) (drop (suc i) rows)
     ∙ ap (λ b. stands_in v (gathered [] (drop (suc i) rows)) || b) (stands_append v row [] ∙ or_none (stands_in v row))
     ∙ (let z : suc i ≡ i + 1 = omega arith in ap (λ n. stands_in v (gathered [] (drop n rows)) || stands_in v row) z)
-
-or_true : (b : Bool) → (b || true) ≡ true
-or_true true = refl
-or_true false = refl
 
 pub row_stands_first : (v : ℕ) (rows : List (List ℕ)) (i : ℕ) (row : List ℕ) → i < length rows → get_or rows i [] ≡ row → stands_in v row ≡ true
     → stands_in v (gathered [] (drop i rows)) ≡ true

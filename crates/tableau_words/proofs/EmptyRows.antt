@@ -5,11 +5,9 @@ use Rattle.sym_model.specs.Sum.{Among, each}
 use Rattle.sym_model.specs.ExpressionOffence.{shape}
 use Rattle.sym_model.specs.CommandOffence.{Offence, PlacedRow, first_offence, empty_row_offences}
 use Rattle.sym_model.specs.WordForms.{numbers}
+use Rattle.word_laws.specs.Words.{Words}
 use Rattle.word_laws.specs.WrittenRows.{row_text, rows_at}
 use Rattle.calc_words.proofs.FirstOffences.{first-head, no_later_word}
-
-abbrev Words : Type 0
-Words = List (List ℕ)
 
 abbrev pub empties : List PlacedRow → List Offence
 empties rows = each (λ (r : PlacedRow). cond (length r.1 == 0) ((r.0, 0, shape) ∷ []) []) rows

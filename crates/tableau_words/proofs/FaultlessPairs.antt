@@ -9,16 +9,21 @@ use Rattle.sym_model.specs.ExpressionOffence.{shape, range, literal, is_wide}
 use Rattle.sym_model.specs.CommandOffence.{Offence, first_offence, offences_by, offences_after, entry_rule, row_offences, count_offences, length_offences, empty_row_offences, order_offences, standard_offences, when, is_outside, greatest_letter, falls, stays, left_of, stands_in, entry_above, most_letters, rows_in}
 use Rattle.sym_model.specs.Grammar.{insertion_offences, filled_offences}
 use Rattle.sym_model.specs.WordForms.{numbers}
+use Rattle.sym_model.proofs.Contents.{times_in-append}
+use Rattle.sym_model.proofs.AfterLists.{length_after}
+use Rattle.sym_model.proofs.Tableaux.{length-letters_of}
+use Rattle.sym_model.proofs.Parts.{size-map_add, size-map_none}
+use Rattle.sym_model.proofs.SortedParts.{Falls_tail}
+use Rattle.calc_words.proofs.Judging.{or_both}
+use Rattle.word_laws.specs.JudgedRows.{is_no_record}
+use Rattle.word_laws.specs.Words.{Words}
 use Rattle.word_laws.specs.WrittenRows.{row_text, rows_at, left_at}
 use Rattle.word_laws.proofs.FirstOffences.{first_none}
 use Rattle.tableau_words.specs.WrittenPairs.{IsWrittenPair}
 use Rattle.tableau_words.proofs.EmptyRows.{empties}
 use Rattle.tableau_words.proofs.FaultlessRows.{faultless_letters, faultless_order, faultless_lengths}
 use Rattle.tableau_words.proofs.PairJudging.{number_lengths}
-use Rattle.calc_words.proofs.WrittenLists.{none_append, none_next, not_when, not_either, inside}
-
-abbrev Words : Type 0
-Words = List (List ℕ)
+use Rattle.calc_words.proofs.WrittenLists.{none_append, none_next, not_when, inside}
 
 -- ---- the first: lengths
 
@@ -80,10 +85,6 @@ straight k ws f p e d = record {
   order = faultless_order 0 [] [] k ws tt d;
 }
 
-falls_tail : (a : ℕ) (ls : List ℕ) → Falls (a ∷ ls) → Falls ls
-falls_tail a [] f = tt
-falls_tail a (b ∷ ls) f = f.1
-
 -- how many entries
 row_few : (count : ℕ) (before : List ℕ) (k : ℕ) (ns : List ℕ) → count + length before ≤ 256
     → offences_after (λ before a. when (count + length before == most_letters) range) before k ns ≡ [] → count + length before + length ns ≤ 256
@@ -103,10 +104,6 @@ all_few count k (w ∷ ws) l h =
     let m = all_few (count + length (numbers w)) (k + length (row_text w) + 1) ws (omega (arith, r)) n.1 in
     omega (arith, m)
 
-letters_count : (rows : List (List ℕ)) → length (letters_of rows) ≡ size (map length rows)
-letters_count [] = refl
-letters_count (row ∷ rows) = length-append row (letters_of rows) ∙ ap (λ n. length row + n) (letters_count rows)
-
 -- ---- the second: order
 
 stays_falls : (left : Option ℕ) (a : ℕ) → stays left a ≡ false → falls left a ≡ false
@@ -124,24 +121,20 @@ no_disorder cells earlier upper before k [] h = refl
 no_disorder cells earlier upper before k (a ∷ ns) h =
     let test = nat_lt cells a || stays (left_of before) a || stays (entry_above upper 0 (length before)) a || stands_in a before || stands_in a earlier in
     let n = none_next (λ before a. when (nat_lt cells a || stays (left_of before) a || stays (entry_above upper 0 (length before)) a || stands_in a before || stands_in a earlier) shape) before k a ns h in
-    let p = not_either (nat_lt cells a || stays (left_of before) a || stays (entry_above upper 0 (length before)) a || stands_in a before) (stands_in a earlier) (not_when test shape n.0) in
-    let q = not_either (nat_lt cells a || stays (left_of before) a || stays (entry_above upper 0 (length before)) a) (stands_in a before) p.0 in
-    let r = not_either (nat_lt cells a || stays (left_of before) a) (stays (entry_above upper 0 (length before)) a) q.0 in
-    let s = not_either (nat_lt cells a) (stays (left_of before) a) r.0 in
+    let p = or_both (nat_lt cells a || stays (left_of before) a || stays (entry_above upper 0 (length before)) a || stands_in a before) (stands_in a earlier) (not_when test shape n.0) in
+    let q = or_both (nat_lt cells a || stays (left_of before) a || stays (entry_above upper 0 (length before)) a) (stands_in a before) p.0 in
+    let r = or_both (nat_lt cells a || stays (left_of before) a) (stays (entry_above upper 0 (length before)) a) q.0 in
+    let s = or_both (nat_lt cells a) (stays (left_of before) a) r.0 in
     let here : part [] 1 + length before ≡ length before = omega arith in
     let z : (falls (left_of before) a || stays (entry_above upper 0 (part [] 1 + length before)) a) ≡ false =
     ap (λ b. b || stays (entry_above upper 0 (part [] 1 + length before)) a) (stays_falls (left_of before) a s.1) ∙ ap (λ m. stays (entry_above upper 0 m) a) here ∙ r.1 in
     ap (λ b. map (λ kind. (k, 0, kind)) (when b shape) ++ offences_after (λ before a. when (falls (left_of before) a || stays (entry_above upper 0 (part [] 1 + length before)) a) shape) (a ∷ before) (k + 1) ns) z
     ∙ no_disorder cells earlier upper (a ∷ before) (k + 1) ns n.1
 
-abbrev no_record : ℕ → List ℕ → List ℕ → List ℕ → ℕ → Bool
-no_record cells earlier upper before a =
-    nat_lt cells a || stays (left_of before) a || stays (entry_above upper 0 (length before)) a || stands_in a before || stands_in a earlier
-
 order_from : (cells : ℕ) (earlier upper : List ℕ) (k : ℕ) (ws : List Words) → standard_offences cells earlier upper (rows_at k ws) ≡ [] → order_offences 0 upper [] (rows_at k ws) ≡ []
 order_from cells earlier upper k [] h = refl
 order_from cells earlier upper k (w ∷ ws) h =
-    let n = none_append (offences_by (λ before a. when (no_record cells earlier upper before a) shape) k (numbers w))
+    let n = none_append (offences_by (λ before a. when (is_no_record cells earlier upper before a) shape) k (numbers w))
     (standard_offences cells (numbers w ++ earlier) (numbers w) (rows_at (k + length (row_text w) + 1) ws)) h in
     ap (λ os. os ++ order_offences 0 (numbers w) [] (rows_at (k + length (row_text w) + 1) ws)) (no_disorder cells earlier upper [] k (numbers w) n.0)
     ∙ order_from cells (numbers w ++ earlier) (numbers w) (k + length (row_text w) + 1) ws n.1
@@ -151,14 +144,10 @@ order_from cells earlier upper k (w ∷ ws) h =
 abbrev one_if : Bool → ℕ
 one_if b = cond b 1 0
 
-times_append : (x : ℕ) (xs ys : List ℕ) → times_in x (xs ++ ys) ≡ times_in x xs + times_in x ys
-times_append x [] ys = omega arith
-times_append x (a ∷ xs) ys = let e = times_append x xs ys in omega (arith, e)
-
 absent : (a : ℕ) (ns : List ℕ) → stands_in a ns ≡ false → times_in a ns ≡ 0
 absent a [] h = refl
 absent a (b ∷ ns) h =
-    let o = not_either (a == b) (stands_in a ns) h in
+    let o = or_both (a == b) (stands_in a ns) h in
     let z = absent a ns o.1 in
     let y : (b == a) ≡ false = by (b == a) refl (eqb-false a b o.0) in
     let x : one_if (b == a) ≡ 0 = ap one_if y in
@@ -172,13 +161,13 @@ abbrev Single : List ℕ → List ℕ → Type 0
 Single before earlier = (x : ℕ) → times_in x before + times_in x earlier ≤ 1
 
 row_single : (cells : ℕ) (earlier upper before : List ℕ) (k : ℕ) (ns : List ℕ) → Single before earlier
-    → offences_after (λ before a. when (no_record cells earlier upper before a) shape) before k ns ≡ []
+    → offences_after (λ before a. when (is_no_record cells earlier upper before a) shape) before k ns ≡ []
     → (x : ℕ) → times_in x ns + times_in x before + times_in x earlier ≤ 1
 row_single cells earlier upper before k [] s h x = let z = s x in omega (arith, z)
 row_single cells earlier upper before k (a ∷ ns) s h x =
-    let n = none_next (λ before a. when (no_record cells earlier upper before a) shape) before k a ns h in
-    let p = not_either (nat_lt cells a || stays (left_of before) a || stays (entry_above upper 0 (length before)) a || stands_in a before) (stands_in a earlier) (not_when (no_record cells earlier upper before a) shape n.0) in
-    let q = not_either (nat_lt cells a || stays (left_of before) a || stays (entry_above upper 0 (length before)) a) (stands_in a before) p.0 in
+    let n = none_next (λ before a. when (is_no_record cells earlier upper before a) shape) before k a ns h in
+    let p = or_both (nat_lt cells a || stays (left_of before) a || stays (entry_above upper 0 (length before)) a || stands_in a before) (stands_in a earlier) (not_when (is_no_record cells earlier upper before a) shape n.0) in
+    let q = or_both (nat_lt cells a || stays (left_of before) a || stays (entry_above upper 0 (length before)) a) (stands_in a before) p.0 in
     let next : Single (a ∷ before) earlier = λ y. one y (a == y) refl (absent a before q.1) (absent a earlier p.1) in
     let r = row_single cells earlier upper (a ∷ before) (k + 1) ns next n.1 x in
     omega (arith, r)
@@ -196,13 +185,13 @@ all_single : (cells : ℕ) (earlier upper : List ℕ) (k : ℕ) (ws : List Words
     → standard_offences cells earlier upper (rows_at k ws) ≡ [] → (x : ℕ) → times_in x (letters_of (map numbers ws)) + times_in x earlier ≤ 1
 all_single cells earlier upper k [] s h x = let z = s x in omega (arith, z)
 all_single cells earlier upper k (w ∷ ws) s h x =
-    let n = none_append (offences_by (λ before a. when (no_record cells earlier upper before a) shape) k (numbers w))
+    let n = none_append (offences_by (λ before a. when (is_no_record cells earlier upper before a) shape) k (numbers w))
     (standard_offences cells (numbers w ++ earlier) (numbers w) (rows_at (k + length (row_text w) + 1) ws)) h in
     let row : (y : ℕ) → times_in y (numbers w ++ earlier) ≤ 1 =
-    λ y. (let r = row_single cells earlier upper [] k (numbers w) (λ v. let t = s v in omega (arith, t)) n.0 y in let e = times_append y (numbers w) earlier in omega (arith, r, e)) in
+    λ y. (let r = row_single cells earlier upper [] k (numbers w) (λ v. let t = s v in omega (arith, t)) n.0 y in let e = times_in-append y (numbers w) earlier in omega (arith, r, e)) in
     let r = all_single cells (numbers w ++ earlier) (numbers w) (k + length (row_text w) + 1) ws row n.1 x in
-    let e = times_append x (numbers w) earlier in
-    let f = times_append x (numbers w) (letters_of (map numbers ws)) in
+    let e = times_in-append x (numbers w) earlier in
+    let f = times_in-append x (numbers w) (letters_of (map numbers ws)) in
     omega (arith, r, e, f)
 
 -- all of them are from 1 to the number of cells
@@ -215,14 +204,14 @@ in_append n [] ys a b = b
 in_append n (x ∷ xs) ys a b = (a.0, a.1, in_append n xs ys a.2 b)
 
 row_in : (cells : ℕ) (earlier upper before heard : List ℕ) (k m : ℕ) (ns : List ℕ) → offences_after entry_rule heard m ns ≡ []
-    → offences_after (λ before a. when (no_record cells earlier upper before a) shape) before k ns ≡ [] → AllIn cells ns
+    → offences_after (λ before a. when (is_no_record cells earlier upper before a) shape) before k ns ≡ [] → AllIn cells ns
 row_in cells earlier upper before heard k m [] e h = tt
 row_in cells earlier upper before heard k m (a ∷ ns) e h =
-    let n = none_next (λ before a. when (no_record cells earlier upper before a) shape) before k a ns h in
-    let p = not_either (nat_lt cells a || stays (left_of before) a || stays (entry_above upper 0 (length before)) a || stands_in a before) (stands_in a earlier) (not_when (no_record cells earlier upper before a) shape n.0) in
-    let q = not_either (nat_lt cells a || stays (left_of before) a || stays (entry_above upper 0 (length before)) a) (stands_in a before) p.0 in
-    let r = not_either (nat_lt cells a || stays (left_of before) a) (stays (entry_above upper 0 (length before)) a) q.0 in
-    let s = not_either (nat_lt cells a) (stays (left_of before) a) r.0 in
+    let n = none_next (λ before a. when (is_no_record cells earlier upper before a) shape) before k a ns h in
+    let p = or_both (nat_lt cells a || stays (left_of before) a || stays (entry_above upper 0 (length before)) a || stands_in a before) (stands_in a earlier) (not_when (is_no_record cells earlier upper before a) shape n.0) in
+    let q = or_both (nat_lt cells a || stays (left_of before) a || stays (entry_above upper 0 (length before)) a) (stands_in a before) p.0 in
+    let r = or_both (nat_lt cells a || stays (left_of before) a) (stays (entry_above upper 0 (length before)) a) q.0 in
+    let s = or_both (nat_lt cells a) (stays (left_of before) a) r.0 in
     let f = none_next entry_rule heard m a ns e in
     let o = none_append (when (is_wide a) literal) (when (is_outside greatest_letter a) range) f.0 in
     let i = inside greatest_letter a (not_when (is_outside greatest_letter a) range o.1) in
@@ -233,7 +222,7 @@ all_in : (cells : ℕ) (earlier upper : List ℕ) (k : ℕ) (ws : List Words) �
 all_in cells earlier upper k [] e h = tt
 all_in cells earlier upper k (w ∷ ws) e h =
     let m = k + length (row_text w) + 1 in
-    let n = none_append (offences_by (λ before a. when (no_record cells earlier upper before a) shape) k (numbers w)) (standard_offences cells (numbers w ++ earlier) (numbers w) (rows_at m ws)) h in
+    let n = none_append (offences_by (λ before a. when (is_no_record cells earlier upper before a) shape) k (numbers w)) (standard_offences cells (numbers w ++ earlier) (numbers w) (rows_at m ws)) h in
     let f = none_append (offences_by entry_rule k (numbers w)) (row_offences entry_rule (rows_at m ws)) e in
     in_append cells (numbers w) (letters_of (map numbers ws)) (row_in cells earlier upper [] [] k k (numbers w) f.0 n.0)
     (all_in cells (numbers w ++ earlier) (numbers w) m ws f.1 n.1)
@@ -268,18 +257,10 @@ place_once a (suc n) b h l = by (b == a + 1) refl (λ m. place_once (a + 1) n b 
         let z = again (omega (arith, w, h)) in
         omega (arith, y, z)
 
-size_both : (f g : ℕ → ℕ) (xs : List ℕ) → size (map (λ k. f k + g k) xs) ≡ size (map f xs) + size (map g xs)
-size_both f g [] = refl
-size_both f g (x ∷ xs) = let e = size_both f g xs in omega (arith, e)
-
-size_none : (xs : List ℕ) → size (map (λ (k : ℕ). 0) xs) ≡ 0
-size_none [] = refl
-size_none (x ∷ xs) = let e = size_none xs in omega (arith, e)
-
 content_size : (n : ℕ) (ls : List ℕ) → AllIn n ls → size (map (λ k. times_in k ls) (after 0 n)) ≡ length ls
-content_size n [] a = size_none (after 0 n)
+content_size n [] a = size-map_none (after 0 n)
 content_size n (b ∷ ls) a =
-    let e = size_both (λ k. cond (b == k) 1 0) (λ k. times_in k ls) (after 0 n) in
+    let e = size-map_add (λ k. cond (b == k) 1 0) (λ k. times_in k ls) (after 0 n) in
     let p = place_once 0 n b (omega (arith, a.0)) (omega (arith, a.1)) in
     let r = content_size n ls a.2 in
     omega (arith, e, p, r)
@@ -303,13 +284,9 @@ at_most : (f : ℕ → ℕ) → ((x : ℕ) → f x ≤ 1) → (xs : List ℕ) �
 at_most f h [] = tt
 at_most f h (x ∷ xs) = (h x, at_most f h xs)
 
-after_length : (a n : ℕ) → length (after a n) ≡ n
-after_length a zero = refl
-after_length a (suc n) = ap suc (after_length (a + 1) n)
-
 each_once : (n : ℕ) (ls : List ℕ) → length ls ≡ n → AllIn n ls → ((x : ℕ) → times_in x ls ≤ 1) → content n ls ≡ replicate n 1
 each_once n ls l a o =
-    let m = length-map (after 0 n) (λ k. times_in k ls) ∙ after_length 0 n in
+    let m = length-map (after 0 n) (λ k. times_in k ls) ∙ length_after 0 n in
     let s = content_size n ls a in
     all_ones (content n ls) (at_most (λ k. times_in k ls) o (after 0 n)) (omega (arith, m, s, l)) ∙ ap (λ c. replicate c 1) m
 
@@ -348,15 +325,15 @@ both_fine : (k : ℕ) (w : Words) (ws second : List Words) (n : ℕ) → inserti
 both_fine k w ws second n h r l m e f =
     let first = w ∷ ws in
     let p = insertion_parts 1 w ws h in
-    let falls = falls_tail (length (numbers w)) (map length (map numbers first)) (twice (length (numbers w)) (map length (map numbers ws)) (lengths_fall (numbers w) (1 + length (row_text w) + 1) ws p.2)) in
+    let falls = Falls_tail (length (numbers w)) (map length (map numbers first)) (twice (length (numbers w)) (map length (map numbers ws)) (lengths_fall (numbers w) (1 + length (row_text w) + 1) ws p.2)) in
     let positive = first_positive 1 w ws e p.3 in
     let one = straight 1 first falls positive p.0 p.4 in
     let other = straight k second (subst Falls (sym l) falls) (subst ArePositive (sym l) positive) r.entries (order_from n [] [] k second r.stands) in
-    let count : length (letters_of (map numbers second)) ≡ n = letters_count (map numbers second) ∙ ap size l ∙ sym m in
+    let count : length (letters_of (map numbers second)) ≡ n = length-letters_of (map numbers second) ∙ ap size l ∙ sym m in
     let single : (x : ℕ) → times_in x (letters_of (map numbers second)) ≤ 1 = λ x. (let z = all_single n [] [] k second (λ y. omega arith) r.stands x in omega (arith, z)) in
     let within = subst (λ c. AllIn c (letters_of (map numbers second))) (sym count) (all_in n [] [] k second r.entries r.stands) in
     let few = all_few 0 1 first (omega arith) p.1 in
-    let letters = letters_count (map numbers first) in
+    let letters = length-letters_of (map numbers first) in
     subst (λ q. IsWrittenPair (rows_in [] (map numbers first)) q) (sym f)
     (subst (λ q. IsWrittenPair q (map numbers second)) (sym e)
     (record {

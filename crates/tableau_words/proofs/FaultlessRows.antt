@@ -10,11 +10,12 @@ use Rattle.sym_model.specs.Tableau.{are_letters}
 use Rattle.sym_model.specs.ExpressionOffence.{shape, literal, range, is_wide}
 use Rattle.sym_model.specs.CommandOffence.{Offence, offences_by, offences_after, entry_rule, row_offences, order_offences, when, is_outside, greatest_letter, falls, stays, left_of, entry_above}
 use Rattle.sym_model.specs.WordForms.{numbers}
+use Rattle.sym_model.proofs.Parts.{part-drop}
+use Rattle.calc_words.proofs.Judging.{or_both}
+use Rattle.word_laws.specs.JudgedRows.{is_disordered}
+use Rattle.word_laws.specs.Words.{Words}
 use Rattle.word_laws.specs.WrittenRows.{row_text, rows_at, left_at, left_behind}
-use Rattle.calc_words.proofs.WrittenLists.{none_append, none_next, not_when, not_either, inside}
-
-abbrev Words : Type 0
-Words = List (List ℕ)
+use Rattle.calc_words.proofs.WrittenLists.{none_append, none_next, not_when, inside}
 
 -- ---- letters
 
@@ -45,9 +46,6 @@ faultless_letters k (w ∷ ws) h =
 
 -- ---- rows and columns
 
-abbrev disorder : ℕ → List ℕ → ℕ → List ℕ → ℕ → Bool
-disorder c upper d before a = falls (left_of before) a || stays (entry_above upper c (d + length before)) a
-
 not_less : (a b : ℕ) → nat_lt a b ≡ false → nat_le b a ≡ true
 not_less a b h = le-leb b a (ltb-false a b h)
 
@@ -55,17 +53,17 @@ not_most : (a b : ℕ) → nat_le a b ≡ false → nat_lt b a ≡ true
 not_most a b h = lt-ltb b a (leb-false a b h)
 
 rises_after : (c : ℕ) (upper : List ℕ) (d b : ℕ) (before : List ℕ) (k : ℕ) (ns : List ℕ)
-    → offences_after (λ before a. when (disorder c upper d before a) shape) (b ∷ before) k ns ≡ [] → row_rises (b ∷ ns) ≡ true
+    → offences_after (λ before a. when (is_disordered c upper d before a) shape) (b ∷ before) k ns ≡ [] → row_rises (b ∷ ns) ≡ true
 rises_after c upper d b before k [] h = refl
 rises_after c upper d b before k (a ∷ ns) h =
-    let n = none_next (λ before a. when (disorder c upper d before a) shape) (b ∷ before) k a ns h in
-    let o = not_either (nat_lt a b) (stays (entry_above upper c (d + length (b ∷ before))) a) (not_when (disorder c upper d (b ∷ before) a) shape n.0) in
+    let n = none_next (λ before a. when (is_disordered c upper d before a) shape) (b ∷ before) k a ns h in
+    let o = or_both (nat_lt a b) (stays (entry_above upper c (d + length (b ∷ before))) a) (not_when (is_disordered c upper d (b ∷ before) a) shape n.0) in
     ap (λ x. x && row_rises (a ∷ ns)) (not_less a b o.0) ∙ rises_after c upper d a (b ∷ before) (k + 1) ns n.1
 
-row_fine : (c : ℕ) (upper : List ℕ) (d k : ℕ) (ns : List ℕ) → offences_by (λ before a. when (disorder c upper d before a) shape) k ns ≡ [] → row_rises ns ≡ true
+row_fine : (c : ℕ) (upper : List ℕ) (d k : ℕ) (ns : List ℕ) → offences_by (λ before a. when (is_disordered c upper d before a) shape) k ns ≡ [] → row_rises ns ≡ true
 row_fine c upper d k [] h = refl
 row_fine c upper d k (a ∷ ns) h =
-    let n = none_next (λ before a. when (disorder c upper d before a) shape) [] k a ns h in rises_after c upper d a [] (k + 1) ns n.1
+    let n = none_next (λ before a. when (is_disordered c upper d before a) shape) [] k a ns h in rises_after c upper d a [] (k + 1) ns n.1
 
 -- an entry below one of the row above
 below_one : (upper : List ℕ) (j a : ℕ) (rest : Bool) → stays (slice_get upper j) a ≡ false
@@ -75,7 +73,7 @@ below_one (u ∷ upper) zero a rest h r b e l = ap (λ x. x && rest) (ap (λ y. 
 below_one (u ∷ upper) (suc j) a rest h r b e l = below_one upper j a rest h (λ m. r l) b e (omega (arith, l))
 
 columns_on : (c : ℕ) (upper : List ℕ) (d : ℕ) (before : List ℕ) (k : ℕ) (ns : List ℕ) → d ≤ c → c - d ≤ length before
-    → offences_after (λ before a. when (disorder c upper d before a) shape) before k ns ≡ []
+    → offences_after (λ before a. when (is_disordered c upper d before a) shape) before k ns ≡ []
     → columns_rise (drop (length before - (c - d)) upper) ns ≡ true
 columns_on c upper d before k [] h l e = none (drop (length before - (c - d)) upper)
   where
@@ -83,8 +81,8 @@ columns_on c upper d before k [] h l e = none (drop (length before - (c - d)) up
     none [] = refl
     none (x ∷ xs) = refl
 columns_on c upper d before k (a ∷ ns) h l e =
-    let n = none_next (λ before a. when (disorder c upper d before a) shape) before k a ns e in
-    let o = not_either (falls (left_of before) a) (stays (entry_above upper c (d + length before)) a) (not_when (disorder c upper d before a) shape n.0) in
+    let n = none_next (λ before a. when (is_disordered c upper d before a) shape) before k a ns e in
+    let o = or_both (falls (left_of before) a) (stays (entry_above upper c (d + length before)) a) (not_when (is_disordered c upper d before a) shape n.0) in
     let j = length before - (c - d) in
     let above : entry_above upper c (d + length before) ≡ slice_get upper j =
     ap (λ b. cond b (slice_get upper (d + length before - c)) None) (le-leb c (d + length before) (omega (arith, h, l)))
@@ -110,7 +108,7 @@ columns_on c upper d before k (a ∷ ns) h l e =
         split false q = past j (ltb-false j (length upper) q)
 
 columns_from : (c : ℕ) (upper : List ℕ) (d : ℕ) (before : List ℕ) (k : ℕ) (ns : List ℕ) → d ≤ c → length before ≤ c - d
-    → offences_after (λ before a. when (disorder c upper d before a) shape) before k ns ≡ []
+    → offences_after (λ before a. when (is_disordered c upper d before a) shape) before k ns ≡ []
     → columns_rise upper (drop (c - d - length before) ns) ≡ true
 columns_from c upper d before k [] h l e =
     ap (columns_rise upper) (drop_of_length-le [] (omega arith)) ∙ none upper
@@ -120,7 +118,7 @@ columns_from c upper d before k [] h l e =
     none (x ∷ xs) = refl
 columns_from c upper d before k (a ∷ ns) h l e =
     by (nat_lt (length before) (c - d)) refl
-    (λ m. columns_from c upper d (a ∷ before) (k + 1) ns h m (none_next (λ before a. when (disorder c upper d before a) shape) before k a ns e).1)
+    (λ m. columns_from c upper d (a ∷ before) (k + 1) ns h m (none_next (λ before a. when (is_disordered c upper d before a) shape) before k a ns e).1)
   where
     here : (i : ℕ) → length before ≡ c - d → i ≡ 0 → columns_rise upper (drop i (a ∷ ns)) ≡ true
     here i q z =
@@ -141,10 +139,6 @@ columns_from c upper d before k (a ∷ ns) h l e =
         let m = ltb-false (length before) (c - d) q in
         here (c - d - length before) (omega (arith, m, l)) (omega (arith, m, l))
 
-second_part : (xs : List ℕ) → part (drop 1 xs) 1 ≡ part xs 2
-second_part [] = refl
-second_part (x ∷ xs) = refl
-
 falling_next : (xs : List ℕ) → Falls xs → part (drop 1 xs) 1 ≤ part xs 1
 falling_next [] f = omega arith
 falling_next (x ∷ []) f = omega arith
@@ -160,17 +154,17 @@ pub faultless_order : (c : ℕ) (upper inner : List ℕ) (k : ℕ) (ws : List Wo
 faultless_order c upper inner k [] f h = refl
 faultless_order c upper inner k (w ∷ []) f h =
     row_fine c upper (part inner 1) k (numbers w)
-    (none_append (offences_by (λ before a. when (disorder c upper (part inner 1) before a) shape) k (numbers w)) [] h).0
+    (none_append (offences_by (λ before a. when (is_disordered c upper (part inner 1) before a) shape) k (numbers w)) [] h).0
 faultless_order c upper inner k (w ∷ v ∷ ws) f h =
     let m = k + length (row_text w) + 1 in
     let d = part inner 1 in
     let e = part (drop 1 inner) 1 in
-    let p = none_append (offences_by (λ before a. when (disorder c upper d before a) shape) k (numbers w)) (order_offences d (numbers w) (drop 1 inner) (rows_at m (v ∷ ws))) h in
-    let q = none_append (offences_by (λ before a. when (disorder d (numbers w) e before a) shape) m (numbers v))
+    let p = none_append (offences_by (λ before a. when (is_disordered c upper d before a) shape) k (numbers w)) (order_offences d (numbers w) (drop 1 inner) (rows_at m (v ∷ ws))) h in
+    let q = none_append (offences_by (λ before a. when (is_disordered d (numbers w) e before a) shape) m (numbers v))
     (order_offences e (numbers v) (drop 1 (drop 1 inner)) (rows_at (m + length (row_text v) + 1) ws)) p.1 in
     all (row_rises (numbers w)) (columns_rise (numbers w) (drop (d - part inner 2) (numbers v))) (semistandard (drop 1 inner) (map numbers (v ∷ ws)))
     (row_fine c upper d k (numbers w) p.0)
-    (ap (λ n. columns_rise (numbers w) (drop n (numbers v))) (ap (λ x. d - x) (sym (second_part inner)) ∙ (let z : d - e ≡ d - e - 0 = omega arith in z))
+    (ap (λ n. columns_rise (numbers w) (drop n (numbers v))) (ap (λ x. d - x) (sym (part-drop inner)) ∙ (let z : d - e ≡ d - e - 0 = omega arith in z))
     ∙ columns_from d (numbers w) e [] m (numbers v) (falling_next inner f) (omega arith) q.0)
     (faultless_order d (numbers w) (drop 1 inner) m (v ∷ ws) (falls_next inner f) p.1)
   where

@@ -1,14 +1,10 @@
 -- The numbers of an inner partition, judged against an outer one.
-use Rattle.std.proofs.Common.{◌≡◌, ℕ, suc, ◌+◌, ◌^◌, ◌<◌, nat_lt, Bool, true, false, cond, List, [], ◌∷◌, ◌++◌, map, length, drop, get_or, drop-cons, refl, sym, ap, ◌∙◌, arith, Option, Some, None, Err}
+use Rattle.std.proofs.Common.{◌≡◌, ℕ, suc, ◌+◌, ◌^◌, ◌<◌, nat_lt, Bool, true, false, cond, List, [], ◌∷◌, ◌++◌, map, length, drop, get_or, drop-cons, refl, sym, ap, ◌∙◌, arith, Option, Some, None}
 use Rattle.std.proofs.lemmas.Bool.{lt-ltb, leb-true}
 use Rattle.sym_model.specs.Partition.{part}
 use Rattle.sym_model.specs.ExpressionOffence.{shape}
 use Rattle.sym_model.specs.CommandOffence.{Offence, first_offence, offences_after, inside_rule, when}
-use Rattle.calc_base.specs.declared.words.WordsFault.{WordsFault}
-use Rattle.calc_base.specs.declared.words.WordsFault.TheVariants.{Syntax, Literal, Range, Shape, NoMemory}
 use Rattle.calc_words.specs.NumberRuns.{narrow}
-use Rattle.calc_words.specs.Reading.{IsJudged}
-use Rattle.tableau_words.specs.RefusedFirst.{IsRefusalOf}
 use Rattle.tableau_words.proofs.CellJudging.{before_of, before_next, before_length, from_place}
 use Rattle.calc_words.proofs.FirstOffences.{of_kind, first-kind, Behind, within}
 use Rattle.calc_words.proofs.Judging.{narrow_none}
@@ -33,20 +29,3 @@ inside_next o at ns i b h e =
     (ap (λ xs. first_offence (offences_after rule xs (at + i + 1) (drop (suc i) ns))) (sym (before_next ns i h))
     ∙ ap (λ n. first_offence (offences_after rule (before_of ns (i + 1)) n (drop (suc i) ns))) (let z : at + i + 1 ≡ at + (i + 1) = omega arith in z)
     ∙ ap (λ n. first_offence (offences_after rule (before_of ns (i + 1)) (at + (i + 1)) (drop n ns))) (let z : suc i ≡ i + 1 = omega arith in z))
-
-pub exceeds_wide : (a p : ℕ) → narrow a ≡ None → p < 2 ^ 16 → true ≡ nat_lt p a
-exceeds_wide a p n h = let w = leb-true (2 ^ 127) a (narrow_none a n) in sym (lt-ltb p a (omega (arith, w, h)))
-
-pub refusal_judged : {A : Type 0} (P : A → Type 0) (first : Option Offence) (fault : WordsFault) → IsRefusalOf first fault → IsJudged P first (Err fault)
-refusal_judged P first (Syntax at) h = h
-refusal_judged P first (Literal at) h = h
-refusal_judged P first (Range at) h = h
-refusal_judged P first (Shape at) h = h
-refusal_judged P first NoMemory h = h
-
-pub judged_refusal : {A : Type 0} (P : A → Type 0) (first : Option Offence) (fault : WordsFault) → IsJudged P first (Err fault) → IsRefusalOf first fault
-judged_refusal P first (Syntax at) h = h
-judged_refusal P first (Literal at) h = h
-judged_refusal P first (Range at) h = h
-judged_refusal P first (Shape at) h = h
-judged_refusal P first NoMemory h = h

@@ -11,3 +11,4 @@ pub mod SkewTableaux
 pub mod FaultlessPairs
 pub mod TabStanding
 pub mod TabJudging
+mod ReadTableaux

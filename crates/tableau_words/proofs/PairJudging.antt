@@ -1,5 +1,5 @@
 -- The first offence of two tableaux that are a pair.
-use Rattle.std.proofs.Common.{◌≡◌, ℕ, ◌+◌, ◌<◌, ◌≤◌, ◌==◌, min, Bool, true, false, cond, List, [], ◌∷◌, ◌++◌, map, length, length-append, refl, sym, ap, ◌∙◌, subst, arith, Option, Some, None, Result, Err, ◌⊎◌, inl, inr}
+use Rattle.std.proofs.Common.{◌≡◌, ℕ, ◌+◌, ◌<◌, ◌≤◌, ◌==◌, min, Bool, true, false, cond, List, [], ◌∷◌, ◌++◌, map, length, length-append, refl, sym, ap, ◌∙◌, subst, arith, Option, Some, None, Result, ◌⊎◌, inl, inr}
 use Rattle.std.specs.Prelude.{codes}
 use Rattle.std.proofs.lemmas.List.{length-map, append-nil}
 use Rattle.sym_model.specs.Sum.{Among}
@@ -13,6 +13,7 @@ use Rattle.sym_model.specs.CommandOffence.{Offence, PlacedRow, first_offence, of
 use Rattle.sym_model.specs.Grammar.{insertion_offences, filled_offences, unrsk_entry, unrsk_offends}
 use Rattle.sym_model.specs.WordForms.{tableau_words, numbers, placed_rows, tableau_rows, shape_offences}
 use Rattle.sym_model.specs.Form.{words_of}
+use Rattle.word_laws.specs.Words.{Words}
 use Rattle.word_laws.proofs.FirstOffences.{first-among, first_none}
 use Rattle.word_laws.specs.WrittenRows.{row_text, further_text, rows_text, tableau_written, rows_at, left_at}
 use Rattle.word_laws.specs.JudgedRows.{earlier, inserted, recorded, cell_rule, is_disordered}
@@ -27,7 +28,7 @@ use Rattle.calc_words.specs.Faults.{fault_of}
 use Rattle.calc_words.specs.declared.offence.Kind.{Kind}
 use Rattle.calc_words.specs.declared.offence.Kind.TheVariants.{Literal, Range, Shape}
 use Rattle.calc_words.specs.NumberRuns.{IsNumber}
-use Rattle.calc_words.specs.Reading.{IsJudged, IsRead}
+use Rattle.calc_words.specs.Reading.{IsJudged, IsRead, IsFirst}
 use Rattle.tableau_words.specs.TableauWords.{AreTwoTableaux}
 use Rattle.tableau_words.specs.ReadTableaux.{AreFillings, word_of_pair, second_rows_of}
 use Rattle.tableau_words.specs.declared.pairs.TwoFillings.{TwoFillings}
@@ -36,9 +37,6 @@ use Rattle.tableau_words.proofs.EmptyRows.{empties}
 use Rattle.calc_words.proofs.FirstOffences.{within, no_later_word}
 use Rattle.calc_words.proofs.WrittenLists.{none_append, none_next, none_judged, not_when, inside}
 use Rattle.tableau_words.proofs.WrittenTableaux.{written_words, written_may, written_rows, written_entries}
-
-abbrev Words : Type 0
-Words = List (List ℕ)
 
 numbers_fit : (w : Words) → length (numbers w) ≤ length (row_text w)
 numbers_fit [] = omega arith
@@ -49,7 +47,7 @@ numbers_fit (t ∷ w) = let e = length-map w decimal_value in omega (arith, e)
 abbrev pub After : ℕ → List Offence → Type 0
 After k os = (p : Offence) → Among p os → k ≤ p.0
 
-after_append : (k : ℕ) (xs ys : List Offence) → After k xs → After k ys → After k (xs ++ ys)
+pub after_append : (k : ℕ) (xs ys : List Offence) → After k xs → After k ys → After k (xs ++ ys)
 after_append k xs ys a b p m = by (Among_from_append p xs ys m)
   where
     by : Among p xs ⊎ Among p ys → k ≤ p.0
@@ -221,14 +219,14 @@ recording_first cells rows lefts =
 
 -- ---- refusals and answers
 
-pub found_judged : {A : Type 0} (P : A → Type 0) (first : Option Offence) (f : Found) (fault : WordsFault) → first ≡ Some (offence_of f) → fault ≡ fault_of f.word f.kind
-    → IsJudged P first (Err fault)
-found_judged P first f fault e h = subst (λ x. IsJudged P first (Err x)) (sym h) (by f.kind refl)
+pub found_judged : (first : Option Offence) (f : Found) (fault : WordsFault) → first ≡ Some (offence_of f) → fault ≡ fault_of f.word f.kind
+    → IsFirst first fault
+found_judged first f fault e h = subst (λ x. IsFirst first x) (sym h) (by f.kind refl)
   where
-    by : (k : Kind) → f.kind ≡ k → IsJudged P first (Err (fault_of f.word f.kind))
-    by Literal g = subst (λ x. IsJudged P first (Err (fault_of f.word x))) (sym g) (e ∙ ap (λ x. Some (offence_of (record { word = f.word; kind = x }))) g)
-    by Range g = subst (λ x. IsJudged P first (Err (fault_of f.word x))) (sym g) (e ∙ ap (λ x. Some (offence_of (record { word = f.word; kind = x }))) g)
-    by Shape g = subst (λ x. IsJudged P first (Err (fault_of f.word x))) (sym g) (e ∙ ap (λ x. Some (offence_of (record { word = f.word; kind = x }))) g)
+    by : (k : Kind) → f.kind ≡ k → IsFirst first (fault_of f.word f.kind)
+    by Literal g = subst (λ x. IsFirst first (fault_of f.word x)) (sym g) (e ∙ ap (λ x. Some (offence_of (record { word = f.word; kind = x }))) g)
+    by Range g = subst (λ x. IsFirst first (fault_of f.word x)) (sym g) (e ∙ ap (λ x. Some (offence_of (record { word = f.word; kind = x }))) g)
+    by Shape g = subst (λ x. IsFirst first (fault_of f.word x)) (sym g) (e ∙ ap (λ x. Some (offence_of (record { word = f.word; kind = x }))) g)
 
 small_row : (before : List ℕ) (k : ℕ) (ns : List ℕ) → offences_after entry_rule before k ns ≡ [] → map at_most_entry ns ≡ ns
 small_row before k [] h = refl

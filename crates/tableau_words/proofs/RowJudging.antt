@@ -10,14 +10,12 @@ use Rattle.sym_model.specs.ExpressionOffence.{shape}
 use Rattle.sym_model.specs.PrintedBlock.{decimal_value}
 use Rattle.sym_model.specs.CommandOffence.{Offence, Rule, first_offence, offences_by}
 use Rattle.sym_model.specs.WordForms.{numbers}
+use Rattle.word_laws.specs.Words.{Words}
 use Rattle.word_laws.specs.WrittenRows.{row_text, further_text, rows_at, left_behind, left_at}
 use Rattle.word_laws.specs.JudgedRows.{cell_rule, is_disordered, is_no_record, inserted, recorded, skewed}
 use Rattle.tableau_words.specs.declared.found.Found.{Found}
 use Rattle.tableau_words.specs.FoundOffences.{offence_of, found_of, gathered}
 use Rattle.calc_words.proofs.FirstOffences.{within, first-append, none-append}
-
-abbrev Words : Type 0
-Words = List (List ℕ)
 
 -- the next of rows
 pub rows_next : {A : Type 0} (f : A → Words) (xs : List A) (i : ℕ) (x : A) → i < length xs → x ≡ get_or xs i x
@@ -158,9 +156,6 @@ pub part_past : (xs : List ℕ) (i : ℕ) → length xs ≤ i → 0 ≡ part (dr
 part_past xs i h = sym (ap (λ ys. part ys 1) (drop_of_length-le xs h))
 
 -- ---- where rows leave a shape
-
-abbrev fits : ℕ → ℕ → Bool
-fits l n = l == n
 
 pub left_misses : (k n : ℕ) (ls : List ℕ) (w : Words) (ws : List Words) → (length w ≡ n → ⊥)
     → first_offence (left_at k (n ∷ ls) (w ∷ ws)) ≡ Some (k + min n (length w), 0, shape)

@@ -5,6 +5,7 @@ use Rattle.std.proofs.lemmas.List.{append-nil}
 use Rattle.sym_model.specs.Polynomial.{same}
 use Rattle.sym_model.specs.Form.{Form, empty, sequence, EachOf, is_number_word, derivatives, awaits_next}
 use Rattle.sym_model.specs.WordForms.{the, partition_words, row_words, tableau_words}
+use Rattle.word_laws.specs.Words.{Words}
 use Rattle.word_laws.specs.Reading.{is_expression}
 use Rattle.word_laws.specs.WrittenRows.{row_text, further_text, rows_text}
 use Rattle.calc_words.specs.NumberRuns.{IsNumber, BeginsOtherwise}
@@ -14,9 +15,6 @@ use Rattle.tableau_words.specs.WordRows.{IsWrongRows, IsWrongFor}
 use Rattle.tableau_words.specs.declared.row_words.RowsFault.{RowsFault}
 use Rattle.tableau_words.specs.declared.row_words.RowsFault.TheVariants.{Wrong, NoMemory}
 use Rattle.calc_words.proofs.Standing.{Refuses, step, wrong_here, not_number, not_same, no_number_before, wrong_the, behind_the, behind_separator}
-
-abbrev Words : Type 0
-Words = List (List ℕ)
 
 number_is_no : (text t : List ℕ) → is_number_word text ≡ false → IsNumber t → same text t ≡ false
 number_is_no text t n h = not_same text t (λ e. let z : true ≡ false = sym h ∙ ap is_number_word e ∙ n in cc)
@@ -122,9 +120,6 @@ dot_awaits (Some g) = refl
 first_next : (c : Option Form) (t : List ℕ) → IsNumber t → derivatives is_expression (followed c tableau_words) t ≡ followed c numbers_left ∷ []
 first_next None t h = tableau_next None t false true (number_is_no (codes ".") t refl h) h
 first_next (Some g) t h = tableau_next (Some g) t false true (number_is_no (codes ".") t refl h) h
-
-first_awaits : (c : Option Form) → awaits_next (followed c numbers_left) ≡ awaits_next (followed c (sequence partition_words further_rows))
-first_awaits c = numbers_await c
 
 pub behind_row : (c : Option Form) → Follows c → (row rest : Words) (left : ℕ) → EachOf IsNumber row → RowEnds row rest
     → WrongAt (followed c further_rows) rest left → WrongAt (followed c tableau_words) (row_text row ++ rest) left
@@ -262,23 +257,6 @@ second_faulty rows rest words more NoMemory r s e h = tt
 pub too_many_rows : (rows : List Words) (rest words : Words) → AreRowsFirst rows rest words → BeginsOtherwise (λ t. t ≡ codes "/") rest → 0 < length rest
     → WrongAt tableau_words words (length rest)
 too_many_rows rows rest words r s l = r.goes_on None (length rest) tt (wrong_behind_rows rest s l)
-
-pub only_rows : (rows : List Words) (rest words : Words) → AreRowsFirst rows rest words → rest ≡ [] → AreRows rows words
-only_rows rows rest words r e = record {
-  words_are = r.words_are ∙ ap (λ ws. rows_text rows ++ ws) e ∙ append-nil (rows_text rows);
-  some = r.some;
-  numbers = r.numbers;
-}
-
-pub both_tableaux : (rows : List Words) (rest words more : Words) (second : List Words) → AreRowsFirst rows rest words → rest ≡ codes "-" ∷ more → AreRows second more
-    → AreTwoTableaux rows second words
-both_tableaux rows rest words more second r e k = record {
-  words_are = r.words_are ∙ ap (λ ws. rows_text rows ++ ws) (e ∙ ap (λ ws. codes "-" ∷ ws) k.words_are);
-  first_some = r.some;
-  first_numbers = r.numbers;
-  second_some = k.some;
-  second_numbers = k.numbers;
-}
 
 -- a list of numbers, a word, and rows behind it
 pub separator_faulty : (text : List ℕ) (g : Form) (words ns rest more : Words) (fault : RowsFault) → is_number_word text ≡ false → words ≡ ns ++ rest → EachOf IsNumber ns

@@ -1,5 +1,5 @@
 -- The first offence of two shapes and a tableau.
-use Rattle.std.proofs.Common.{◌≡◌, ℕ, zero, suc, ◌+◌, ◌-◌, ◌<◌, ◌≤◌, ◌||◌, nat_lt, get_or, ◌⊎◌, inl, inr, List, [], ◌∷◌, ◌++◌, map, length, drop, refl, sym, ap, ◌∙◌, subst, arith, Option, Some, None, Result, Err}
+use Rattle.std.proofs.Common.{◌≡◌, ℕ, zero, suc, ◌+◌, ◌-◌, ◌<◌, ◌≤◌, ◌||◌, nat_lt, get_or, ◌⊎◌, inl, inr, List, [], ◌∷◌, ◌++◌, map, length, drop, refl, sym, ap, ◌∙◌, subst, arith, Option, Some, None, Result}
 use Rattle.std.specs.Prelude.{codes}
 use Rattle.std.proofs.lemmas.List.{length-map, append-nil}
 use Rattle.sym_model.specs.Sum.{each, Among}
@@ -13,6 +13,8 @@ use Rattle.sym_model.specs.Command.{rect}
 use Rattle.sym_model.specs.CommandOffence.{Offence, PlacedRow, first_offence, offences_by, offences_after, part_offences, part_rule, inside_rule, judged_against, entry_rule, row_offences, order_offences, when, falls, stays, left_of, entry_above, rows_in}
 use Rattle.sym_model.specs.Grammar.{rect_entry, rect_offends, inner_offences}
 use Rattle.sym_model.specs.WordForms.{tableau_words, numbers, partition, placed_rows, shape_offences}
+use Rattle.sym_model.proofs.Parts.{get_or-without_last_zeros, part-in_front}
+use Rattle.word_laws.specs.Words.{Words}
 use Rattle.word_laws.proofs.FirstOffences.{first-among, first_none}
 use Rattle.word_laws.specs.WrittenRows.{rows_text, tableau_written, rows_at, left_at}
 use Rattle.word_laws.specs.JudgedRows.{earlier, skewed}
@@ -29,11 +31,8 @@ use Rattle.tableau_words.specs.declared.skew_tableaux.SkewRows.{SkewRows}
 use Rattle.calc_words.proofs.Commands.{read_judged, may_be, singles}
 use Rattle.calc_words.proofs.FirstOffences.{within}
 use Rattle.calc_words.proofs.WrittenLists.{none_append, none_judged}
-use Rattle.tableau_words.proofs.PairJudging.{After, entries_after, earlier_word, some_judged, left_shape_of, map_twice}
+use Rattle.tableau_words.proofs.PairJudging.{After, entries_after, earlier_word, some_judged, left_shape_of, map_twice, after_append}
 use Rattle.tableau_words.proofs.WrittenTableaux.{written_words, written_may, written_rows, written_entries}
-
-abbrev Words : Type 0
-Words = List (List ℕ)
 
 -- ---- the rows
 
@@ -73,11 +72,6 @@ no_entry_skew k outer inner rows h =
 
 -- ---- zeros at the end of a partition as it is written
 
-first_part : (a : ℕ) (xs : List ℕ) → part (in_front a xs) 1 ≡ a
-first_part zero [] = refl
-first_part zero (x ∷ xs) = refl
-first_part (suc a) xs = refl
-
 other_parts : (a : ℕ) (xs : List ℕ) → drop 1 (in_front a xs) ≡ xs
 other_parts zero [] = refl
 other_parts zero (x ∷ xs) = refl
@@ -90,24 +84,13 @@ order_same c upper (a ∷ xs) (row ∷ rows) =
     let more = λ (p : ℕ) (ys : List ℕ).
     offences_by (λ before b. when (falls (left_of before) b || stays (entry_above upper c (p + length before)) b) shape) row.0 row.1
     ++ order_offences p row.1 ys rows in
-    ap (λ p. more p (drop 1 (in_front a (without_last_zeros xs)))) (first_part a (without_last_zeros xs))
+    ap (λ p. more p (drop 1 (in_front a (without_last_zeros xs)))) (part-in_front a (without_last_zeros xs))
     ∙ ap (more a) (other_parts a (without_last_zeros xs))
     ∙ ap (λ os. offences_by (λ before b. when (falls (left_of before) b || stays (entry_above upper c (a + length before)) b) shape) row.0 row.1 ++ os)
     (order_same a row.1 xs rows)
 
-front_get : (a : ℕ) (xs : List ℕ) (j : ℕ) → get_or (in_front a xs) j 0 ≡ get_or (a ∷ xs) j 0
-front_get zero [] zero = refl
-front_get zero [] (suc j) = refl
-front_get zero (x ∷ xs) j = refl
-front_get (suc a) xs j = refl
-
-pub get_same : (xs : List ℕ) (j : ℕ) → get_or (without_last_zeros xs) j 0 ≡ get_or xs j 0
-get_same [] j = refl
-get_same (a ∷ xs) zero = front_get a (without_last_zeros xs) zero
-get_same (a ∷ xs) (suc j) = front_get a (without_last_zeros xs) (suc j) ∙ get_same xs j
-
 part_same : (xs : List ℕ) (j : ℕ) → part (without_last_zeros xs) (j + 1) ≡ part xs (j + 1)
-part_same xs j = get_same xs (j + 1 - 1)
+part_same xs j = get_or-without_last_zeros xs (j + 1 - 1)
 
 inside_same : (xs before : List ℕ) (k : ℕ) (ns : List ℕ) → offences_after (inside_rule (without_last_zeros xs)) before k ns ≡ offences_after (inside_rule xs) before k ns
 inside_same xs before k [] = refl
@@ -116,14 +99,6 @@ inside_same xs before k (a ∷ ns) =
     ∙ ap (λ os. map (λ kind. (k, 0, kind)) (when (nat_lt (part xs (length before + 1)) a) shape) ++ os) (inside_same xs (a ∷ before) (k + 1) ns)
 
 -- ---- all of them
-
-pub judged_on : {A B : Type 0} (P : A → Type 0) (Q : B → Type 0) (x y : Option Offence) (fault : WordsFault) → ((o : Offence) → x ≡ Some o → y ≡ Some o)
-    → IsJudged P x (Err fault) → IsJudged Q y (Err fault)
-judged_on P Q x y (Syntax at) f h = h
-judged_on P Q x y (Literal at) f h = f (at.word, at.byte, literal) h
-judged_on P Q x y (Range at) f h = f (at.word, at.byte, range) h
-judged_on P Q x y (Shape at) f h = f (at.word, at.byte, shape) h
-judged_on P Q x y NoMemory f h = h
 
 some_before : (found fills later : List Offence) (o : Offence) → first_offence found ≡ Some o → ((q : Offence) → Among q fills → o.0 < q.0)
     → first_offence (found ++ fills ++ judged_against found later) ≡ Some o
@@ -137,13 +112,6 @@ some_before found fills later o h a =
 after_judged : (k : ℕ) (found ys : List Offence) → After k ys → After k (judged_against found ys)
 after_judged k [] ys a = a
 after_judged k (o ∷ found) ys a = λ p m. absurd m
-
-after_both : (k : ℕ) (xs ys : List Offence) → After k xs → After k ys → After k (xs ++ ys)
-after_both k xs ys a b p m = by (Among_from_append p xs ys m)
-  where
-    by : Among p xs ⊎ Among p ys → k ≤ p.0
-    by (inl h) = a p h
-    by (inr h) = b p h
 
 before_both : (k : ℕ) (xs ys : List Offence) (p : Offence) → (Among p xs → p.0 < k) → (Among p ys → p.0 < k) → Among p (xs ++ ys) → p.0 < k
 before_both k xs ys p a b m = by (Among_from_append p xs ys m)
@@ -173,7 +141,7 @@ outer_first outer inner rows o h =
     let l = length-map outer decimal_value in
     let before = (within part_rule [] 1 (numbers outer) o (first-among outers o h)).1 in
     let after : After (2 + length outer) inners =
-    after_both (2 + length outer) (part_offences (2 + length outer) (numbers inner)) (judged_against outers (offences_by (inside_rule (numbers outer)) (2 + length outer) (numbers inner)))
+    after_append (2 + length outer) (part_offences (2 + length outer) (numbers inner)) (judged_against outers (offences_by (inside_rule (numbers outer)) (2 + length outer) (numbers inner)))
     (λ p m. (within part_rule [] (2 + length outer) (numbers inner) p m).0)
     (after_judged (2 + length outer) outers (offences_by (inside_rule (numbers outer)) (2 + length outer) (numbers inner))
     (λ p m. (within (inside_rule (numbers outer)) [] (2 + length outer) (numbers inner) p m).0)) in

@@ -8,6 +8,8 @@ use Rattle.sym_model.specs.ExpressionOffence.{shape}
 use Rattle.sym_model.specs.Form.{EachOf}
 use Rattle.sym_model.specs.CommandOffence.{first_offence, offences_by, offences_after, inside_rule, entry_rule, row_offences, order_offences, rows_in}
 use Rattle.sym_model.specs.WordForms.{numbers, shape_offences}
+use Rattle.sym_model.proofs.Parts.{get_or-without_last_zeros}
+use Rattle.word_laws.specs.Words.{Words}
 use Rattle.word_laws.specs.WrittenRows.{rows_text, rows_at}
 use Rattle.word_laws.proofs.FirstOffences.{first_none}
 use Rattle.tableau_words.specs.AskedLengths.{asked_lengths}
@@ -15,12 +17,9 @@ use Rattle.calc_words.specs.NumberRuns.{IsNumber}
 use Rattle.tableau_words.specs.SkewWords.{skew_offences}
 use Rattle.tableau_words.proofs.FaultlessRows.{faultless_letters, faultless_order, faultless_lengths}
 use Rattle.tableau_words.proofs.PairJudging.{left_shape_of, number_lengths}
-use Rattle.tableau_words.proofs.SkewJudging.{asked_shape, asked_some, get_same}
+use Rattle.tableau_words.proofs.SkewJudging.{asked_shape, asked_some}
 use Rattle.calc_words.proofs.WrittenLists.{none_append, none_next, not_when}
 use Rattle.strip_laws.proofs.Containment.{contains_from_places}
-
-abbrev Words : Type 0
-Words = List (List ℕ)
 
 -- ---- an inner shape whose numbers do not exceed the outer parts
 
@@ -44,7 +43,7 @@ inside_contains outer k ns h =
     let n = none_inside outer [] k ns (first_none (offences_by (inside_rule outer) k ns) h) in
     contains_from_places outer (without_last_zeros ns)
     (λ j.
-    let e = get_same ns j in
+    let e = get_or-without_last_zeros ns j in
     let y = n j in
     let z : get_or outer (0 + j) 0 ≡ get_or outer j 0 = (let x : 0 + j ≡ j = omega arith in ap (λ i. get_or outer i 0) x) in
     omega (arith, e, y, z))

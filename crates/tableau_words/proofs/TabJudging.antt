@@ -1,5 +1,5 @@
 -- The first offence of two shapes and a tableau behind `-from`.
-use Rattle.std.proofs.Common.{◌≡◌, ℕ, ◌+◌, ◌<◌, ◌≤◌, nat_lt, ◌==◌, min, Bool, true, false, cond, ◌⊎◌, inl, inr, List, [], ◌∷◌, ◌++◌, map, length, refl, sym, ap, ap₂, ◌∙◌, subst, arith, append_assoc, Option, Some, None, Result, Ok, Err}
+use Rattle.std.proofs.Common.{◌≡◌, ℕ, ◌+◌, ◌<◌, ◌≤◌, nat_lt, ◌==◌, min, Bool, true, false, cond, ◌⊎◌, inl, inr, List, [], ◌∷◌, ◌++◌, map, length, refl, sym, ap, ap₂, ◌∙◌, subst, arith, append_assoc, Option, Some, None, Result, Ok}
 use Rattle.std.specs.Prelude.{codes}
 use Rattle.std.proofs.lemmas.Bool.{eqb-false}
 use Rattle.std.proofs.lemmas.Bool.Decides.{nat_tests}
@@ -16,24 +16,24 @@ use Rattle.sym_model.specs.Command.{tab}
 use Rattle.sym_model.specs.CommandOffence.{Offence, first_offence, offences_after, part_offences, part_rule, judged_against, entry_rule, greatest_letter, row_offences, rows_in, is_lattice_tableau}
 use Rattle.sym_model.specs.Grammar.{tab_entry, tab_offends, two_partitions, last_reading}
 use Rattle.sym_model.specs.WordForms.{tableau_words, numbers, partition, placed_rows}
+use Rattle.word_laws.specs.Words.{Words}
 use Rattle.word_laws.specs.WrittenRows.{row_text, tableau_written, rows_at}
 use Rattle.tableau_iter.proofs.EntryLimits.{AreWithin, RowsWithin, rows_within}
 use Rattle.calc_base.specs.declared.words.WordsFault.{WordsFault}
 use Rattle.calc_words.specs.declared.offence.Kind.TheVariants.{Shape as Misshapen}
-use Rattle.tableau_words.specs.declared.tab.ShapesAndLast.{ShapesAndLast}
 use Rattle.calc_words.specs.Faults.{fault_of}
 use Rattle.tableau_words.specs.FoundOffences.{at_most_entry}
 use Rattle.calc_words.specs.NumberRuns.{IsNumber}
-use Rattle.calc_words.specs.Reading.{IsJudged, IsRead}
-use Rattle.tableau_words.specs.TabWords.{AreTabWords, AreShapesAndLast, from_text, tableaux_of, last_of, unlisted, from_offences, all_tab_offences}
+use Rattle.calc_words.specs.Reading.{IsJudged, IsRead, IsFirst}
+use Rattle.tableau_words.specs.TabWords.{AreTabWords, from_text, last_of, unlisted, from_offences, all_tab_offences}
+use Rattle.calc_commands.specs.Commands.{command_of}
+use Rattle.calc_commands.specs.declared.command.Command.{Command as Read}
+use Rattle.calc_commands.specs.declared.command.Command.TheVariants.{Tab}
 use Rattle.calc_words.proofs.Commands.{read_judged, may_be, singles, judged_err, judged_next}
 use Rattle.calc_words.proofs.FirstOffences.{AllBefore, first-append, within}
 use Rattle.calc_words.proofs.WrittenLists.{none_judged}
 use Rattle.tableau_words.proofs.PairJudging.{entries_after, map_twice}
 use Rattle.tableau_words.proofs.WrittenTableaux.{written_words, written_may, written_rows, written_entries}
-
-abbrev Words : Type 0
-Words = List (List ℕ)
 
 -- ---- entries from 1 to a number that is no greater than the greatest entry
 
@@ -123,21 +123,18 @@ pub some_rows : {A : Type 0} (xs : List A) → (length xs == 0) ≡ false → 0 
 some_rows [] h = absurd (let e = eqb-false 0 0 h in omega (arith, e))
 some_rows (x ∷ xs) h = omega arith
 
--- there is none
-pub none_last : {A : Type 0} (f : A → Words) (k : ℕ) (outer inner : List ℕ) (xs : List A) (s : ShapesAndLast) → length xs ≡ 0
-    → AreShapesAndLast outer inner None s
-    → IsJudged (AreShapesAndLast outer inner (last_of outer inner (map (λ r. numbers (f r)) xs))) (first_offence (from_offences k outer inner (map f xs))) (Ok s)
-none_last f k outer inner [] s l h = (h, refl)
-none_last f k outer inner (x ∷ xs) s l h = absurd (omega (arith, l))
+-- the tableaux of the shape that are asked for
+abbrev pub IsTab : List ℕ → List ℕ → Option (List ℕ) → Read → Type 0
+IsTab outer inner after c = c ≡ Tab outer inner after
 
 -- it is not in the list
-pub unlisted_last : {A : Type 0} (f : A → Words) (P : ShapesAndLast → Type 0) (k : ℕ) (outer inner : List ℕ) (xs : List A) (fault : WordsFault) → 0 < length xs
+pub unlisted_last : {A : Type 0} (f : A → Words) (k : ℕ) (outer inner : List ℕ) (xs : List A) (fault : WordsFault) → 0 < length xs
     → is_lattice_tableau outer inner (rows_in outer (map (λ r. numbers (f r)) xs)) ≡ false → fault ≡ fault_of k Misshapen
-    → IsJudged P (first_offence (from_offences k outer inner (map f xs))) (Err fault)
-unlisted_last f P k outer inner [] fault l n e = absurd (omega (arith, l))
-unlisted_last f P k outer inner (x ∷ xs) fault l n e =
+    → IsFirst (first_offence (from_offences k outer inner (map f xs))) fault
+unlisted_last f k outer inner [] fault l n e = absurd (omega (arith, l))
+unlisted_last f k outer inner (x ∷ xs) fault l n e =
     let entries = row_offences entry_rule (rows_at (k + 1) (map f (x ∷ xs))) in
-    subst (λ y. IsJudged P (first_offence (from_offences k outer inner (map f (x ∷ xs)))) (Err y)) (sym e)
+    subst (λ y. IsFirst (first_offence (from_offences k outer inner (map f (x ∷ xs)))) y) (sym e)
     (ap (λ rs. first_offence (cond (is_lattice_tableau outer inner (rows_in outer rs)) [] ((k, 0, shape) ∷ []) ++ row_offences entry_rule (rows_at (k + 1) (map f (x ∷ xs))))) (map_twice f numbers (x ∷ xs))
     ∙ ap (λ b. first_offence (cond b [] ((k, 0, shape) ∷ []) ++ row_offences entry_rule (rows_at (k + 1) (map f (x ∷ xs))))) n
     ∙ first-append ((k, 0, shape) ∷ []) entries (k, 0, shape) refl (λ p q m a. before p q m (entries_after (k + 1) (map f (x ∷ xs)) q a)))
@@ -147,10 +144,10 @@ unlisted_last f P k outer inner (x ∷ xs) fault l n e =
     before p q (inr m) h = absurd m
 
 -- it is in the list
-pub listed_last : {A : Type 0} (f : A → Words) (k : ℕ) (outer inner : List ℕ) (xs : List A) (s : ShapesAndLast) → 0 < length xs → Falls outer → length outer ≤ 512
+pub listed_last : {A : Type 0} (f : A → Words) (k : ℕ) (outer inner : List ℕ) (xs : List A) (s : Read) → 0 < length xs → Falls outer → length outer ≤ 512
     → is_lattice_tableau outer inner (rows_in outer (map (λ r. numbers (f r)) xs)) ≡ true
-    → AreShapesAndLast outer inner (Some (column_reading outer inner (rows_in outer (map (λ r. numbers (f r)) xs)))) s
-    → IsJudged (AreShapesAndLast outer inner (last_of outer inner (map (λ r. numbers (f r)) xs))) (first_offence (from_offences k outer inner (map f xs))) (Ok s)
+    → IsTab outer inner (Some (column_reading outer inner (rows_in outer (map (λ r. numbers (f r)) xs)))) s
+    → IsJudged (IsTab outer inner (last_of outer inner (map (λ r. numbers (f r)) xs))) (first_offence (from_offences k outer inner (map f xs))) (Ok s)
 listed_last f k outer inner [] s l h n t a = absurd (omega (arith, l))
 listed_last f k outer inner (x ∷ xs) s l h n t a = (a, first)
   where
@@ -211,28 +208,15 @@ after_shapes outer inner rows p q m n =
     later (inr a) = let z = entries_after (2 + length outer + length inner + 1) rows q a in omega (arith, z)
 
 -- the shapes offend
-pub shapes_faulty : {A B : Type 0} (P : A → Type 0) (Q : B → Type 0) (outer inner : Words) (rows : List Words) (fault : WordsFault)
-    → IsJudged P (first_offence (two_partitions 1 outer inner)) (Err fault) → IsJudged Q (first_offence (all_tab_offences outer inner rows)) (Err fault)
-shapes_faulty P Q outer inner rows fault h =
+pub shapes_faulty : (outer inner : Words) (rows : List Words) (fault : WordsFault)
+    → IsFirst (first_offence (two_partitions 1 outer inner)) fault → IsFirst (first_offence (all_tab_offences outer inner rows)) fault
+shapes_faulty outer inner rows fault h =
     let k = 2 + length outer + length inner in
     let lists = two_partitions 1 outer inner in
     let judged = judged_against lists (unlisted k (partition outer) (partition inner) (map numbers rows)) in
     let fills = row_offences entry_rule (rows_at (k + 1) rows) in
-    subst (λ os. IsJudged Q (first_offence os) (Err fault)) (sym (append_assoc lists judged fills))
-    (judged_err P Q lists (judged ++ fills) fault (after_shapes outer inner rows) h)
-
--- they do not
-pub last_judged : {B : Type 0} (Q : B → Type 0) (outer inner : Words) (rows : List Words) (r : Result B WordsFault) → first_offence (two_partitions 1 outer inner) ≡ None
-    → IsJudged Q (first_offence (from_offences (2 + length outer + length inner) (partition outer) (partition inner) rows)) r
-    → IsJudged Q (first_offence (all_tab_offences outer inner rows)) r
-last_judged Q outer inner rows r n h =
-    let k = 2 + length outer + length inner in
-    let lists = two_partitions 1 outer inner in
-    let last = unlisted k (partition outer) (partition inner) (map numbers rows) in
-    let fills = row_offences entry_rule (rows_at (k + 1) rows) in
-    subst (λ os. IsJudged Q (first_offence os) r) (sym (append_assoc lists (judged_against lists last) fills))
-    (judged_next Q lists (judged_against lists last ++ fills) r n
-    (subst (λ os. IsJudged Q (first_offence (os ++ fills)) r) (sym (none_judged lists last n)) h))
+    subst (λ os. IsFirst (first_offence os) fault) (sym (append_assoc lists judged fills))
+    (judged_err lists (judged ++ fills) fault (after_shapes outer inner rows) h)
 
 -- ---- the words
 
@@ -242,14 +226,11 @@ lists_spelled outer inner more =
     ap (λ ws. ws ++ codes "/" ∷ (inner ++ more)) (sym (singles outer))
     ∙ ap (λ ws. each (λ t. t ∷ []) outer ++ (codes "/" ∷ (ws ++ more))) (sym (singles inner))
 
-same_command : (outer inner : List ℕ) (after : Option (List ℕ)) (s : ShapesAndLast) → AreShapesAndLast outer inner after s → tableaux_of s ≡ tab outer inner after
-same_command outer inner after s q = ap (λ o. tab o s.inner s.after) q.0 ∙ ap (λ i. tab outer i s.after) q.1 ∙ ap (tab outer inner) q.2
-
-tab_read : (words outer inner : Words) (rows : List Words) (r : Result ShapesAndLast WordsFault)
+tab_read : (words outer inner : Words) (rows : List Words) (r : Result Read WordsFault)
     → words ≡ codes "tab" ∷ (outer ++ codes "/" ∷ (inner ++ from_text rows)) → EachOf IsNumber outer → EachOf IsNumber inner → EachOf (EachOf IsNumber) rows
-    → IsJudged (AreShapesAndLast (partition outer) (partition inner) (last_of (partition outer) (partition inner) (map numbers rows)))
+    → IsJudged (IsTab (partition outer) (partition inner) (last_of (partition outer) (partition inner) (map numbers rows)))
     (first_offence (all_tab_offences outer inner rows)) r
-    → IsRead (tab_entry ∷ []) tableaux_of words r
+    → IsRead (tab_entry ∷ []) command_of words r
 tab_read words outer inner [] r e o i a j =
     read_judged tab_entry words
     (record {
@@ -257,8 +238,8 @@ tab_read words outer inner [] r e o i a j =
       allowed = (tt, (may_be outer o, (tt, (may_be inner i, tt))));
       spelled = e ∙ ap (λ ws. codes "tab" ∷ ws) (lists_spelled outer inner []);
     })
-    tableaux_of (AreShapesAndLast (partition outer) (partition inner) None)
-    (same_command (partition outer) (partition inner) None) r j
+    command_of (IsTab (partition outer) (partition inner) None)
+    (λ s q. ap command_of q) r j
 tab_read words outer inner (row ∷ rows) r e o i a j =
     let x = tableau_written row rows in
     let k = 2 + length outer + length inner in
@@ -279,19 +260,19 @@ tab_read words outer inner (row ∷ rows) r e o i a j =
           ∙ ap (λ ws. codes "tab" ∷ (outer ++ codes "/" ∷ (inner ++ codes "-from" ∷ ws))) (sym (written_words row rows))
           ∙ ap (λ ws. codes "tab" ∷ ws) (lists_spelled outer inner (codes "-from" ∷ words_of tableau_words x));
     })
-    tableaux_of (AreShapesAndLast (partition outer) (partition inner) (last_of (partition outer) (partition inner) (map numbers (row ∷ rows))))
-    (λ s q. same_command P Q (last_of P Q (map numbers (row ∷ rows))) s q ∙ ap (tab P Q) (sym last)) r
+    command_of (IsTab (partition outer) (partition inner) (last_of (partition outer) (partition inner) (map numbers (row ∷ rows))))
+    (λ s q. ap command_of q ∙ ap (tab P Q) (sym last)) r
     (subst
-    (λ os. IsJudged (AreShapesAndLast (partition outer) (partition inner) (last_of (partition outer) (partition inner) (map numbers (row ∷ rows)))) (first_offence os) r)
+    (λ os. IsJudged (IsTab (partition outer) (partition inner) (last_of (partition outer) (partition inner) (map numbers (row ∷ rows)))) (first_offence os) r)
     (sym offends) j)
 
-pub tab_read_rows : {A : Type 0} (f : A → Words) (words rest outer inner : Words) (xs : List A) (r : Result ShapesAndLast WordsFault) → words ≡ codes "tab" ∷ rest
+pub tab_read_rows : {A : Type 0} (f : A → Words) (words rest outer inner : Words) (xs : List A) (r : Result Read WordsFault) → words ≡ codes "tab" ∷ rest
     → AreTabWords outer inner (map f xs) rest
-    → IsJudged (AreShapesAndLast (partition outer) (partition inner) (last_of (partition outer) (partition inner) (map (λ r. numbers (f r)) xs)))
+    → IsJudged (IsTab (partition outer) (partition inner) (last_of (partition outer) (partition inner) (map (λ r. numbers (f r)) xs)))
     (first_offence (all_tab_offences outer inner (map f xs))) r
-    → IsRead (tab_entry ∷ []) tableaux_of words r
+    → IsRead (tab_entry ∷ []) command_of words r
 tab_read_rows f words rest outer inner xs r e t j =
     tab_read words outer inner (map f xs) r (e ∙ ap (λ ws. codes "tab" ∷ ws) t.words_are) t.outer_numbers t.inner_numbers t.rows_numbers
     (subst
-    (λ ns. IsJudged (AreShapesAndLast (partition outer) (partition inner) (last_of (partition outer) (partition inner) ns)) (first_offence (all_tab_offences outer inner (map f xs))) r)
+    (λ ns. IsJudged (IsTab (partition outer) (partition inner) (last_of (partition outer) (partition inner) ns)) (first_offence (all_tab_offences outer inner (map f xs))) r)
     (sym (map_twice f numbers xs)) j)

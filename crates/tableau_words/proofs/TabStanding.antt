@@ -4,6 +4,7 @@ use Rattle.std.specs.Prelude.{codes, IfErr}
 use Rattle.sym_model.proofs.Exponents.{same_refl}
 use Rattle.sym_model.specs.Form.{Form, empty, sequence, EachOf, derivatives}
 use Rattle.sym_model.specs.WordForms.{optional, partition_words, tableau_words, from_words}
+use Rattle.word_laws.specs.Words.{Words}
 use Rattle.word_laws.specs.Reading.{is_expression}
 use Rattle.calc_words.specs.NumberRuns.{IsNumber, BeginsOtherwise}
 use Rattle.calc_words.specs.Standing.{GoesAs, WrongAt}
@@ -11,9 +12,6 @@ use Rattle.tableau_words.specs.WordRows.{IsWrongFor}
 use Rattle.tableau_words.specs.declared.row_words.RowsFault.{RowsFault}
 use Rattle.tableau_words.specs.declared.row_words.RowsFault.TheVariants.{Wrong, NoMemory}
 use Rattle.calc_words.proofs.Standing.{NoNumber, step, wrong_here, behind_list, no_number_before, not_same}
-
-abbrev Words : Type 0
-Words = List (List ℕ)
 
 abbrev may_be_from : Form
 may_be_from = optional from_words

@@ -5,13 +5,11 @@ use Rattle.sym_model.specs.Sum.{each}
 use Rattle.sym_model.specs.Form.{Written, sequence, EachOf, May, words_of}
 use Rattle.sym_model.specs.CommandOffence.{entries}
 use Rattle.sym_model.specs.WordForms.{the, row_words, tableau_words, numbers, placed, placed_rows, tableau_rows}
+use Rattle.word_laws.specs.Words.{Words}
 use Rattle.word_laws.proofs.Classes.{number_sound}
 use Rattle.word_laws.specs.WrittenRows.{row_text, further_text, rows_text, row_written, tableau_written, rows_at}
 use Rattle.calc_words.specs.NumberRuns.{IsNumber}
 use Rattle.calc_words.proofs.Commands.{may_be, singles}
-
-abbrev Words : Type 0
-Words = List (List ℕ)
 
 -- ---- the words and the rows
 

@@ -46,10 +46,6 @@ abbrev pub gathered : List ℕ → List (List ℕ) → List ℕ
 gathered entries [] = entries
 gathered entries (row ∷ rows) = gathered (row ++ entries) rows
 
--- the row before the place, where there is one
-abbrev pub row_before : List (List ℕ) → ℕ → List ℕ
-row_before rows i = cond (i == 0) [] (slice_index_or rows (i - 1) [])
-
 -- a number, or the greatest entry of a tableau where it is greater
 abbrev pub at_most_entry : ℕ → ℕ
 at_most_entry a = min a greatest_letter

@@ -4,7 +4,6 @@ pub mod FoundOffences
 pub mod ReadTableaux
 pub mod PairOffences
 pub mod SkewWords
-pub mod RefusedFirst
 pub mod AskedLengths
 pub mod SkewTotals
 pub mod WrittenPairs

@@ -1,6 +1,5 @@
 -- Two shapes and a tableau behind `-from` among the words of a command (this project's own).
 use Rattle.std.specs.Prelude.{◌≡◌, ℕ, ◌+◌, cond, List, [], ◌∷◌, ◌++◌, map, length, codes, Option, Some, None}
-use Rattle.sym_model.specs.Command.{Command, tab}
 use Rattle.sym_model.specs.CommandOffence.{Offence, judged_against, row_offences, entry_rule, rows_in, is_lattice_tableau}
 use Rattle.sym_model.specs.ExpressionOffence.{shape}
 use Rattle.sym_model.specs.Form.{EachOf}
@@ -9,7 +8,6 @@ use Rattle.sym_model.specs.Grammar.{two_partitions}
 use Rattle.sym_model.specs.WordForms.{numbers, partition}
 use Rattle.word_laws.specs.WrittenRows.{rows_text, rows_at}
 use Rattle.calc_words.specs.NumberRuns.{IsNumber}
-use Rattle.tableau_words.specs.declared.tab.ShapesAndLast.{ShapesAndLast}
 
 -- the words of a tableau behind `-from`; no word where there is no row
 abbrev pub from_text : List (List (List ℕ)) → List (List ℕ)
@@ -34,18 +32,10 @@ pub record AreTabWords (outer inner : List (List ℕ)) (rows : List (List (List 
   pub inner_numbers : EachOf IsNumber inner
   pub rows_numbers : EachOf (EachOf IsNumber) rows
 
--- the tableaux of the shape that are asked for
-abbrev pub tableaux_of : ShapesAndLast → Command
-tableaux_of s = tab s.outer s.inner s.after
-
 -- the column reading of the tableau with rows of these numbers, where there is one
 abbrev pub last_of : List ℕ → List ℕ → List (List ℕ) → Option (List ℕ)
 last_of outer inner [] = None
 last_of outer inner (row ∷ rows) = Some (column_reading outer inner (rows_in outer (row ∷ rows)))
-
--- the shapes and the last tableau are these
-abbrev pub AreShapesAndLast : List ℕ → List ℕ → Option (List ℕ) → ShapesAndLast → Type 0
-AreShapesAndLast outer inner after s = (s.outer ≡ outer) × (s.inner ≡ inner) × (s.after ≡ after)
 
 -- the word `-from`, where the tableau with rows of these numbers is not in the list
 abbrev pub unlisted : ℕ → List ℕ → List ℕ → List (List ℕ) → List Offence

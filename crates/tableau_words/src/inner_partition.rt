@@ -7,8 +7,7 @@ ghost use Rattle.sym_model.specs.PrintedBlock.{decimal_value};
 ghost use Rattle.sym_model.specs.WordForms.{numbers as numbers_of, partition};
 ghost use Rattle.word_laws.specs.JudgedRows.{earlier as earlier_of_both};
 ghost use Rattle.tableau_words.specs.FoundOffences.{found_of, kind_of, offence_of};
-ghost use Rattle.calc_words.specs.Reading.{IsJudged};
-ghost use Rattle.tableau_words.specs.RefusedFirst.{IsRefusalOf};
+ghost use Rattle.calc_words.specs.Reading.{IsJudged, IsFirst};
 
 use crate::earlier::stands_first;
 use crate::found::Found;
@@ -46,7 +45,7 @@ fn outside_offence(at: u64, outer: &[u16], words: &[String]) -> Option<Found>
 
 /// The refusal of an offence or of the one that was found, which of them comes first.
 fn earlier_refusal(fault: WordsFault, found: Option<Found>) -> WordsFault
-    ensures { (first : Option Offence) → IsRefusalOf first fault → IsRefusalOf (earlier_of_both first (found_of found)) result }
+    ensures { (first : Option Offence) → IsFirst first fault → IsFirst (earlier_of_both first (found_of found)) result }
 {
     let Some(found) = found else {
         return fault;
@@ -61,7 +60,7 @@ fn earlier_refusal(fault: WordsFault, found: Option<Found>) -> WordsFault
 
 /// The refusal of an offence at the place, or of the one that was found where it comes first.
 fn sooner(at: Place, kind: Kind, found: Found) -> WordsFault
-    ensures { IsRefusalOf (earlier_of_both (Some (at.word, at.byte, kind_of kind)) (Some (offence_of found))) result }
+    ensures { IsFirst (earlier_of_both (Some (at.word, at.byte, kind_of kind)) (Some (offence_of found))) result }
 {
     if !stands_first(at, kind, found) {
         return offence(found.word, found.kind);

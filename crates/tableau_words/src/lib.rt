@@ -13,8 +13,8 @@ mod row_words;
 mod skew_tableaux;
 mod skew_words;
 mod tab;
+mod tableaux;
 
-pub use pairs::{TwoFillings, read_unrsk, rows_refusal};
-pub use row_words::{RowsFault, last_rows};
-pub use skew_tableaux::{SkewRows, read_rect, rows_of_shape};
-pub use tab::{ShapesAndLast, read_tab};
+pub use pairs::read_unrsk;
+pub use skew_tableaux::read_rect;
+pub use tab::read_tab;

@@ -1,19 +1,19 @@
 //! The words of `unrsk`.
-ghost use Rattle.std.specs.Prelude.{◌≡◌, ◌<◌, ◌+◌, ◌++◌, ◌^◌, IfOk, ℕ, List, [], ◌∷◌, Some, cond, length, map, string_bytes};
-ghost use Rattle.sym_model.specs.Command.{Command};
-ghost use Rattle.sym_model.specs.CommandOffence.{Offence, first_offence, standard_offences, rows_in};
-ghost use Rattle.sym_model.specs.Entry.{HasFirstOffence, SpellsWithoutOffence};
+ghost use Rattle.std.specs.Prelude.{◌≡◌, ◌≤◌, ◌<◌, ◌+◌, ◌++◌, ◌^◌, IfOk, [], ◌∷◌, Some, length, map, string_bytes};
+ghost use Rattle.sym_model.specs.CommandOffence.{first_offence, standard_offences, rows_in, most_letters};
 ghost use Rattle.sym_model.specs.Form.{EachOf};
 ghost use Rattle.sym_model.specs.Grammar.{unrsk_entry, filled_offences};
 ghost use Rattle.sym_model.specs.Partition.{size};
-ghost use Rattle.sym_model.specs.SyntaxPlace.{IsSyntaxPlace};
+ghost use Rattle.sym_model.specs.Schur.{letters_of};
+ghost use Rattle.sym_model.specs.Tableau.{IsStraightTableau, shape_of};
 ghost use Rattle.sym_model.specs.WordForms.{numbers as numbers_of};
-ghost use Rattle.word_laws.specs.WrittenRows.{further_text, rows_text, rows_at, left_at};
+ghost use Rattle.word_laws.specs.WrittenRows.{further_text, rows_at, left_at};
 ghost use Rattle.tableau_words.specs.FoundOffences.{found_of, at_most_entry};
 ghost use Rattle.calc_words.specs.NumberRuns.{IsNumber};
 ghost use Rattle.tableau_words.specs.ReadTableaux.{AreFillings, word_of_pair, first_rows_of, second_rows_of};
 ghost use Rattle.tableau_words.specs.WrittenPairs.{IsWrittenPair};
-ghost use Rattle.calc_words.specs.Reading.{IsRead, IsJudged, Accepts, Refuses, GoesWrong};
+ghost use Rattle.calc_commands.specs.Commands.{command_of};
+ghost use Rattle.calc_words.specs.Reading.{IsRead, IsJudged};
 ghost use Rattle.tableau_words.specs.WordRows.{refusal_of};
 ghost use Rattle.tableau_words.specs.PairOffences.{pair_offences};
 
@@ -24,15 +24,19 @@ use crate::row_offences::{
     insertion_offence, left_shape, recorded_number, row_lengths, text_length, total,
 };
 use crate::row_words::{RowsFault, two_tableaux};
+use crate::tableaux::tableau_of;
 use calc_base::{NoMemory, WordsFault};
+use calc_commands::{Command, TableauPair};
 use calc_words::{behind, refused as offence, syntax};
+use partitions::Partition;
+use skew_shapes::{Standard, Tableau};
 use std::alloc::Global;
 
 /// The rows of two tableaux.
-#[derive(Debug, Drop)]
-pub struct TwoFillings {
-    pub first: Vec<Vec<u16>>,
-    pub second: Vec<Vec<u16>>,
+#[derive(Drop)]
+struct TwoFillings {
+    first: Vec<Vec<u16>>,
+    second: Vec<Vec<u16>>,
 }
 
 /// The first offence of a tableau that begins at the word and is to record the insertions into a shape with rows of these lengths.
@@ -97,30 +101,8 @@ fn judge_pair(
     })
 }
 
-/// Reads the words of `unrsk`: that word and two tableaux with `-` between them, whose rows are the answer; the rows stand
-/// between words `/`, and `.` is a row without numbers.
-///
-/// Words that are no such command are refused as `Syntax`, at the word where they go wrong. Otherwise the first offence is
-/// refused: a number past 2^127 - 1 as `Literal`; an entry that is 0 or past 65,535, and the 257th of a tableau, as `Range`;
-/// as `Shape` in the first tableau a number that makes its row longer than the row above, a `.` that is not the whole tableau,
-/// a number smaller than its left neighbour or not greater than the entry above it, and in the second one the word at which it
-/// leaves the shape of the first, a number past the number of cells, not greater than its left neighbour or the entry above
-/// it, or that stands earlier in it.
-pub fn read_unrsk(alloc: Global, words: &[String]) -> Result<TwoFillings, WordsFault>
-    ensures read { IsRead (unrsk_entry ∷ []) word_of_pair (map string_bytes words.now) result }
-    ensures accepts { (command : Command) → SpellsWithoutOffence (unrsk_entry ∷ []) (map string_bytes words.now) command
-        → Accepts word_of_pair command result }
-    ensures refuses { (offence : Offence) → HasFirstOffence (unrsk_entry ∷ []) (map string_bytes words.now) (Some offence)
-        → Refuses offence result }
-    ensures goes_wrong { (word byte : ℕ) → IsSyntaxPlace (unrsk_entry ∷ []) (map string_bytes words.now) word byte
-        → GoesWrong word byte result }
-    ensures pair { IfOk result (λ s. IsWrittenPair (first_rows_of s) (second_rows_of s)) }
-{
-    unrsk_words(alloc, words)
-}
-
-/// The words as they are read: what follows for each command and offence, the public call says.
-fn unrsk_words(alloc: Global, words: &[String]) -> Result<TwoFillings, WordsFault>
+/// The rows of two tableaux that are the words of `unrsk`.
+fn unrsk_rows(alloc: Global, words: &[String]) -> Result<TwoFillings, WordsFault>
     ensures read { IsRead (unrsk_entry ∷ []) word_of_pair (map string_bytes words.now) result }
     ensures pair { IfOk result (λ s. IsWrittenPair (first_rows_of s) (second_rows_of s)) }
 {
@@ -133,8 +115,53 @@ fn unrsk_words(alloc: Global, words: &[String]) -> Result<TwoFillings, WordsFaul
     }
 }
 
+/// The pair of the tableaux with these rows.
+fn pair_of(alloc: Global, first: &[Vec<u16>], second: &[Vec<u16>]) -> Result<TableauPair, NoMemory>
+    requires { IsWrittenPair (map (λ r. r.items) first.now) (map (λ r. r.items) second.now) }
+    ensures first { IfOk result (λ c. c.0.rows ≡ map (λ r. r.items) first.now) }
+    ensures second { IfOk result (λ c. c.1.rows ≡ map (λ r. r.items) second.now) }
+{
+    let p = straight(alloc, first)?;
+    let Ok(q) = Standard::new(straight(alloc, second)?) else {
+        unreachable!()
+    };
+    Ok(TableauPair::new(p, q))
+}
+
+/// The straight tableau with these rows.
+fn straight(alloc: Global, rows: &[Vec<u16>]) -> Result<Tableau, NoMemory>
+    requires tableau { IsStraightTableau (map (λ r. r.items) rows.now) }
+    requires few { length (letters_of (map (λ r. r.items) rows.now)) ≤ most_letters }
+    ensures { IfOk result (λ t. t ≡ record { outer = shape_of (map (λ r. r.items) rows.now); inner = []; rows = map (λ r. r.items) rows.now }) }
+{
+    let mut parts = Vec::new(alloc);
+    for row in rows {
+        parts.push(row.len() as u16)?;
+    }
+    let outer = Partition::from_valid_parts(alloc, parts.as_slice())?;
+    let inner = Partition::from_valid_parts(alloc, &[])?;
+    tableau_of(alloc, outer, inner, rows)
+}
+
+/// Reads the words of `unrsk`: that word and two tableaux with `-` between them, whose rows stand between words `/`; `.` is a
+/// row without numbers.
+///
+/// Words that are no such command are refused as `Syntax`, at the word where they go wrong. Otherwise the first offence is
+/// refused: a number past 2^127 - 1 as `Literal`; an entry that is 0 or past 65,535, and the 257th of a tableau, as `Range`;
+/// as `Shape` in the first tableau a number that makes its row longer than the row above, a `.` that is not the whole tableau,
+/// a number smaller than its left neighbour or not greater than the entry above it, and in the second one the word at which it
+/// leaves the shape of the first, a number past the number of cells, not greater than its left neighbour or the entry above
+/// it, or that stands earlier in it.
+pub fn read_unrsk(alloc: Global, words: &[String]) -> Result<Command, WordsFault>
+    ensures { IsRead (unrsk_entry ∷ []) command_of (map string_bytes words.now) result }
+{
+    let TwoFillings { first, second } = unrsk_rows(alloc, words)?;
+    let pair = pair_of(alloc, first.as_slice(), second.as_slice())?;
+    Ok(Command::Unrsk { pair })
+}
+
 /// The refusal of so many words whose rows were not cut out.
-pub fn rows_refusal(words: usize, fault: RowsFault) -> WordsFault
+pub(crate) fn rows_refusal(words: usize, fault: RowsFault) -> WordsFault
     ensures { result ≡ refusal_of words fault }
 {
     match fault {

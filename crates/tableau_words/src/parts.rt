@@ -5,7 +5,7 @@ ghost use Rattle.sym_model.specs.WordForms.{the, optional, partition_words, from
 ghost use Rattle.tableau_words.specs.TabWords.{AreFrom, IsListAndFrom, AreTabWords};
 ghost use Rattle.tableau_words.specs.WordRows.{IsWrongFor};
 
-use crate::{RowsFault, last_rows};
+use crate::row_words::{RowsFault, last_rows};
 use calc_words::{behind, numbers_first as numbers};
 use std::alloc::Global;
 

@@ -1,19 +1,17 @@
 //! The words of `rect`.
-ghost use Rattle.std.specs.Prelude.{◌≡◌, ◌<◌, ◌+◌, ◌^◌, IfOk, true, ℕ, List, [], ◌∷◌, Some, length, map, string_bytes};
+ghost use Rattle.std.specs.Prelude.{◌≡◌, ◌<◌, ◌+◌, ◌^◌, IfOk, true, [], ◌∷◌, Some, length, map, string_bytes};
 ghost use Rattle.sym_model.specs.Schur.{contains};
 ghost use Rattle.sym_model.specs.Tableau.{IsTableau};
-ghost use Rattle.sym_model.specs.Command.{Command};
-ghost use Rattle.sym_model.specs.CommandOffence.{Offence, first_offence, rows_in};
-ghost use Rattle.sym_model.specs.Entry.{HasFirstOffence, SpellsWithoutOffence};
+ghost use Rattle.sym_model.specs.CommandOffence.{first_offence, rows_in};
 ghost use Rattle.sym_model.specs.Form.{EachOf};
 ghost use Rattle.sym_model.specs.Grammar.{rect_entry};
-ghost use Rattle.sym_model.specs.SyntaxPlace.{IsSyntaxPlace};
 ghost use Rattle.sym_model.specs.WordForms.{numbers as numbers_of, partition};
 ghost use Rattle.word_laws.specs.WrittenRows.{further_text};
 ghost use Rattle.tableau_words.specs.AskedLengths.{asked_lengths};
 ghost use Rattle.tableau_words.specs.FoundOffences.{at_most_entry};
 ghost use Rattle.calc_words.specs.NumberRuns.{IsNumber};
-ghost use Rattle.calc_words.specs.Reading.{IsRead, IsJudged, Accepts, Refuses, GoesWrong};
+ghost use Rattle.calc_commands.specs.Commands.{command_of};
+ghost use Rattle.calc_words.specs.Reading.{IsRead, IsJudged};
 ghost use Rattle.tableau_words.specs.SkewTotals.{all_skew_offences};
 ghost use Rattle.tableau_words.specs.SkewWords.{AreSkewRows, skew_offences, rectified, rows_of};
 
@@ -23,17 +21,19 @@ use crate::pairs::{rows_of_tableau, rows_refusal};
 use crate::row_numbers::rows_numbers;
 use crate::row_offences::{left_shape, part_at, skewed_number};
 use crate::skew_words::skew_parts;
+use crate::tableaux::tableau_of;
 use calc_base::{NoMemory, WordsFault};
+use calc_commands::Command;
 use calc_words::{behind, read_partition, refused as offence, syntax};
 use partitions::Partition;
 use std::alloc::Global;
 
 /// Two shapes, and the rows of a filling of the first over the second.
-#[derive(Debug, Drop)]
-pub struct SkewRows {
-    pub outer: Partition,
-    pub inner: Partition,
-    pub rows: Vec<Vec<u16>>,
+#[derive(Drop)]
+struct SkewRows {
+    outer: Partition,
+    inner: Partition,
+    rows: Vec<Vec<u16>>,
 }
 
 /// How many numbers are asked for in each row of a shape over another; one row without numbers where there is none.
@@ -51,7 +51,7 @@ fn skew_lengths(alloc: Global, outer: &[u16], inner: &[u16]) -> Result<Vec<usize
 }
 
 /// The rows of a tableau of a shape: one row without numbers is no row of the empty shape.
-pub fn rows_of_shape(
+pub(crate) fn rows_of_shape(
     alloc: Global,
     outer: &[u16],
     rows: &[&[String]],
@@ -125,28 +125,8 @@ fn judge_skew(
     }
 }
 
-/// Reads the words of `rect`: that word, an outer and an inner partition with `/` between them, and, behind `-`, a tableau of
-/// the first over the second, whose rows stand between words `/`; `.` is a row without numbers.
-///
-/// Words that are no such command are refused as `Syntax`, at the word where they go wrong. Otherwise the first offence is
-/// refused: those of the partitions as `read_skew` says, and as `Shape` an inner number greater than the outer part of its
-/// row; an entry past 2^127 - 1 as `Literal`, one that is 0 or past 65,535 as `Range`; as `Shape` the word at which the tableau
-/// leaves the shape, an entry smaller than its left neighbour, and one not greater than the entry above it.
-pub fn read_rect(alloc: Global, words: &[String]) -> Result<SkewRows, WordsFault>
-    ensures read { IsRead (rect_entry ∷ []) rectified (map string_bytes words.now) result }
-    ensures accepts { (command : Command) → SpellsWithoutOffence (rect_entry ∷ []) (map string_bytes words.now) command
-        → Accepts rectified command result }
-    ensures refuses { (offence : Offence) → HasFirstOffence (rect_entry ∷ []) (map string_bytes words.now) (Some offence)
-        → Refuses offence result }
-    ensures goes_wrong { (word byte : ℕ) → IsSyntaxPlace (rect_entry ∷ []) (map string_bytes words.now) word byte
-        → GoesWrong word byte result }
-    ensures tableau { IfOk result (λ s. IsTableau s.outer s.inner (rows_of s)) }
-{
-    rect_words(alloc, words)
-}
-
-/// The words as they are read: what follows for each command and offence, the public call says.
-fn rect_words(alloc: Global, words: &[String]) -> Result<SkewRows, WordsFault>
+/// The two shapes and the rows of a tableau that are the words of `rect`.
+fn rect_rows(alloc: Global, words: &[String]) -> Result<SkewRows, WordsFault>
     ensures read { IsRead (rect_entry ∷ []) rectified (map string_bytes words.now) result }
     ensures tableau { IfOk result (λ s. IsTableau s.outer s.inner (rows_of s)) }
 {
@@ -157,4 +137,19 @@ fn rect_words(alloc: Global, words: &[String]) -> Result<SkewRows, WordsFault>
         Ok((outer, inner, rows)) => judge_skew(alloc, outer, inner, rows.as_slice()),
         Err(fault) => Err(rows_refusal(words.len(), fault)),
     }
+}
+
+/// Reads the words of `rect`: that word, an outer and an inner partition with `/` between them, and, behind `-`, a tableau of
+/// the first over the second, whose rows stand between words `/`; `.` is a row without numbers.
+///
+/// Words that are no such command are refused as `Syntax`, at the word where they go wrong. Otherwise the first offence is
+/// refused: those of the partitions as `read_skew` says, and as `Shape` an inner number greater than the outer part of its
+/// row; an entry past 2^127 - 1 as `Literal`, one that is 0 or past 65,535 as `Range`; as `Shape` the word at which the tableau
+/// leaves the shape, an entry smaller than its left neighbour, and one not greater than the entry above it.
+pub fn read_rect(alloc: Global, words: &[String]) -> Result<Command, WordsFault>
+    ensures { IsRead (rect_entry ∷ []) command_of (map string_bytes words.now) result }
+{
+    let SkewRows { outer, inner, rows } = rect_rows(alloc, words)?;
+    let tableau = tableau_of(alloc, outer, inner, rows.as_slice())?;
+    Ok(Command::Rect { tableau })
 }

@@ -1,31 +1,23 @@
 //! The words of `tab`.
-ghost use Rattle.std.specs.Prelude.{◌≡◌, ◌<◌, ◌+◌, ◌^◌, ℕ, List, [], ◌∷◌, Some, length, map, string_bytes};
-ghost use Rattle.sym_model.specs.Command.{Command};
-ghost use Rattle.sym_model.specs.CommandOffence.{Offence, first_offence};
-ghost use Rattle.sym_model.specs.Entry.{HasFirstOffence, SpellsWithoutOffence};
+ghost use Rattle.std.specs.Prelude.{◌≡◌, ◌<◌, ◌+◌, ◌^◌, [], ◌∷◌, Some, length, map, string_bytes};
+ghost use Rattle.sym_model.specs.CommandOffence.{first_offence};
 ghost use Rattle.sym_model.specs.Form.{EachOf};
 ghost use Rattle.sym_model.specs.Grammar.{tab_entry};
-ghost use Rattle.sym_model.specs.SyntaxPlace.{IsSyntaxPlace};
 ghost use Rattle.sym_model.specs.WordForms.{numbers as numbers_of, partition};
 ghost use Rattle.calc_words.specs.NumberRuns.{IsNumber};
-ghost use Rattle.calc_words.specs.Reading.{IsRead, IsJudged, Accepts, Refuses, GoesWrong};
-ghost use Rattle.tableau_words.specs.TabWords.{AreShapesAndLast, last_of, from_offences, all_tab_offences, tableaux_of};
+ghost use Rattle.calc_commands.specs.Commands.{command_of};
+ghost use Rattle.calc_words.specs.Reading.{IsRead, IsJudged};
+ghost use Rattle.tableau_words.specs.TabWords.{last_of, from_offences, all_tab_offences};
 
+use crate::pairs::rows_refusal;
 use crate::parts::tab_parts;
-use crate::{rows_of_shape, rows_refusal};
-use calc_base::{NoMemory, Word, WordsFault};
+use crate::skew_tableaux::rows_of_shape;
+use calc_base::{NoMemory, WordsFault};
+use calc_commands::Command;
 use calc_words::{Kind, behind, read_two, refused, syntax};
 use partitions::Partition;
 use std::alloc::Global;
 use tableau_iter::lattice_reading;
-
-/// Two shapes, and the column reading of the tableau behind which a list goes on, where one is given.
-#[derive(Debug, Drop)]
-pub struct ShapesAndLast {
-    pub outer: Partition,
-    pub inner: Partition,
-    pub after: Option<Word>,
-}
 
 /// The shapes with the tableau of these rows, which stands behind this word, `-from`; or its first offence, where it is not in
 /// the list of the shapes. No rows are no tableau.
@@ -35,13 +27,13 @@ fn judge_last(
     outer: Partition,
     inner: Partition,
     rows: &[&[String]],
-) -> Result<ShapesAndLast, WordsFault>
+) -> Result<Command, WordsFault>
     requires { EachOf (EachOf IsNumber) (map (λ r. map string_bytes r.now) rows.now) }
-    ensures { IsJudged (AreShapesAndLast outer inner (last_of outer inner (map (λ r. numbers_of (map string_bytes r.now)) rows.now)))
+    ensures { IsJudged (λ c. c ≡ Command.Tab outer inner (last_of outer inner (map (λ r. numbers_of (map string_bytes r.now)) rows.now)))
         (first_offence (from_offences at outer inner (map (λ r. map string_bytes r.now) rows.now))) result }
 {
     if rows.is_empty() {
-        return Ok(ShapesAndLast {
+        return Ok(Command::Tab {
             outer,
             inner,
             after: None,
@@ -53,7 +45,7 @@ fn judge_last(
     match lattice_reading(alloc, &outer, &inner, filled.as_slice()) {
         Err(NoMemory) => Err(WordsFault::NoMemory),
         Ok(None) => Err(refused(at, Kind::Shape)),
-        Ok(Some(after)) => Ok(ShapesAndLast {
+        Ok(Some(after)) => Ok(Command::Tab {
             outer,
             inner,
             after: Some(after),
@@ -67,18 +59,16 @@ fn judge_tab(
     outer: &[String],
     inner: &[String],
     rows: &[&[String]],
-) -> Result<ShapesAndLast, WordsFault>
+) -> Result<Command, WordsFault>
     requires some { EachOf (EachOf IsNumber) (map (λ r. map string_bytes r.now) rows.now) }
     requires room { 2 + length outer.now + length inner.now < 2 ^ 64 }
-    ensures { IsJudged (AreShapesAndLast (partition (map string_bytes outer.now)) (partition (map string_bytes inner.now))
+    ensures { IsJudged (λ c. c ≡ Command.Tab (partition (map string_bytes outer.now)) (partition (map string_bytes inner.now))
         (last_of (partition (map string_bytes outer.now)) (partition (map string_bytes inner.now)) (map (λ r. numbers_of (map string_bytes r.now)) rows.now)))
         (first_offence (all_tab_offences (map string_bytes outer.now) (map string_bytes inner.now) (map (λ r. map string_bytes r.now) rows.now))) result }
 {
     let at = 2 + outer.len() as u64 + inner.len() as u64;
-    match read_two(alloc, 1, None, outer, inner) {
-        Err(fault) => Err(fault),
-        Ok(shapes) => judge_last(alloc, at, shapes.first, shapes.second, rows),
-    }
+    let (outer, inner) = read_two(alloc, 1, outer, inner)?;
+    judge_last(alloc, at, outer, inner, rows)
 }
 
 /// Reads the words of `tab`: that word, an outer and an inner partition with `/` between them and, where the list is to go on
@@ -87,21 +77,8 @@ fn judge_tab(
 /// Words that are no such command are refused as `Syntax`, at the word where they go wrong. Otherwise the first offence is
 /// refused: those of the partitions as `read_mult` says, and as `Shape`, at the word `-from`, a tableau that is none of the list
 /// of the lattice tableaux of the outer over the inner partition.
-pub fn read_tab(alloc: Global, words: &[String]) -> Result<ShapesAndLast, WordsFault>
-    ensures read { IsRead (tab_entry ∷ []) tableaux_of (map string_bytes words.now) result }
-    ensures accepts { (command : Command) → SpellsWithoutOffence (tab_entry ∷ []) (map string_bytes words.now) command
-        → Accepts tableaux_of command result }
-    ensures refuses { (offence : Offence) → HasFirstOffence (tab_entry ∷ []) (map string_bytes words.now) (Some offence)
-        → Refuses offence result }
-    ensures goes_wrong { (word byte : ℕ) → IsSyntaxPlace (tab_entry ∷ []) (map string_bytes words.now) word byte
-        → GoesWrong word byte result }
-{
-    read(alloc, words)
-}
-
-/// The words as they are read: what follows for each command and offence, the public call says.
-fn read(alloc: Global, words: &[String]) -> Result<ShapesAndLast, WordsFault>
-    ensures { IsRead (tab_entry ∷ []) tableaux_of (map string_bytes words.now) result }
+pub fn read_tab(alloc: Global, words: &[String]) -> Result<Command, WordsFault>
+    ensures { IsRead (tab_entry ∷ []) command_of (map string_bytes words.now) result }
 {
     let Some(rest) = behind(words, "tab") else {
         return Err(syntax(0));

@@ -1,5 +1,6 @@
 pub mod OneReading
 pub mod Reading
+pub mod Words
 pub mod Examples
 pub mod WrittenRows
 pub mod JudgedRows

@@ -4,18 +4,16 @@ use Rattle.std.specs.Prelude.{string_bytes}
 use Rattle.calc_expressions.specs.Reading.{IsRead as IsReadAs, IsExpression, IsWrongByte}
 use Rattle.calc_base.specs.declared.words.WordsFault.TheVariants.{Syntax}
 use Rattle.sym_model.specs.Phrase.{Phrase, SpellsPhrase, letter}
-use Rattle.calc_language.specs.declared.words.Command.TheVariants.{Expand}
+use Rattle.calc_commands.specs.declared.command.Command.TheVariants.{Expand}
 use Rattle.calc_expressions.specs.Trees.{basis_of}
 use Rattle.sym_model.specs.Grammar.{all_bases}
 use Rattle.calc_language.specs.ExpandFront.{front, IsBehindForm}
 use Rattle.calc_language.specs.Reading.{placed}
 use Rattle.sym_model.specs.Form.{is_letter_of}
+use Rattle.word_laws.specs.Words.{Words}
 use Rattle.calc_language.proofs.ExpandWords.{place-one, place-second, place-two, place-word, place-fourth, read-expression, read-fault, IsAlone, syntax-read, some_words, cons-same}
 use Rattle.calc_language.proofs.Entries.{empty_map}
 use Rattle.calc_language.proofs.expand.read_target.Goals as goal
-
-abbrev Words : Type 0
-Words = List (List ℕ)
 
 pub returns-in_default : goal.returns-in_default
 returns-in_default c =

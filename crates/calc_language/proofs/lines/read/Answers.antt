@@ -6,7 +6,7 @@ use Rattle.calc_words.specs.LineBytes.{seen, is_passed_over}
 use Rattle.calc_words.specs.Reading.{IsRead}
 use Rattle.calc_language.specs.BuiltCommands.{batch_entries}
 use Rattle.calc_language.specs.Reading.{command_of}
-use Rattle.calc_language.specs.declared.words.Command.{Command}
+use Rattle.calc_commands.specs.declared.command.Command.{Command}
 use Rattle.calc_language.proofs.LineCommands.{line_read}
 use Rattle.calc_language.proofs.lines.read.Goals as goal
 

@@ -1,37 +1,28 @@
-use Rattle.std.proofs.Common.{◌≡◌, ℕ, ◌+◌, List, length, map, sym, ap, Err, None}
+use Rattle.std.proofs.Common.{◌≡◌, ℕ, ◌+◌, List, length, map, sym, ap, refl}
 use Rattle.std.specs.Prelude.{string_bytes}
 use Rattle.std.proofs.lemmas.List.{length-map}
-use Rattle.sym_model.specs.CommandOffence.{first_offence}
-use Rattle.sym_model.specs.Grammar.{two_partitions}
-use Rattle.sym_model.specs.WordForms.{partition}
-use Rattle.calc_words.specs.ReadShapes.{AreShapes, AreThree}
-use Rattle.calc_words.proofs.Commands.{outer_faulty, others_judged, all_fine, judged_other}
+use Rattle.std.proofs.lemmas.Result.{err_from_is_err_and}
+use Rattle.calc_words.proofs.Commands.{outer_faulty, others_faulty, all_fine}
 use Rattle.calc_words.proofs.coef.read_three.Goals as goal
 
-pub returns-in-Err : goal.returns-in-Err
-returns-in-Err c =
+pub returns-in_err-outer : goal.returns-in_err-outer
+returns-in_err-outer c =
+    let p = err_from_is_err_and c.from_residual.result c.from_residual.ensures.1 in
+    rw (p.1, p.2) (outer_faulty (map string_bytes c.args.outer.now) (map string_bytes c.args.left.now) (map string_bytes c.args.right.now) _ c.in_err-outer.ensures)
+
+pub returns-in_err-left : goal.returns-in_err-left
+returns-in_err-left c =
+    let p = err_from_is_err_and c.from_residual-in_err-left.result c.from_residual-in_err-left.ensures.1 in
+    rw (p.1, p.2)
+    (others_faulty _ (map string_bytes c.args.outer.now) (map string_bytes c.args.left.now) (map string_bytes c.args.right.now) _
+    (ap (λ n. 2 + n) (sym (length-map c.args.outer.now string_bytes))) c.in_ok-outer.ensures.1 c.in_err-left.ensures)
+
+pub returns : goal.returns
+returns c =
     let outer = map string_bytes c.args.outer.now in
     let left = map string_bytes c.args.left.now in
     let right = map string_bytes c.args.right.now in
-    let P = λ (p : List ℕ). p ≡ partition outer in
-    outer_faulty P (AreThree (partition outer) (partition left) (partition right)) outer left right c.in-Err.fault c.in-Err.ensures
-
-pub returns-in-Err-read_two : goal.returns-in-Err-read_two
-returns-in-Err-read_two c =
-    let outer = map string_bytes c.args.outer.now in
-    let left = map string_bytes c.args.left.now in
-    let right = map string_bytes c.args.right.now in
-    let P = AreShapes None (partition left) (partition right) in
-    let Q = AreThree (partition outer) (partition left) (partition right) in
-    let m = 2 + length c.args.outer.now in
-    others_judged Q m outer left right (Err c.in-Err-read_two.fault) (ap (λ n. 2 + n) (sym (length-map c.args.outer.now string_bytes))) c.in-Ok.ensures.1
-    (judged_other P Q (first_offence (two_partitions m left right)) c.in-Err-read_two.fault c.in-Err-read_two.ensures)
-
-pub returns-in-Ok-read_two : goal.returns-in-Ok-read_two
-returns-in-Ok-read_two c =
-    let outer = map string_bytes c.args.outer.now in
-    let left = map string_bytes c.args.left.now in
-    let right = map string_bytes c.args.right.now in (
-      (c.in-Ok.ensures.0, c.in-Ok-read_two.ensures.0.1, c.in-Ok-read_two.ensures.0.2),
-      all_fine (2 + length c.args.outer.now) outer left right (ap (λ n. 2 + n) (sym (length-map c.args.outer.now string_bytes))) c.in-Ok.ensures.1 c.in-Ok-read_two.ensures.1,
+    let two = c.in_ok-left.ensures.0 in (
+      rw (c.in_ok-outer.ensures.0, ap (λ p. p.0) two, ap (λ p. p.1) two) refl,
+      all_fine (2 + length c.args.outer.now) outer left right (ap (λ n. 2 + n) (sym (length-map c.args.outer.now string_bytes))) c.in_ok-outer.ensures.1 c.in_ok-left.ensures.1,
     )

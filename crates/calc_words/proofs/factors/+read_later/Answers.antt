@@ -4,7 +4,7 @@ use Rattle.std.proofs.lemmas.List.{append-nil, length-map}
 use Rattle.sym_model.specs.CommandOffence.{first_offence, factor_offences}
 use Rattle.sym_model.specs.Form.{EachOf}
 use Rattle.sym_model.specs.WordForms.{numbers, partition}
-use Rattle.calc_words.specs.Reading.{IsJudged}
+use Rattle.calc_words.specs.Reading.{IsJudged, IsFirst}
 use Rattle.calc_words.specs.WrittenLimits.{IsWritten}
 use Rattle.calc_words.proofs.FactorCuts.{next_cut, nothing_behind}
 use Rattle.calc_words.proofs.FactorJudging.{next_faulty, next_fine}
@@ -49,9 +49,9 @@ returns-in-Err t c =
     let k = next_cut (map string_bytes c.args.words.now) (map string_bytes c.in-Some.later.now) list (map string_bytes c.numbers.result.1.now) others e n
     c.in-Some.ensures c.numbers.ensures.parts c.numbers.ensures.numbers c.numbers.ensures.rest in
     subst
-    (λ os. IsJudged (λ (f : List (List ℕ)). f ≡ factors ++ map partition os) (first_offence (factor_offences (length factors) (c.args.at + 1) (map numbers os))) (Err c.in-Err.fault))
+    (λ os. IsFirst (first_offence (factor_offences (length factors) (c.args.at + 1) (map numbers os))) c.in-Err.fault)
     (sym k.others_are)
-    (next_faulty (λ (f : List (List ℕ)). f ≡ factors ++ partition list ∷ []) (λ (f : List (List ℕ)). f ≡ factors ++ map partition (list ∷ k.more)) (length factors) c.args.at list k.more
+    (next_faulty (length factors) c.args.at list k.more
     c.in-Err.fault c.in-Err.ensures)
 
 pub returns-in-Ok : goal.returns-in-Ok

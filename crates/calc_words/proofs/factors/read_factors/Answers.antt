@@ -5,8 +5,8 @@ use Rattle.sym_model.specs.CommandOffence.{first_offence, factor_offences}
 use Rattle.sym_model.specs.Form.{EachOf}
 use Rattle.sym_model.specs.Grammar.{two_partitions}
 use Rattle.sym_model.specs.WordForms.{numbers, partition}
-use Rattle.calc_words.specs.ReadShapes.{AreShapes}
-use Rattle.calc_words.specs.Reading.{IsJudged}
+use Rattle.std.proofs.lemmas.Result.{err_from_is_err_and}
+use Rattle.calc_words.specs.Reading.{IsJudged, IsFirst}
 use Rattle.calc_words.specs.WrittenLimits.{IsWritten}
 use Rattle.calc_words.proofs.WrittenLists.{two_written}
 use Rattle.calc_words.proofs.FactorCuts.{run_cut}
@@ -15,13 +15,13 @@ use Rattle.calc_words.proofs.factors.read_factors.Goals as goal
 
 pub paired-requires-clause-left : goal.paired-requires-clause-left
 paired-requires-clause-left c =
-    let w = two_written c.args.at (map string_bytes c.args.first.now) (map string_bytes c.numbers.result.0.now) c.in-Ok.ensures.1 in
-    subst IsWritten (sym c.in-Ok.ensures.0.1) w.0
+    let w = two_written c.args.at (map string_bytes c.args.first.now) (map string_bytes c.numbers.result.0.now) c.in_ok-first.ensures.1 in
+    subst IsWritten (sym (ap (λ p. p.0) c.in_ok-first.ensures.0)) w.0
 
 pub paired-requires-clause-right : goal.paired-requires-clause-right
 paired-requires-clause-right c =
-    let w = two_written c.args.at (map string_bytes c.args.first.now) (map string_bytes c.numbers.result.0.now) c.in-Ok.ensures.1 in
-    subst IsWritten (sym c.in-Ok.ensures.0.2) w.1
+    let w = two_written c.args.at (map string_bytes c.args.first.now) (map string_bytes c.numbers.result.0.now) c.in_ok-first.ensures.1 in
+    subst IsWritten (sym (ap (λ p. p.1) c.in_ok-first.ensures.0)) w.1
 
 pub read_later-requires-clause-place : goal.read_later-requires-clause-place
 read_later-requires-clause-place c =
@@ -38,24 +38,24 @@ read_later-requires-clause-place c =
 
 pub read_later-requires-clause-written : goal.read_later-requires-clause-written
 read_later-requires-clause-written c =
-    let w = two_written c.args.at (map string_bytes c.args.first.now) (map string_bytes c.numbers.result.0.now) c.in-Ok.ensures.1 in
-    let both : EachOf IsWritten (c.in-Ok.two.first ∷ c.in-Ok.two.second ∷ []) =
-    (subst IsWritten (sym c.in-Ok.ensures.0.1) w.0, (subst IsWritten (sym c.in-Ok.ensures.0.2) w.1, tt)) in
-    subst (EachOf IsWritten) (sym c.in-Ok-paired.ensures.0) both
+    let w = two_written c.args.at (map string_bytes c.args.first.now) (map string_bytes c.numbers.result.0.now) c.in_ok-first.ensures.1 in
+    let both : EachOf IsWritten (c.in_ok-first.first ∷ c.in_ok-first.second ∷ []) =
+    (subst IsWritten (sym (ap (λ p. p.0) c.in_ok-first.ensures.0)) w.0, (subst IsWritten (sym (ap (λ p. p.1) c.in_ok-first.ensures.0)) w.1, tt)) in
+    subst (EachOf IsWritten) (sym c.in_ok-factors.ensures.0) both
 
-pub returns-in-Err : goal.returns-in-Err
-returns-in-Err c =
+pub returns-in_err-first : goal.returns-in_err-first
+returns-in_err-first c =
     λ second others e n o.
     let at = c.args.at in
     let first = map string_bytes c.args.first.now in
     let list = map string_bytes c.numbers.result.0.now in
     let k = run_cut (map string_bytes c.args.later.now) second list (map string_bytes c.numbers.result.1.now) others e n
     c.numbers.ensures.parts c.numbers.ensures.numbers c.numbers.ensures.rest in
-    two_faulty (AreShapes None (partition first) (partition list)) (λ (f : List (List ℕ)). f ≡ partition first ∷ partition second ∷ map partition others) at first second others c.in-Err.fault
-    (subst (λ ws. IsJudged (AreShapes None (partition first) (partition list)) (first_offence (two_partitions at first ws)) (Err c.in-Err.fault)) (sym k.0) c.in-Err.ensures)
+    let p = err_from_is_err_and c.from_residual.result c.from_residual.ensures.1 in
+    rw (p.1, p.2) (two_faulty at first second others _ (subst (λ ws. IsFirst (first_offence (two_partitions at first ws)) c.in_err-first.field-0.0) (sym k.0) c.in_err-first.ensures))
 
-pub returns-in-Ok-paired : goal.returns-in-Ok-paired
-returns-in-Ok-paired c =
+pub returns : goal.returns
+returns c =
     λ second others e n o.
     let at = c.args.at in
     let first = map string_bytes c.args.first.now in
@@ -66,13 +66,13 @@ returns-in-Ok-paired c =
     let f = length-map c.args.first.now string_bytes in
     let l = length-map c.numbers.result.0.now string_bytes in
     let s = ap length k.0 in
-    let fs : c.in-Ok-paired.factors ≡ partition first ∷ partition second ∷ [] =
-    c.in-Ok-paired.ensures.0
-    ∙ ap (λ p. p ∷ c.in-Ok.two.second ∷ []) c.in-Ok.ensures.0.1
-    ∙ ap (λ p. partition first ∷ p ∷ []) (c.in-Ok.ensures.0.2 ∙ ap partition (sym k.0)) in
+    let fs : c.in_ok-factors.factors ≡ partition first ∷ partition second ∷ [] =
+    c.in_ok-factors.ensures.0
+    ∙ ap (λ p. p ∷ c.in_ok-first.second ∷ []) (ap (λ p. p.0) c.in_ok-first.ensures.0)
+    ∙ ap (λ p. partition first ∷ p ∷ []) ((ap (λ p. p.1) c.in_ok-first.ensures.0) ∙ ap partition (sym k.0)) in
     two_fine (λ (g : List (List ℕ)). g ≡ partition first ∷ partition second ∷ map partition others) at after first second others c.read_later.result
     (omega (arith, f, l, s))
-    (ap (λ ws. first_offence (two_partitions at first ws)) k.0 ∙ c.in-Ok.ensures.1)
+    (ap (λ ws. first_offence (two_partitions at first ws)) k.0 ∙ c.in_ok-first.ensures.1)
     (subst
     (λ gs. IsJudged (λ (g : List (List ℕ)). g ≡ gs ++ map partition others) (first_offence (factor_offences (length gs) (after + 1) (map numbers others))) c.read_later.result)
     fs (c.read_later.ensures others k.1 o))

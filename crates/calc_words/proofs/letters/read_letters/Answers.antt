@@ -13,7 +13,7 @@ returns-in_default c =
     let i = c.loop-i.i in
     let x = counted string_bytes decimal_value ws in
     let e = number_at string_bytes decimal_value ws i c.index-words-i.result c.loop-i-test.true c.index-words-i.is in
-    wide_in_word (λ w. w ≡ ns) c.args.at ns i _ c.loop-i.letters
+    wide_in_word c.args.at ns i _ c.loop-i.letters
     c.loop-i.invariant (omega (arith, x)) (e ∙ ap decimal_value (sym c.as_bytes.ensures.value)) (sym c.value_of.ensures ∙ c.in_default.is) c.offence.result c.offence.ensures
 
 pub returns-then-is_past : goal.returns-then-is_past
@@ -23,7 +23,7 @@ returns-then-is_past c =
     let i = c.loop-i.i in
     let x = counted string_bytes decimal_value ws in
     let e = number_at string_bytes decimal_value ws i c.index-words-i.result c.loop-i-test.true c.index-words-i.is in
-    past_in_word (λ w. w ≡ ns) c.args.at ns i _ c.in-Some.value c.loop-i.letters
+    past_in_word c.args.at ns i _ c.in-Some.value c.loop-i.letters
     c.loop-i.invariant (omega (arith, x)) (e ∙ ap decimal_value (sym c.as_bytes.ensures.value)) (sym c.in-Some.is ∙ c.value_of.ensures)
     (sym c.is_past.ensures ∙ c.if-is_past.true) c.offence-then-is_past.result c.offence-then-is_past.ensures
 

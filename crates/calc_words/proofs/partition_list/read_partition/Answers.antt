@@ -14,7 +14,7 @@ returns-in_default c =
     let ns = numbers (map string_bytes ws) in
     let e = number_at string_bytes decimal_value ws c.loop-count.count c.index-words-count.result c.loop-count-test.true c.index-words-count.is in
     let h : c.loop-count.count < length ns = let x = counted string_bytes decimal_value ws in omega (arith, x) in
-    wide_first (λ p. p ≡ partition (map string_bytes ws)) c.args.at ns c.loop-count.count c.loop-count.cells _ c.loop-count.last c.loop-count.parts
+    wide_first c.args.at ns c.loop-count.count c.loop-count.cells _ c.loop-count.last c.loop-count.parts
     c.loop-count.invariant h (e ∙ ap decimal_value (sym c.as_bytes.ensures.value)) (sym c.value_of.ensures ∙ c.in_default.is) c.offence.result c.offence.ensures
 
 pub returns-in-Some-part_offence : goal.returns-in-Some-part_offence
@@ -23,7 +23,7 @@ returns-in-Some-part_offence c =
     let ns = numbers (map string_bytes ws) in
     let e = number_at string_bytes decimal_value ws c.loop-count.count c.index-words-count.result c.loop-count-test.true c.index-words-count.is in
     let h : c.loop-count.count < length ns = let x = counted string_bytes decimal_value ws in omega (arith, x) in
-    kind_first (λ p. p ≡ partition (map string_bytes ws)) c.args.at ns c.loop-count.count c.loop-count.cells _ c.in-Some.value c.loop-count.last c.loop-count.parts
+    kind_first c.args.at ns c.loop-count.count c.loop-count.cells _ c.in-Some.value c.loop-count.last c.loop-count.parts
     c.loop-count.invariant h (e ∙ ap decimal_value (sym c.as_bytes.ensures.value)) (sym c.in-Some.is ∙ c.value_of.ensures)
     c.in-Some-part_offence.kind (sym c.in-Some-part_offence.is ∙ c.part_offence.ensures)
     c.offence-in-Some-part_offence.result c.offence-in-Some-part_offence.ensures

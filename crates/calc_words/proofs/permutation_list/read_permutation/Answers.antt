@@ -17,7 +17,7 @@ returns-in_default c =
     let i = c.loop-i.i in
     let e = number_at string_bytes decimal_value ws i c.index-words-i.result c.loop-i-test.true c.index-words-i.is in
     let h : i < length ns = let x = counted string_bytes decimal_value ws in omega (arith, x) in
-    wide_letter (λ w. w ≡ kept ns) c.args.at ns i _ c.loop-i.letters
+    wide_letter c.args.at ns i _ c.loop-i.letters
     c.loop-i.invariant h (e ∙ ap decimal_value (sym c.as_bytes.ensures.value)) (sym c.value_of.ensures ∙ c.in_default.is) c.offence.result c.offence.ensures
 
 pub returns-in-Some-letter_offence : goal.returns-in-Some-letter_offence
@@ -28,7 +28,7 @@ returns-in-Some-letter_offence c =
     let x = counted string_bytes decimal_value ws in
     let e = number_at string_bytes decimal_value ws i c.index-words-i.result c.loop-i-test.true c.index-words-i.is in
     let h : i < length ns = omega (arith, x) in
-    letter_first (λ w. w ≡ kept ns) c.args.at ns i _ c.in-Some.value c.loop-i.letters
+    letter_first c.args.at ns i _ c.in-Some.value c.loop-i.letters
     c.loop-i.invariant h (e ∙ ap decimal_value (sym c.as_bytes.ensures.value)) (sym c.in-Some.is ∙ c.value_of.ensures)
     c.in-Some-letter_offence.kind
     (sym c.in-Some-letter_offence.is ∙ c.letter_offence.ensures ∙ ap (λ n. letter_kind n (take i c.loop-i.letters) c.in-Some.value) (sym x))

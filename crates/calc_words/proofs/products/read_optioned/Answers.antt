@@ -1,18 +1,18 @@
 use Rattle.std.proofs.Common.{◌≡◌, ℕ, map, ◌∷◌, arith, Option}
 use Rattle.std.specs.Prelude.{string_bytes}
+use Rattle.std.proofs.lemmas.Result.{err_from_is_err_and}
 use Rattle.sym_model.specs.CommandOffence.{factor_offences}
-use Rattle.sym_model.specs.WordForms.{numbers, row_limit}
+use Rattle.sym_model.specs.WordForms.{numbers}
 use Rattle.calc_words.proofs.Commands.{limit_faulty}
-use Rattle.calc_words.specs.ReadProducts.{IsProduct}
-use Rattle.calc_words.proofs.FactorCommands.{factor_list, number_list}
+use Rattle.calc_words.proofs.FactorCommands.{number_list}
 use Rattle.calc_words.proofs.FactorJudging.{factors_from}
 use Rattle.calc_words.proofs.products.read_optioned.Goals as goal
 
-pub returns-in-Err : goal.returns-in-Err
-returns-in-Err c =
+pub returns-in_err-rows : goal.returns-in_err-rows
+returns-in_err-rows c =
     λ limit is from second others e n o.
+    let p = err_from_is_err_and c.from_residual.result c.from_residual.ensures.1 in
     let at = c.args.at in
     let first = map string_bytes c.args.first.now in
-    limit_faulty (λ (x : Option ℕ). x ≡ row_limit limit) (IsProduct (row_limit limit) c.args.options.one_line (factor_list first second others)) limit
-    (factor_offences 0 at (number_list first second others)) c.in-Err.fault
-    (λ p m. let w = factors_from at (numbers first) (numbers second ∷ map numbers others) p m in omega (arith, w, from)) (c.in-Err.ensures limit is)
+    rw (p.1, p.2) (limit_faulty limit (factor_offences 0 at (number_list first second others)) _
+    (λ p m. let w = factors_from at (numbers first) (numbers second ∷ map numbers others) p m in omega (arith, w, from)) (c.in_err-rows.ensures limit is))

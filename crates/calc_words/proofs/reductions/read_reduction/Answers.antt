@@ -5,7 +5,6 @@ use Rattle.sym_model.specs.PrintedBlock.{decimal_value}
 use Rattle.sym_model.specs.Form.{Form, sequence, word, number}
 use Rattle.sym_model.specs.Grammar.{reduction_words}
 use Rattle.sym_model.specs.WordForms.{factors_words}
-use Rattle.calc_words.specs.declared.reductions.Reduction.{Reduction}
 use Rattle.calc_words.specs.ReadProducts.{reduction_entry}
 use Rattle.calc_words.proofs.FactorCommands.{reduction_read}
 use Rattle.calc_words.specs.NumberRuns.{narrow}
@@ -25,7 +24,7 @@ returns-in_default c =
     λ says.
     let words = map string_bytes c.args.words.now in
     let name = c.args.name.now in
-    syntax_read (reduction_entry name says) (λ (r : Reduction). says r.rows r.bound r.factors) words (length words) 0 c.syntax.result refl
+    syntax_read (reduction_entry name says) words (length words) 0 c.syntax.result refl
     (wrong_the name rows_more words c.in_default.ensures) (omega arith) c.syntax.ensures
 
 one_word : (name : List ℕ) (words rest : List (List ℕ)) → words ≡ name ∷ rest → 1 ≡ length words - length rest
@@ -40,7 +39,7 @@ returns-in_default-first_number c =
     let words = map string_bytes c.args.words.now in
     let name = c.args.name.now in
     let rest = map string_bytes c.in-Some.rest.now in
-    syntax_read (reduction_entry name says) (λ (r : Reduction). says r.rows r.bound r.factors) words (length rest) 1 c.syntax-in_default-first_number.result refl
+    syntax_read (reduction_entry name says) words (length rest) 1 c.syntax-in_default-first_number.result refl
     (subst (λ ws. WrongAt (reduction_words name) ws (length rest)) (sym c.in-Some.ensures)
     (behind_the name rows_more rest (length rest) (wrong_number bound_more rest c.in_default-first_number.ensures)))
     (one_word name words rest c.in-Some.ensures) c.syntax-in_default-first_number.ensures
@@ -54,7 +53,7 @@ returns-in_default-first_number-2 c =
     let rows = string_bytes c.in-Some-first_number.rows.now in
     let more = map string_bytes c.in-Some-first_number.rest.now in
     let first = c.in-Some-first_number.ensures in
-    syntax_read (reduction_entry name says) (λ (r : Reduction). says r.rows r.bound r.factors) words (length more) 2 c.syntax-in_default-first_number-2.result refl
+    syntax_read (reduction_entry name says) words (length more) 2 c.syntax-in_default-first_number-2.result refl
     (subst (λ ws. WrongAt (reduction_words name) ws (length more)) (sym c.in-Some.ensures)
     (behind_the name rows_more rest (length more)
     (subst (λ ws. WrongAt rows_more ws (length more)) (sym first.0)
@@ -74,7 +73,7 @@ returns-in-Err c =
     let first = c.in-Some-first_number.ensures in
     let second = c.in-Some-first_number-2.ensures in
     let left = c.in-Err.left in
-    syntax_read (reduction_entry name says) (λ (r : Reduction). says r.rows r.bound r.factors) words left (length c.args.words.now - left) c.syntax-in-Err.result refl
+    syntax_read (reduction_entry name says) words left (length c.args.words.now - left) c.syntax-in-Err.result refl
     (subst (λ ws. WrongAt (reduction_words name) ws left) (sym c.in-Some.ensures)
     (behind_the name rows_more rest left
     (subst (λ ws. WrongAt rows_more ws left) (sym first.0)

@@ -5,8 +5,7 @@ use Rattle.sym_model.specs.WordForms.{numbers, partition}
 use Rattle.word_laws.specs.JudgedRows.{earlier}
 use Rattle.word_laws.proofs.EarlierOffences.{first_of_both}
 use Rattle.tableau_words.specs.FoundOffences.{found_of}
-use Rattle.tableau_words.specs.RefusedFirst.{IsRefusalOf}
-use Rattle.tableau_words.proofs.InsideJudging.{refusal_judged, judged_refusal}
+use Rattle.calc_words.specs.Reading.{IsFirst}
 use Rattle.sym_model.specs.Schur.{contains}
 use Rattle.tableau_words.proofs.SkewTableaux.{inside_contains}
 use Rattle.tableau_words.proofs.PairJudging.{found_judged}
@@ -17,19 +16,16 @@ returns-in-Err-clause-judged c =
     let ns = numbers (map string_bytes c.args.words.now) in
     let parts = part_offences c.args.at ns in
     let inside = offences_by (inside_rule c.args.outer.now) c.args.at ns in
-    let p = λ (x : List ℕ). x ≡ partition (map string_bytes c.args.words.now) in
-    refusal_judged p (first_offence (parts ++ inside)) c.earlier_refusal.result
-    (subst (λ o. IsRefusalOf o c.earlier_refusal.result)
+    subst (λ o. IsFirst o c.earlier_refusal.result)
     (ap (earlier (first_offence parts)) c.outside_offence-outside.ensures ∙ sym (first_of_both parts inside))
-    (c.earlier_refusal.ensures (first_offence parts) (judged_refusal p (first_offence parts) c.in-Err.fault c.in-Err.ensures)))
+    (c.earlier_refusal.ensures (first_offence parts) c.in-Err.ensures)
 
 pub returns-in-Some-clause-judged : goal.returns-in-Some-clause-judged
 returns-in-Some-clause-judged c =
     let ns = numbers (map string_bytes c.args.words.now) in
     let parts = part_offences c.args.at ns in
     let inside = offences_by (inside_rule c.args.outer.now) c.args.at ns in
-    let p = λ (x : List ℕ). x ≡ partition (map string_bytes c.args.words.now) in
-    found_judged p (first_offence (parts ++ inside)) c.in-Some.found c.offence.result
+    found_judged (first_offence (parts ++ inside)) c.in-Some.found c.offence.result
     (first_of_both parts inside ∙ ap (λ o. earlier o (first_offence inside)) c.in-Ok.ensures.1 ∙ sym c.outside_offence-outside.ensures ∙ ap found_of c.in-Some.is)
     c.offence.ensures
 
@@ -37,8 +33,7 @@ pub returns-in-None-clause-judged : goal.returns-in-None-clause-judged
 returns-in-None-clause-judged c =
     let ns = numbers (map string_bytes c.args.words.now) in
     let parts = part_offences c.args.at ns in
-    let inside = offences_by (inside_rule c.args.outer.now) c.args.at ns in
-    let p = λ (x : List ℕ). x ≡ partition (map string_bytes c.args.words.now) in (
+    let inside = offences_by (inside_rule c.args.outer.now) c.args.at ns in (
       c.in-Ok.ensures.0,
       first_of_both parts inside ∙ ap (λ o. earlier o (first_offence inside)) c.in-Ok.ensures.1 ∙ sym c.outside_offence-outside.ensures ∙ ap found_of c.in-None.is,
     )

@@ -24,7 +24,7 @@ returns-in-Some-clause-judged c =
     let n1 : 0 < length w1 = omega (arith, l1, c.requires.first.0) in
     let n2 : 0 < length w2 = omega (arith, l2, c.requires.second.0) in
     let p = AreFillings (rows_in [] (map (λ r. numbers (map string_bytes r.now)) f1)) (rows_in [] (map (λ r. numbers (map string_bytes r.now)) s1)) in
-    found_judged p (first_offence (pair_offences w1 w2)) c.in-Some.found c.offence.result
+    found_judged (first_offence (pair_offences w1 w2)) c.in-Some.found c.offence.result
     (first_of_pair w1 w2 (offence_of c.in-Some.found) n1 (sym c.insertion_offence.ensures ∙ ap found_of c.in-Some.is)) c.offence.ensures
 
 pub recording_offence-requires-clause-few : goal.recording_offence-requires-clause-few
@@ -52,7 +52,7 @@ returns-in-Some-recording_offence-clause-judged c =
     let asked = c.as_slice.ensures.value ∙ c.in-Ok.ensures ∙ lengths_twice (λ r. r.now) string_bytes f1 in
     let at = ap (λ n. 1 + n) c.text_length-at.ensures ∙ place_of_second w1 n1 in
     let pair = second_of_pair w1 w2 (1 + c.text_length-at.result) c.as_slice.result.now n1 n2 c.requires.second.1 at asked none in
-    found_judged p (first_offence (pair_offences w1 w2)) c.in-Some-recording_offence.found c.offence-in-Some-recording_offence.result
+    found_judged (first_offence (pair_offences w1 w2)) c.in-Some-recording_offence.found c.offence-in-Some-recording_offence.result
     (sym pair ∙ sym c.recording_offence.ensures ∙ ap found_of c.in-Some-recording_offence.is) c.offence-in-Some-recording_offence.ensures
 
 pub returns-clause-judged : goal.returns-clause-judged

@@ -29,7 +29,7 @@ returns-in-Some-clause-judged c =
     ∙ ap (λ o. earlier o (first_offence (left_at at c.as_slice.result.now ws))) (sym c.skewed_number.ensures)
     ∙ ap (earlier (found_of c.skewed_number.result)) (sym c.left_shape.ensures)
     ∙ sym c.earlier-found.ensures in
-    found_judged (AreSkewRows c.args.outer c.args.inner (rows_in c.args.outer (map (λ r. numbers (map string_bytes r.now)) rows)))
+    found_judged
     (first_offence (skew_offences at c.args.outer c.args.inner ws)) c.in-Some.found c.offence.result (all ∙ ap found_of c.in-Some.is) c.offence.ensures
 
 pub returns-clause-judged : goal.returns-clause-judged

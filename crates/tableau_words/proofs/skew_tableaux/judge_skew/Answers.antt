@@ -4,9 +4,10 @@ use Rattle.std.proofs.lemmas.List.{length-map}
 use Rattle.sym_model.specs.CommandOffence.{first_offence, part_offences, rows_in}
 use Rattle.sym_model.specs.WordForms.{numbers, partition}
 use Rattle.calc_words.specs.Reading.{IsJudged}
+use Rattle.calc_words.proofs.Commands.{judged_on}
 use Rattle.tableau_words.specs.SkewTotals.{all_skew_offences}
 use Rattle.tableau_words.specs.SkewWords.{AreSkewRows, skew_offences}
-use Rattle.tableau_words.proofs.SkewJudging.{judged_on, outer_first, inner_first, neither_first, inner_alone}
+use Rattle.tableau_words.proofs.SkewJudging.{outer_first, inner_first, neither_first, inner_alone}
 use Rattle.tableau_words.proofs.skew_tableaux.judge_skew.Goals as goal
 
 pub returns-in-Err-clause-judged : goal.returns-in-Err-clause-judged
@@ -14,9 +15,7 @@ returns-in-Err-clause-judged c =
     let outer = map string_bytes c.args.outer.now in
     let inner = map string_bytes c.args.inner.now in
     let rows = map (λ r. map string_bytes r.now) c.args.rows.now in
-    judged_on (λ (x : List ℕ). x ≡ partition outer)
-    (AreSkewRows (partition outer) (partition inner) (rows_in (partition outer) (map (λ r. numbers (map string_bytes r.now)) c.args.rows.now)))
-    (first_offence (part_offences 1 (numbers outer))) (first_offence (all_skew_offences outer inner rows)) c.in-Err.fault (outer_first outer inner rows) c.in-Err.ensures
+    judged_on (first_offence (part_offences 1 (numbers outer))) (first_offence (all_skew_offences outer inner rows)) c.in-Err.fault (outer_first outer inner rows) c.in-Err.ensures
 
 pub returns-in-Err-read_inner-clause-judged : goal.returns-in-Err-read_inner-clause-judged
 returns-in-Err-read_inner-clause-judged c =
@@ -25,9 +24,7 @@ returns-in-Err-read_inner-clause-judged c =
     let rows = map (λ r. map string_bytes r.now) c.args.rows.now in
     let parts = c.parts.result.now in
     let same = ap (λ n. 2 + n) (sym (length-map c.args.outer.now string_bytes)) in
-    judged_on (λ (x : List ℕ). x ≡ partition inner)
-    (AreSkewRows (partition outer) (partition inner) (rows_in (partition outer) (map (λ r. numbers (map string_bytes r.now)) c.args.rows.now)))
-    (first_offence (inner_alone (2 + length c.args.outer.now) parts inner)) (first_offence (all_skew_offences outer inner rows)) c.in-Err-read_inner.fault
+    judged_on (first_offence (inner_alone (2 + length c.args.outer.now) parts inner)) (first_offence (all_skew_offences outer inner rows)) c.in-Err-read_inner.fault
     (λ o h. inner_first outer inner rows parts o (c.parts.ensures.value ∙ c.in-Ok.ensures.0) c.in-Ok.ensures.1
     (subst (λ m. first_offence (inner_alone m parts inner) ≡ Some o) same h))
     c.in-Err-read_inner.ensures.judged

@@ -1,15 +1,11 @@
-use Rattle.std.proofs.Common.{map, None}
+use Rattle.std.proofs.Common.{map}
 use Rattle.std.specs.Prelude.{string_bytes}
-use Rattle.sym_model.specs.WordForms.{numbers, partition}
-use Rattle.calc_words.specs.ReadShapes.{AreShapes}
-use Rattle.tableau_words.specs.TabWords.{AreShapesAndLast, last_of}
+use Rattle.std.proofs.lemmas.Result.{err_from_is_err_and}
 use Rattle.tableau_words.proofs.TabJudging.{shapes_faulty}
 use Rattle.tableau_words.proofs.tab.judge_tab.Goals as goal
 
-pub returns-in-Err : goal.returns-in-Err
-returns-in-Err c =
-    let outer = map string_bytes c.args.outer.now in
-    let inner = map string_bytes c.args.inner.now in
-    shapes_faulty (AreShapes None (partition outer) (partition inner))
-    (AreShapesAndLast (partition outer) (partition inner) (last_of (partition outer) (partition inner) (map (λ r. numbers (map string_bytes r.now)) c.args.rows.now)))
-    outer inner (map (λ r. map string_bytes r.now) c.args.rows.now) c.in-Err.fault c.in-Err.ensures
+pub returns-in_err-outer : goal.returns-in_err-outer
+returns-in_err-outer c =
+    let p = err_from_is_err_and c.from_residual.result c.from_residual.ensures.1 in
+    rw (p.1, p.2)
+    (shapes_faulty (map string_bytes c.args.outer.now) (map string_bytes c.args.inner.now) (map (λ r. map string_bytes r.now) c.args.rows.now) _ c.in_err-outer.ensures)

@@ -1,0 +1,23 @@
+-- What a command says (this project's own).
+use Rattle.sym_model.specs.Command.{Command as PlainCommand, mult, skew, coef, coprod, quantum, fusion, expand, schubert, schubmult, tab, rsk, unrsk, rect, batch, work}
+use Rattle.calc_expressions.specs.Trees.{basis_of, tree_of}
+use Rattle.calc_commands.specs.declared.command.Command.{Command}
+use Rattle.calc_commands.specs.declared.command.Command.TheVariants.{Mult, Skew, Coef, Coprod, Quantum, Fusion, Expand, Schubert, Schubmult, Tab, Rsk, Unrsk, Rect, Batch, Work}
+
+-- the plain command
+abbrev pub command_of : Command → PlainCommand
+command_of (Mult rows one_line factors) = mult rows one_line factors
+command_of (Skew rows one_line outer inner) = skew rows one_line outer inner
+command_of (Coef outer left right) = coef outer left right
+command_of (Coprod shape) = coprod shape
+command_of (Tab outer inner after) = tab outer inner after
+command_of (Quantum rows cols factors) = quantum rows cols factors
+command_of (Fusion rows level factors) = fusion rows level factors
+command_of (Schubert perm) = schubert perm
+command_of (Schubmult left right) = schubmult left right
+command_of (Expand target one_line formula) = expand (basis_of target) one_line (tree_of formula.tree)
+command_of (Rsk letters) = rsk letters
+command_of (Unrsk pair) = unrsk pair.0.rows pair.1.rows
+command_of (Rect tableau) = rect tableau.outer tableau.inner tableau.rows
+command_of Batch = batch
+command_of (Work lines seed) = work lines seed

@@ -1,9 +1,0 @@
-use Rattle.std.proofs.Common.{map, [], ◌∷◌}
-use Rattle.std.specs.Prelude.{string_bytes}
-use Rattle.sym_model.specs.Grammar.{work_entry}
-use Rattle.calc_words.specs.BatchWords.{work_of}
-use Rattle.calc_language.proofs.Entries.{refused}
-use Rattle.calc_language.proofs.batches.work.Goals as goal
-
-pub returns-in-Err : goal.returns-in-Err
-returns-in-Err c = refused (work_entry ∷ []) work_of (map string_bytes c.args.words.now) c.in-Err.fault c.in-Err.ensures.read

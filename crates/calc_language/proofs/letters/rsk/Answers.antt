@@ -1,9 +1,0 @@
-use Rattle.std.proofs.Common.{map, [], ◌∷◌}
-use Rattle.std.specs.Prelude.{string_bytes}
-use Rattle.sym_model.specs.Grammar.{rsk_entry}
-use Rattle.sym_model.specs.Command.{rsk}
-use Rattle.calc_language.proofs.Entries.{refused}
-use Rattle.calc_language.proofs.letters.rsk.Goals as goal
-
-pub returns-in-Err : goal.returns-in-Err
-returns-in-Err c = refused (rsk_entry ∷ []) rsk (map string_bytes c.args.words.now) c.in-Err.fault c.in-Err.ensures.read
