@@ -22,6 +22,7 @@ use Rattle.sym_model.proofs.Sums.{total_ext, total_map, total_each, total_select
 use Rattle.sym_model.proofs.Exponents.{same_true, same_sym}
 use Rattle.sym_model.proofs.Monomials.{is_exponent_list, total_exponent_lists-only}
 use Rattle.sym_model.proofs.Polynomials.{at_only, coefficient_pair, pair_total}
+use Rattle.basis_expand.proofs.DividedLists.{same_factorials}
 use Rattle.monomial_laws.specs.Majorant.{power, factorials as plain_factorials}
 use Rattle.monomial_laws.proofs.Powers.{coefficient_power, power-nonnegative, factorials-positive}
 use Rattle.monomial_laws.proofs.SchurMajorants.{pair-power}
@@ -137,10 +138,6 @@ factorials-insert (suc a) (b ∷ parts) = by (nat_le b (suc a)) (factorials-inse
 factorials-sorted : (α : List ℕ) → plain_factorials (sorted_parts α) ≡ plain_factorials α
 factorials-sorted [] = refl
 factorials-sorted (a ∷ α) = factorials-insert a (sorted_parts α) ∙ ap (λ k. factorial a * k) (factorials-sorted α)
-
-pub same_factorials : (parts : List ℕ) → plain_factorials parts ≡ factorials parts
-same_factorials [] = refl
-same_factorials (a ∷ parts) = ap (λ n. factorial a * n) (same_factorials parts)
 
 -- a number bounded by the multinomial of a partition
 bounded_at : (x N n : ℕ) (parts α : List ℕ) → IsArrangement parts n α → x * factorials parts ≤ N * factorial (size parts) → pos x ≤ℤ (pos N *ℤ multinomial (size parts) n α)

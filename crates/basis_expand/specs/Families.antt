@@ -2,7 +2,6 @@
 use Rattle.std.specs.Prelude.{ℕ}
 use Rattle.sym_model.specs.Polynomial.{Poly}
 use Rattle.sym_model.specs.Bases.{elementary_of, complete_of, power_sum_of}
-use Rattle.sym_model.specs.Expansion.{Basis, elementaries, completes, power_sums}
 use Rattle.basis_expand.specs.declared.atoms.Family.{Family}
 use Rattle.basis_expand.specs.declared.atoms.Family.TheVariants.{Elementary, Complete, PowerSum}
 
@@ -11,9 +10,3 @@ abbrev pub polynomial_of : Family → ℕ → ℕ → Poly
 polynomial_of Elementary = elementary_of
 polynomial_of Complete = complete_of
 polynomial_of PowerSum = power_sum_of
-
--- the basis of the products
-abbrev pub basis_in : Family → Basis
-basis_in Elementary = elementaries
-basis_in Complete = completes
-basis_in PowerSum = power_sums

@@ -1,0 +1,171 @@
+-- p_k[G] and p_λ[G] of a list G in m, factor by factor.
+use Rattle.std.proofs.Common.{◌≡◌, cond, ℕ, ◌+◌, ◌*◌, ◌^◌, ◌<◌, ◌≤◌, List, [], ◌∷◌, ◌++◌, length, sym, ◌∙◌, ap, subst, arith, ℤ, pos, ◌+ℤ◌}
+use Rattle.std.specs.Prelude.{FitsSigned}
+use Rattle.std.specs.Int.{w128}
+use Rattle.std.proofs.lemmas.Int.{ints}
+use Rattle.std.proofs.lemmas.Bool.{and_parts}
+use Rattle.std.proofs.lemmas.List.{map-append}
+use Rattle.std.proofs.lemmas.Nat.{mul-le, pow-add}
+use Rattle.std.proofs.Math.Nat.{pow-le-pow_right}
+use Rattle.coeff_rings.specs.Fractions.{whole}
+use Rattle.coeff_rings.specs.Checked.{checked_i128}
+use Rattle.sym_model.specs.Sum.{Among, Once}
+use Rattle.sym_model.specs.Partition.{IsPartition, Falls, ArePositive, size}
+use Rattle.sym_model.specs.Plethysm.{multiplied, repeated_monomials}
+use Rattle.sym_model.specs.Polynomial.{same, Same, coefficient}
+use Rattle.sym_model.specs.Expansion.{Basis, Fraction, Terms}
+use Rattle.sym_model.specs.Canonical.{is_reduced}
+use Rattle.sym_model.specs.LabelLimits.{is_label}
+use Rattle.sym_model.specs.Weight.{growth}
+use Rattle.sym_model.specs.WholeTerms.{WholeTerms, labels, numerators}
+use Rattle.sym_model.proofs.CanonicalLists.{each_term-among}
+use Rattle.sym_model.proofs.Exponents.{same_apart}
+use Rattle.sym_model.proofs.Orders.{is_label-tells}
+use Rattle.sym_model.proofs.Polynomials.{Same_sym}
+use Rattle.sym_model.proofs.SortedParts.{rows_within_size}
+use Rattle.sym_model.proofs.Sums.{total_none, Among-map}
+use Rattle.partitions.specs.Limits.{IsWithinLimits}
+use Rattle.monomial_laws.specs.ExpressionTerms.{in_monomials, IsList}
+use Rattle.monomial_laws.specs.MonomialProduct.{product_coefficient}
+use Rattle.monomial_laws.proofs.ExpressionTerms.{list_respects, list-no_factor, list-product}
+use Rattle.monomial_laws.proofs.Majorants.{coefficient-higher}
+use Rattle.monomial_laws.proofs.Splits.{In-monomial_terms}
+use Rattle.monomial_laws.proofs.WeightBounds.{growth-mono}
+use Rattle.plethysm_laws.specs.PowerSumPlethysm.{dilated}
+use Rattle.plethysm_laws.specs.SumsOfMonomials.{HavePlaces, IsMonomialSum, monomial_sum}
+use Rattle.plethysm_laws.proofs.Dilations.{dilated-list}
+use Rattle.plethysm_laws.proofs.RepeatedMonomials.{repeated-sum, repeated-places}
+use Rattle.plethysm_laws.proofs.NonnegativeTerms.{coefficient-nonnegative, nonnegative-monomial_terms}
+use Rattle.plethysm_laws.proofs.PathBounds.{path-product}
+use Rattle.sparse_polys.specs.MonomialProducts.{greatest_size, AreSums}
+use Rattle.sparse_polys.specs.Refusal.{IsRefused}
+use Rattle.sparse_polys.proofs.Rows.{greatest_size-among}
+use Rattle.basis_expand.specs.Tables.{IsTable}
+use Rattle.basis_expand.specs.LabelSizes.{AreWithin}
+use Rattle.basis_expand.specs.Large.{ProductIsLarge}
+use Rattle.basis_expand.proofs.PartitionTerms.{once_before}
+use Rattle.basis_expand.proofs.WholeLists.{not_refused, Once-labels}
+use Rattle.plethysm.specs.BoundedSums.{IsBoundedSum}
+use Rattle.plethysm.specs.PathSums.{power_sum_in}
+use native.Mathlib.Nat.{mul-le-mul_left, mul-pos}
+
+-- ---- labels
+
+pub size-multiplied : (k : ℕ) (parts : List ℕ) → size (multiplied k parts) ≡ k * size parts
+size-multiplied k [] = omega arith
+size-multiplied k (a ∷ parts) = omega (arith, size-multiplied k parts)
+
+Falls-multiplied : (k : ℕ) (parts : List ℕ) → Falls parts → Falls (multiplied k parts)
+Falls-multiplied k [] f = tt
+Falls-multiplied k (a ∷ []) f = tt
+Falls-multiplied k (a ∷ b ∷ parts) f = (mul-le-mul_left k f.0, Falls-multiplied k (b ∷ parts) f.1)
+
+ArePositive-multiplied : (k : ℕ) (parts : List ℕ) → 0 < k → ArePositive parts → ArePositive (multiplied k parts)
+ArePositive-multiplied k [] h p = tt
+ArePositive-multiplied k (a ∷ parts) h p = (mul-pos h p.0, ArePositive-multiplied k parts h p.1)
+
+pub IsWithinLimits-multiplied : (k : ℕ) (parts : List ℕ) → 0 < k → IsPartition parts → k * size parts ≤ 512 → IsWithinLimits (multiplied k parts)
+IsWithinLimits-multiplied k parts h p low =
+    let positive = ArePositive-multiplied k parts h p.positive in
+    let r = rows_within_size (multiplied k parts) positive in
+    let s = size-multiplied k parts in
+    record {
+      partition = record { falls = Falls-multiplied k parts p.falls; positive = positive };
+      few = omega arith;
+      small = omega arith;
+    }
+
+-- ---- the list
+
+pub list-dilated : (k : ℕ) (W V : WholeTerms) → 0 < k → Same V (dilated k W) → IsList V (λ n. dilated k (in_monomials W n))
+list-dilated k W V h e =
+    list_respects (dilated k W) V (λ n. dilated k (in_monomials W n)) (Same_sym V (dilated k W) e)
+    (λ n. Same_sym (dilated k (in_monomials W n)) (in_monomials (dilated k W) n) (dilated-list k W n h))
+
+-- ---- factors
+
+module _ (W : WholeTerms) (K b : ℕ) (h : IsBoundedSum K b W) where
+  pub monomial_sum_in : (n : ℕ) → IsMonomialSum b n (in_monomials W n)
+  monomial_sum_in n = record {
+    places = In-monomial_terms W n;
+    low = λ α l m. coefficient-higher K b n (in_monomials W n) (h.bounded n) α l m;
+    natural = coefficient-nonnegative (in_monomials W n) (nonnegative-monomial_terms W n h.natural);
+  }
+
+  pub places : (n : ℕ) → HavePlaces n (repeated_monomials b n (in_monomials W n))
+  places n = repeated-places b n (in_monomials W n)
+
+  pub sums : (n : ℕ) → Same (monomial_sum (repeated_monomials b n (in_monomials W n))) (in_monomials W n)
+  sums n = repeated-sum b n (in_monomials W n) (monomial_sum_in n)
+
+  pub large-factor : (k : ℕ) (rest : List ℕ) (A B : WholeTerms) → 0 < k → ArePositive rest → Once (labels A) → Once (labels B)
+      → IsList A (λ n. dilated k (in_monomials W n)) → IsList B (power_sum_in W rest) → ProductIsLarge A B
+      → 2 ^ 127 ≤ K ^ (k + size rest) * growth Basis.monomials ((k + size rest) * b)
+  large-factor k rest A B l p o q x y (ν, is, m) =
+      let within =
+      path-product K b k rest A B (λ n. repeated_monomials b n (in_monomials W n)) (in_monomials W) l p places sums (In-monomial_terms W) h.bounded o q x y ν in
+      let e : k * b + size rest * b ≡ (k + size rest) * b = omega arith in
+      let f = pow-add K k (size rest) in
+      rw (f, sym e) (omega (arith, ints))
+
+  pub large-later : (k : ℕ) (rest : List ℕ) → 2 ^ 127 ≤ K ^ size rest * growth Basis.monomials (size rest * b)
+      → 2 ^ 127 ≤ K ^ (k + size rest) * growth Basis.monomials ((k + size rest) * b)
+  large-later k rest l =
+      let x : K ^ size rest ≤ K ^ (k + size rest) = pow-le-pow_right h.some (omega arith) in
+      let y = growth-mono (size rest * b) ((k + size rest) * b) (omega arith) in
+      three (2 ^ 127) (K ^ size rest * growth Basis.monomials (size rest * b)) (K ^ (k + size rest) * growth Basis.monomials ((k + size rest) * b)) l
+      (mul-le (K ^ size rest) (growth Basis.monomials (size rest * b)) (K ^ (k + size rest)) (growth Basis.monomials ((k + size rest) * b)) x y)
+    where
+      three : (x y z : ℕ) → x ≤ y → y ≤ z → x ≤ z
+      three x y z h k = omega arith
+
+-- one factor more
+pub list-more : (W : WholeTerms) (k : ℕ) (rest parts : List ℕ) (A B C : WholeTerms) → k ∷ rest ≡ parts → IsList A (λ n. dilated k (in_monomials W n)) → IsList B (power_sum_in W rest)
+    → ((ν : List ℕ) → IsPartition ν → coefficient C ν ≡ product_coefficient A B ν) → IsList C (power_sum_in W parts)
+list-more W k rest parts A B C split h i e n =
+    subst (λ p. Same (in_monomials C n) (power_sum_in W p n)) split (list-product A B C (λ n. dilated k (in_monomials W n)) (power_sum_in W rest) h i e n)
+
+pub list-none : (W V : WholeTerms) (parts : List ℕ) → length parts < 1 → Same V (([], pos 1) ∷ []) → IsList V (power_sum_in W parts)
+list-none W V [] h e n =
+    list_respects (([], pos 1) ∷ []) V (power_sum_in W []) (Same_sym V (([], pos 1) ∷ []) e) (list-no_factor (λ k m. dilated k (in_monomials W n))) n
+list-none W V (k ∷ parts) h e n = absurd (omega arith)
+
+-- the labels of a product are within the sum of the sizes
+pub within-product : (left right product : Terms (List ℕ)) (a b d : ℕ) → AreWithin a left → AreWithin b right → a + b ≤ d → AreSums left right product → AreWithin d product
+within-product left right product a b d h k l added t m =
+    let (x, y, p, q, e) = added t m in
+    let s = h x p in
+    let r = k y q in
+    omega arith
+
+-- ---- the loop over the terms
+
+-- the label of a term is a partition within the greatest size
+pub label_of : (terms : Terms (List ℕ)) (label : List ℕ) (c : Fraction) → IsTable terms → Among (label, c) terms → IsPartition label × (size label ≤ greatest_size terms)
+label_of terms label c is m = (
+  (is_label-tells label (and_parts (is_reduced c) (is_label label) (each_term-among _ terms is.proper (label, c) m)).1).partition,
+  greatest_size-among terms (label, c) m,
+)
+
+pub dilated-push : (k : ℕ) (done : Terms (List ℕ)) (label : List ℕ) (c : Fraction)
+    → dilated k (numerators (done ++ (label, c) ∷ [])) ≡ dilated k (numerators done) ++ (multiplied k label, c.0) ∷ []
+dilated-push k done label c =
+    ap (dilated k) (map-append (λ (t : List ℕ × Fraction). (t.0, t.1.0)) done ((label, c) ∷ []))
+    ∙ map-append (λ (t : List ℕ × ℤ). (multiplied k t.0, t.1)) (numerators done) ((label, c.0) ∷ [])
+
+-- a label has no coefficient among those before it
+pub none_before : (terms done rest : Terms (List ℕ)) (label : List ℕ) (c : Fraction) → IsTable terms → done ++ (label, c) ∷ rest ≡ terms → coefficient (numerators done) label ≡ pos 0
+none_before terms done rest label c is e =
+    total_none (λ (t : List ℕ × ℤ). cond (same t.0 label) t.1 (pos 0)) (numerators done)
+    (λ t m. ap (λ b. cond b t.1 (pos 0)) (same_apart t.0 label (λ i. once_before (labels (numerators done)) (labels (numerators rest)) label once (subst (λ l. Among l (labels (numerators done))) i (Among-map (λ (u : List ℕ × ℤ). u.0) t (numerators done) m)))))
+  where
+    once : Once (labels (numerators done) ++ (label ∷ labels (numerators rest)))
+    once =
+        subst (λ (ls : List (List ℕ)). Once ls)
+        (ap (λ ts. labels (numerators ts)) (sym e)
+        ∙ ap labels (map-append (λ (t : List ℕ × Fraction). (t.0, t.1.0)) done ((label, c) ∷ rest))
+        ∙ map-append (λ (t : List ℕ × ℤ). t.0) (numerators done) ((label, c.0) ∷ numerators rest))
+        (Once-labels terms is)
+
+pub refused-found : (a : Fraction) (z c : ℤ) → a ≡ whole z → z ≡ pos 0 → IsRefused (FitsSigned w128) whole (λ (x y : ℤ). checked_i128 (x +ℤ y)) a (whole c) → ⊥
+refused-found a z c e f r = not_refused z c f (subst (λ (b : Fraction). IsRefused (FitsSigned w128) whole (λ (x y : ℤ). checked_i128 (x +ℤ y)) b (whole c)) e r)

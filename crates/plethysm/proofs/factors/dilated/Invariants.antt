@@ -1,0 +1,18 @@
+use Rattle.std.proofs.Common.{◌≡◌, ◌++◌, ◌*◌, map}
+use Rattle.std.specs.Map.Iter.{deref_pair}
+use Rattle.sym_model.specs.WholeTerms.{numerators}
+use Rattle.sparse_polys.specs.MonomialProducts.{greatest_size}
+use Rattle.basis_expand.specs.Tables.{IsTable}
+use Rattle.basis_expand.specs.LabelSizes.{AreWithin}
+use Rattle.basis_expand.proofs.WholeLists.{Finds}
+use Rattle.plethysm_laws.specs.PowerSumPlethysm.{dilated}
+use Rattle.plethysm.proofs.factors.dilated.Given as goal
+
+-- the table has the terms so far with every part times k, and they and the rest are all
+abbrev pub invariant-loop-label : goal.invariant-loop-label
+invariant-loop-label l = record {
+  finds : Finds l.list (dilated l.k (numerators (map deref_pair l.yielded)));
+  table : IsTable l.list;
+  labels : AreWithin (l.k * greatest_size l.inner) l.list;
+  so_far : map deref_pair l.yielded ++ l.label-iterator ≡ l.initial.label-iterator;
+}

@@ -1,0 +1,2 @@
+pub mod BoundedSums
+pub mod PathSums

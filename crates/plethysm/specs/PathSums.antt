@@ -1,0 +1,45 @@
+-- What is met where a list in power sums is multiplied out with a list in m for the variables (this project's own).
+use Rattle.std.specs.Prelude.{ℕ, ◌+◌, ◌*◌, ◌^◌, ◌≤◌, ◌⊎◌, nat_abs, ℤ, List, length}
+use Rattle.sym_model.specs.Sum.{Among}
+use Rattle.sym_model.specs.Partition.{IsPartition, size}
+use Rattle.sym_model.specs.Polynomial.{Poly, coefficient}
+use Rattle.sym_model.specs.Expansion.{Basis, monomials, Fraction, Terms, IsExpansionOf}
+use Rattle.sym_model.specs.Plethysm.{plethysm}
+use Rattle.sym_model.specs.Weight.{growth}
+use Rattle.sym_model.specs.WholeTerms.{WholeTerms}
+use Rattle.monomial_laws.specs.ExpressionTerms.{in_monomials, over}
+use Rattle.plethysm_laws.specs.PowerSumPlethysm.{power_sum_plethysm, met}
+use Rattle.coeff_rings.specs.Fractions.{scaled}
+
+-- p_λ of a list in m, in n variables
+abbrev pub power_sum_in : WholeTerms → List ℕ → ℕ → Poly
+power_sum_in W parts n = power_sum_plethysm parts (in_monomials W n) n
+
+-- the coefficient of a partition in it
+abbrev pub power_sum_at : WholeTerms → List ℕ → List ℕ → ℤ
+power_sum_at W ν parts = coefficient (power_sum_in W parts (length ν)) ν
+
+-- with the bounds K and b of the list in m, the product over a label is past the limit
+abbrev pub IsProductPast : ℕ → ℕ → List ℕ → Type 0
+IsProductPast K b parts = 2 ^ 127 ≤ K ^ size parts * growth monomials (size parts * b)
+
+-- the product over the label is past the limit, or a coefficient of the sum with one multiple more
+abbrev pub IsPastStep : ℕ → ℕ → WholeTerms → WholeTerms → List ℕ → ℤ → Type 0
+IsPastStep K b W sum parts z =
+    IsProductPast K b parts
+    ⊎ ((ν : List ℕ) × IsPartition ν × (2 ^ 127 ≤ nat_abs (coefficient sum ν) + nat_abs z * nat_abs (power_sum_at W ν parts)))
+
+-- a coefficient times den is past the limit, or the product over some label, or what is met at some partition
+abbrev pub IsPastPath : ℕ → ℕ → ℕ → WholeTerms → Terms (List ℕ) → Type 0
+IsPastPath den K b W terms =
+    ((t : List ℕ × Fraction) × Among t terms × (2 ^ 127 ≤ nat_abs (scaled den t.1)))
+    ⊎ ((t : List ℕ × Fraction) × Among t terms × IsProductPast K b t.0)
+    ⊎ ((ν : List ℕ) × IsPartition ν × (2 ^ 127 ≤ met (over den terms) (power_sum_at W ν)))
+
+-- the list, labels read in the target, is F[G] for all F and G of which the two lists are the expansions in m, G of degree at
+-- most b
+abbrev pub IsPlethysmOf : Basis → ℕ → Terms (List ℕ) → Terms (List ℕ) → Terms (List ℕ) → Type 0
+IsPlethysmOf target b outer inner list =
+    (n : ℕ) (f : ℕ → Poly) (g : Poly) (q : ℕ)
+    → ((k : ℕ) → IsExpansionOf monomials outer k (f k) q) → IsExpansionOf monomials inner n g 1
+    → IsExpansionOf target list n (plethysm f b n g) q

@@ -1,0 +1,119 @@
+//! Plethysm by way of power sums.
+ghost use Rattle.std.specs.Prelude.{◌≡◌, ℕ, ◌+◌, ◌*◌, ◌≤◌, ◌^◌, MatchOption, IfOk, IsErrOf};
+ghost use Rattle.sym_model.specs.Expansion.{monomials, IsExpansionOf};
+ghost use Rattle.sym_model.specs.ListWeight.{IsBounded};
+ghost use Rattle.sym_model.specs.Plethysm.{plethysm, plethysm_weight};
+ghost use Rattle.sym_model.specs.Polynomial.{Poly};
+ghost use Rattle.sym_model.specs.WholeTerms.{numerators};
+ghost use Rattle.calc_expressions.specs.Trees.{basis_of};
+ghost use Rattle.sparse_polys.specs.MonomialProducts.{greatest_size};
+ghost use Rattle.basis_expand.specs.LabelSizes.{AreWithin};
+ghost use Rattle.plethysm.specs.BoundedSums.{AreNaturalNumbers, IsBoundedSum};
+ghost use Rattle.plethysm.specs.PathSums.{IsPlethysmOf};
+
+use crate::path::multiplied_out;
+use basis_change::{factorial, greatest_size, is_table, to_basis};
+use basis_expand::{denominator_product, divided};
+use calc_base::{Basis, SumFault, Weight};
+use coeff_rings::Frac;
+use partitions::Partition;
+use sparse_polys::Lin;
+use std::alloc::Global;
+
+/// The plethysm F[G]: the variables of F replaced by the monomials of G, each as often as its coefficient says (Macdonald, I.8).
+/// Both lists are read in m; the answer is an expansion in the target, in every number of variables.
+///
+/// The lists are bounded by their bounds, of which the numbers are at least 1. The coefficients of the inner list are whole and
+/// not negative, and its bound has the denominator 1. The greatest sizes a and b of the labels of the two lists are at most 10,
+/// and so is their product.
+///
+/// Where a is 0 the answer is F, whatever G is. The plethysm is refused as `Large` only where the plethysm weight of the bounds, a
+/// and b is 2^127 or more.
+///
+/// Examples: h_2[h_2] = s_4 + s_(2,2); p_2[p_3] = p_6; h_2[3] = 6.
+pub fn plethysm(
+    alloc: Global,
+    outer: &Lin<Partition, Frac>,
+    outer_bound: Weight,
+    inner: &Lin<Partition, Frac>,
+    inner_bound: Weight,
+    target: Basis,
+) -> Result<Lin<Partition, Frac>, SumFault>
+    requires outer { IsBounded outer_bound.num outer_bound.den outer.now }
+    requires inner { IsBounded inner_bound.num inner_bound.den inner.now }
+    requires positive { (1 ≤ outer_bound.num) × (1 ≤ outer_bound.den) × (1 ≤ inner_bound.num) }
+    requires whole { inner_bound.den ≡ 1 }
+    requires natural { AreNaturalNumbers inner.now }
+    requires sizes { let a = greatest_size outer.now in let b = greatest_size inner.now in
+        (a ≤ 10) × (b ≤ 10) × (a * b ≤ 10) }
+    ensures value { IfOk result (λ list. (b : ℕ) → AreWithin b inner.now
+        → IsPlethysmOf (basis_of target) b outer.now inner.now list) }
+    ensures constant { IfOk result (λ list. AreWithin 0 outer.now → (n b q : ℕ) (f : ℕ → Poly) (g : Poly)
+        → ((k : ℕ) → IsExpansionOf monomials outer.now k (f k) q)
+        → IsExpansionOf (basis_of target) list n (plethysm f b n g) q) }
+    ensures large { IsErrOf result SumFault.Large → (a b : ℕ) → AreWithin a outer.now → AreWithin b inner.now
+        → 2 ^ 127 ≤ plethysm_weight outer_bound.num outer_bound.den a inner_bound.num b }
+{
+    let a = greatest_size(outer);
+    let b = greatest_size(inner);
+    let Some(num) = finished_number(outer_bound.num, a, inner_bound.num, b) else {
+        return Err(SumFault::Large);
+    };
+    is_table(outer);
+    is_table(inner);
+    let finished = in_m(alloc, outer, outer_bound, inner)?;
+    let bound = Weight {
+        num,
+        den: outer_bound.den,
+    };
+    to_basis(alloc, &finished, bound, target)
+}
+
+/// F[G] in m.
+fn in_m(
+    alloc: Global,
+    outer: &Lin<Partition, Frac>,
+    bound: Weight,
+    inner: &Lin<Partition, Frac>,
+) -> Result<Lin<Partition, Frac>, SumFault>
+    requires bounded { IsBounded bound.num bound.den outer.now }
+    requires positive { (1 ≤ bound.num) × (1 ≤ bound.den) }
+    requires size { greatest_size outer.now ≤ 15 }
+    requires low { greatest_size outer.now * greatest_size inner.now ≤ 512 }
+    requires natural { AreNaturalNumbers inner.now }
+    ensures value { IfOk result (λ list. (K b : ℕ) → IsBoundedSum K b (numerators inner.now)
+        → IsPlethysmOf monomials b outer.now inner.now list) }
+    ensures bounded { let a = greatest_size outer.now in
+        IfOk result (λ list. (K b : ℕ) → IsBoundedSum K b (numerators inner.now)
+        → IsBounded (bound.num * (a + 1) * K ^ a) bound.den list) }
+    ensures labels { IfOk result (λ list. (K b : ℕ) → IsBoundedSum K b (numerators inner.now)
+        → AreWithin (greatest_size outer.now * b) list) }
+    ensures large { IsErrOf result SumFault.Large
+        → (K b : ℕ) → 1 ≤ K → IsBoundedSum (K * (b + 1)) b (numerators inner.now)
+        → 2 ^ 127 ≤ plethysm_weight bound.num bound.den (greatest_size outer.now) K b }
+{
+    let size = greatest_size(outer);
+    let factor = factorial(size);
+    let Some(den) = denominator_product(bound.den, factor) else {
+        return Err(SumFault::Large);
+    };
+    let terms = to_basis(alloc, outer, bound, Basis::P)?;
+    is_table(&terms);
+    is_table(outer);
+    let sum = multiplied_out(alloc, &terms, den, inner)?;
+    divided(alloc, &sum, den)
+}
+
+/// What bounds the numerators of F[G] in m, for F of degree a and G of degree b; none where it is too large.
+fn finished_number(outer: u128, a: u16, inner: u128, b: u16) -> Option<u128>
+    requires { (1 ≤ outer) × (1 ≤ inner) × (a ≤ 10) × (b ≤ 10) }
+    ensures { let bound = outer * (a + 1) * (inner * (b + 1)) ^ a in
+        MatchOption result (2 ^ 127 ≤ bound) (λ number. number ≡ bound) }
+{
+    if a == 0 {
+        return Some(outer);
+    }
+    let base = inner.checked_mul(u128::from(b) + 1)?;
+    let power = base.checked_pow(u32::from(a))?;
+    outer.checked_mul(u128::from(a) + 1)?.checked_mul(power)
+}

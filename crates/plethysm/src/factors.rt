@@ -1,0 +1,77 @@
+//! p_k[G] and p_λ[G] of a list G in m with whole coefficients.
+ghost use Rattle.std.specs.Prelude.{◌≡◌, ℕ, ◌*◌, ◌<◌, ◌≤◌, ◌^◌, IfOk, IsErrOf};
+ghost use Rattle.sym_model.specs.Expansion.{monomials};
+ghost use Rattle.sym_model.specs.Partition.{ArePositive, size};
+ghost use Rattle.sym_model.specs.Plethysm.{multiplied};
+ghost use Rattle.sym_model.specs.Polynomial.{Same};
+ghost use Rattle.sym_model.specs.Weight.{growth};
+ghost use Rattle.sym_model.specs.WholeTerms.{numerators};
+ghost use Rattle.monomial_laws.specs.ExpressionTerms.{IsList};
+ghost use Rattle.plethysm_laws.specs.PowerSumPlethysm.{dilated};
+ghost use Rattle.sparse_polys.specs.MonomialProducts.{greatest_size};
+ghost use Rattle.basis_expand.specs.LabelSizes.{AreWithin};
+ghost use Rattle.plethysm.specs.BoundedSums.{IsBoundedSum};
+ghost use Rattle.plethysm.specs.PathSums.{power_sum_in};
+
+use basis_change::{is_table, numerator_of};
+use basis_expand::{Whole, is_whole, single};
+use calc_base::SumFault;
+use coeff_rings::Frac;
+use partitions::Partition;
+use sparse_polys::{Lin, times_whole_in_m};
+use std::alloc::{AllocError, Global};
+
+/// Each number times k.
+fn multiplied(alloc: Global, parts: &[u16], k: u16) -> Result<Vec<u16>, AllocError>
+    requires { k * size parts.now ≤ 512 }
+    ensures { IfOk result (λ numbers. numbers.items ≡ multiplied k parts.now) }
+{
+    let mut numbers = Vec::with_capacity(alloc, parts.len())?;
+    for part in parts {
+        numbers.push(k * *part)?;
+    }
+    Ok(numbers)
+}
+
+/// p_k[G]: the list with every part times k.
+fn dilated(alloc: Global, inner: &Lin<Partition, Frac>, k: u16) -> Result<Whole, SumFault>
+    requires positive { 0 < k }
+    requires low { k * greatest_size inner.now ≤ 512 }
+    ensures value { IfOk result (λ list. Same (numerators list) (dilated k (numerators inner.now))) }
+    ensures labels { IfOk result (AreWithin (k * greatest_size inner.now)) }
+    ensures small { ¬ IsErrOf result SumFault.Large }
+{
+    is_table(inner);
+    let mut list = Lin::new(alloc);
+    for (label, c) in inner.iter() {
+        let parts = multiplied(alloc, label.parts(), k)?;
+        list.add_term(
+            Partition::from_valid_parts(alloc, &parts)?,
+            numerator_of(*c),
+        )?;
+    }
+    Ok(list)
+}
+
+/// p_λ[G]: the product of the p_k[G] over the parts k of λ.
+pub(crate) fn over_parts(
+    alloc: Global,
+    inner: &Lin<Partition, Frac>,
+    parts: &[u16],
+) -> Result<Whole, SumFault>
+    requires positive { ArePositive parts.now }
+    requires low { size parts.now * greatest_size inner.now ≤ 512 }
+    ensures value { IfOk result (λ list. IsList (numerators list) (power_sum_in (numerators inner.now) parts.now)) }
+    ensures labels { IfOk result (AreWithin (size parts.now * greatest_size inner.now)) }
+    ensures large { IsErrOf result SumFault.Large → (K b : ℕ) → IsBoundedSum K b (numerators inner.now)
+        → 2 ^ 127 ≤ K ^ size parts.now * growth monomials (size parts.now * b) }
+{
+    let [k, rest @ ..] = parts else {
+        return single(alloc, &[], 1);
+    };
+    let others = over_parts(alloc, inner, rest)?;
+    let first = dilated(alloc, inner, *k)?;
+    is_whole(&first);
+    is_whole(&others);
+    times_whole_in_m(alloc, &first, &others)
+}
