@@ -8,6 +8,7 @@ use Rattle.sym_model.specs.Permutation.{AreInverse, IsOneLine, letter}
 use Rattle.sym_model.specs.Schur.{times_in}
 use Rattle.sym_model.specs.Sum.{Among, Once}
 use Rattle.sym_model.specs.Tableau.{shape_of}
+use Rattle.insertion_laws.specs.Rows.{AreBelow}
 use Rattle.insertion_laws.proofs.Removals.{end-step}
 use Rattle.insertion_laws.proofs.WordsAndPairs.{one_more, one_shape, inserted-more}
 use Rattle.sym_model.specs.Growth.{at_corner, at_most, grown, growth_shape, tableau_of_chain, with_end}
@@ -62,20 +63,16 @@ once_different (a ∷ w) h k = elim (cases_eq a k) [
   | inr d ↦ omega (arith, ap {B = ℕ} (λ t. cond t 1 0) (ne_eqb a k d), once_different w h.1 k)
 ]
 
-abbrev AreAtMost : ℕ → List ℕ → Type 0
-AreAtMost n [] = Unit {0}
-AreAtMost n (a ∷ w) = (a ≤ n) × AreAtMost n w
-
-pub at_most_all : (n : ℕ) (w : List ℕ) → AreAtMost n w → at_most n w ≡ w
+pub at_most_all : (n : ℕ) (w : List ℕ) → AreBelow (suc n) w → at_most n w ≡ w
 at_most_all n [] h = refl
 at_most_all n (a ∷ w) h =
-    ap (λ t. cond t (a ∷ at_most n w) (at_most n w)) (le-leb a n h.0) ∙ ap (λ (v : List ℕ). a ∷ v) (at_most_all n w h.1)
+    ap (λ t. cond t (a ∷ at_most n w) (at_most n w)) (le-leb a n (omega (arith, h.0))) ∙ ap (λ (v : List ℕ). a ∷ v) (at_most_all n w h.1)
 
-among_at_most : (n : ℕ) (w : List ℕ) → ((a : ℕ) → Among a w → a ≤ n) → AreAtMost n w
+among_at_most : (n : ℕ) (w : List ℕ) → ((a : ℕ) → Among a w → a ≤ n) → AreBelow (suc n) w
 among_at_most n [] h = tt
-among_at_most n (a ∷ w) h = (h a (inl refl), among_at_most n w (λ b m. h b (inr m)))
+among_at_most n (a ∷ w) h = (omega (arith, h a (inl refl)), among_at_most n w (λ b m. h b (inr m)))
 
-taken_at_most : (n i : ℕ) (w : List ℕ) → AreAtMost n w → AreAtMost n (take i w)
+taken_at_most : (n i : ℕ) (w : List ℕ) → AreBelow (suc n) w → AreBelow (suc n) (take i w)
 taken_at_most n zero w h = tt
 taken_at_most n (suc i) [] h = tt
 taken_at_most n (suc i) (a ∷ w) h = (h.0, taken_at_most n i w h.1)
@@ -125,7 +122,7 @@ all_steps f n h z e j l =
 pub record IsPerm (w : List ℕ) : Type 0 where
   pub different : AreDifferent w
   pub no_zero : times_in 0 w ≡ 0
-  pub at_most_n : AreAtMost (length w) w
+  pub at_most_n : AreBelow (suc (length w)) w
   pub there : (j : ℕ) → j < length w → times_in (suc j) w ≡ 1
 
 no_letters : (w : List ℕ) → times_in 0 w ≡ 0 → length (at_most 0 w) ≡ 0
