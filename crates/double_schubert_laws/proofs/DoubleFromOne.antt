@@ -3,7 +3,7 @@ use Rattle.std.proofs.Common.{◌≡◌, ℕ, zero, suc, ◌+◌, ◌-◌, ◌<�
 use Rattle.std.proofs.lemmas.Int.{ints}
 use Rattle.std.proofs.lemmas.Bool.{cases_lt}
 use Rattle.std.proofs.lemmas.List.{append-nil}
-use Rattle.sym_model.specs.Sum.{total, each, Among}
+use Rattle.sym_model.specs.Sum.{total, each}
 use Rattle.sym_model.specs.Polynomial.{Poly, Same, In, plus, negate, times, pair, coefficient}
 use Rattle.sym_model.specs.Partition.{after}
 use Rattle.sym_model.specs.Permutation.{IsOneLine, IsTransition, letter, kept, times_swap, covers_up, covers_down}
@@ -15,6 +15,7 @@ use Rattle.schubert_laws.proofs.DifferenceLaws.{variable_after}
 use Rattle.schubert_laws.proofs.FixedTails.{one_line_added, one_line_next, next_after}
 use Rattle.schubert_laws.proofs.PathsFromOne.{below_next}
 use Rattle.schubert_laws.proofs.Swaps.{swap_at, length-swap_at, among_get}
+use Rattle.schubert_laws.proofs.Ranks.{letter_counts}
 use Rattle.schubert_laws.proofs.LowerPermutations.{letter_added, letter_kept}
 use Rattle.schubert_laws.proofs.PlaceSums.{sum_below_ext}
 use Rattle.schubert_laws.proofs.MonkStep.{is_cover, signed, value, IsMonk}
@@ -74,14 +75,6 @@ monk_long m k q w o h n =
     subst (λ i. IsMonk (difference_product i m) (minus_y m) (longer w k) q) (sym f)
     (subst (λ u. IsMonk (difference_product (suc (length (w ++ after (length w) k))) m) (minus_y m) u q) (sym (whole_longer w k ∙ ap (λ x. (w ++ after (length w) k) ++ (x ∷ [])) e))
     (monk_double_last m (length (w ++ after (length w) k)) q (w ++ after (length w) k) (record { size = refl; once = ov.once; letters = ov.letters }) (omega arith) (omega arith)))
-
-pub letter_counts : (w : List ℕ) (i : ℕ) → IsOneLine w → 1 ≤ i → 1 ≤ letter w i
-letter_counts w i o h = at w (i - 1) (λ a m. (o.letters a m).0)
-  where
-    at : (v : List ℕ) (j : ℕ) → ((a : ℕ) → Among a v → 1 ≤ a) → 1 ≤ get_or v j i
-    at [] j g = h
-    at (x ∷ v) zero g = g x (inl refl)
-    at (x ∷ v) (suc j) g = at v j (λ a m. g a (inr m))
 
 pub letter_small : (w : List ℕ) (i : ℕ) → IsOneLine w → 1 ≤ i → letter w i ≤ max (length w) i
 letter_small w i o h = elim (cases_lt (i - 1) (length w)) [

@@ -29,7 +29,8 @@ use Rattle.sym_model.specs.DoubleSchubert.{difference_in, difference_product, do
 use Rattle.double_schubert_laws.proofs.DoubleDominant.{double_dominant, unit, pair_difference_in, In_difference_in, In_double, length-unit}
 use Rattle.double_schubert_laws.proofs.DiagramProducts.{diagram}
 use Rattle.double_schubert_laws.proofs.BothRestrictions.{both, pair_restrict_both, in_any, restrict_both-times}
-use Rattle.double_schubert_laws.proofs.DoubleFromOne.{paired, pair_double_monk, letter_counts, letter_small, double_kept, double_transition, doubles, pair_doubles}
+use Rattle.schubert_laws.proofs.Ranks.{letter_counts}
+use Rattle.double_schubert_laws.proofs.DoubleFromOne.{paired, pair_double_monk, letter_small, double_kept, double_transition, doubles, pair_doubles}
 
 -- ---- x_i - y_j in fewer or more variables
 

@@ -241,7 +241,7 @@ letters-code (a ∷ w) l s r =
     smaller_below_length b v h = let m = smaller_most (suc b) v in omega arith
 
 -- a permutation rearranges the places
-smaller_total : (x : ℕ) (w : List ℕ) → pos (smaller x w) ≡ total (λ b. pos (cond (nat_lt b x) 1 0)) w
+pub smaller_total : (x : ℕ) (w : List ℕ) → pos (smaller x w) ≡ total (λ b. pos (cond (nat_lt b x) 1 0)) w
 smaller_total x [] = refl
 smaller_total x (b ∷ w) = let e = smaller_total x w in omega (arith, ints)
 

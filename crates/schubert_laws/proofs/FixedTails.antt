@@ -84,7 +84,7 @@ kept_tail (a ∷ w) =
     let r = dropped 1 2 w refl in
     (r.0, ap (λ u. a ∷ u) (r.1 ∙ ap (λ n. without_fixed_from 2 w ++ after n r.0) (omega arith)))
 
-once_front : (v u : List ℕ) → Once (v ++ u) → Once v
+pub once_front : (v u : List ℕ) → Once (v ++ u) → Once v
 once_front [] u o = tt
 once_front (a ∷ v) u o = (λ m. o.0 (Among-append_left a v u m), once_front v u o.1)
 
@@ -132,7 +132,7 @@ pairs : ℕ → ℕ
 pairs zero = 0
 pairs (suc n) = n + pairs n
 
-greater_or_smaller : (a : ℕ) (w : List ℕ) → (Among a w → ⊥) → greater a w + smaller a w ≡ length w
+pub greater_or_smaller : (a : ℕ) (w : List ℕ) → (Among a w → ⊥) → greater a w + smaller a w ≡ length w
 greater_or_smaller a [] n = refl
 greater_or_smaller a (b ∷ w) n =
     let e = greater_or_smaller a w (λ m. n (inr m)) in

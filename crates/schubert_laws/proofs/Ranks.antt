@@ -1,6 +1,7 @@
 -- A permutation that the transition rule makes has a smaller number than the one that it comes of.
-use Rattle.std.proofs.Common.{◌≡◌, ℕ, ◌+◌, ◌-◌, ◌*◌, ◌<◌, ◌≤◌, List, length, get_or, refl, ap, inl, inr, arith, Some, None, Option, unwrap_or}
+use Rattle.std.proofs.Common.{◌≡◌, ℕ, zero, suc, ◌+◌, ◌-◌, ◌*◌, ◌<◌, ◌≤◌, List, [], ◌∷◌, length, get_or, refl, ap, inl, inr, arith, Some, None, Option, unwrap_or}
 use Rattle.std.proofs.lemmas.Bool.{cases_lt}
+use Rattle.sym_model.specs.Sum.{Among}
 use Rattle.sym_model.specs.PlaceOrders.{inversions}
 use Rattle.sym_model.specs.Permutation.{IsOneLine, IsLower, letter, last_descent, last_descent_place}
 use Rattle.sym_model.proofs.Lists.{get_or-any}
@@ -9,6 +10,15 @@ use Rattle.schubert_laws.proofs.Swaps.{among_get}
 use Rattle.schubert_laws.proofs.Transition.{last_descent_is}
 use Rattle.schubert_laws.proofs.TransitionFromOne.{get_past}
 use native.Mathlib.Nat.{mul-le-mul_left}
+
+-- a letter at a place from 1 on is at least 1; past the last letter it is the place
+pub letter_counts : (w : List ℕ) (i : ℕ) → IsOneLine w → 1 ≤ i → 1 ≤ letter w i
+letter_counts w i o h = at w (i - 1) (λ a m. (o.letters a m).0)
+  where
+    at : (v : List ℕ) (j : ℕ) → ((a : ℕ) → Among a v → 1 ≤ a) → 1 ≤ get_or v j i
+    at [] j g = h
+    at (x ∷ v) zero g = g x (inl refl)
+    at (x ∷ v) (suc j) g = at v j (λ a m. g a (inr m))
 
 -- a letter at a place within the list is at most its length
 pub letter_within : (v : List ℕ) (i : ℕ) → IsOneLine v → i ≤ length v → letter v i ≤ length v

@@ -1,5 +1,5 @@
 -- The partition of a Grassmannian permutation of at most m + 16 letters, with m at most 64, is within the limits of a label.
-use Rattle.std.proofs.Common.{◌≡◌, ℕ, zero, suc, ◌+◌, ◌-◌, ◌*◌, ◌≤◌, List, [], ◌∷◌, length, arith, inl, inr}
+use Rattle.std.proofs.Common.{◌≡◌, ℕ, zero, suc, ◌+◌, ◌-◌, ◌*◌, ◌≤◌, List, [], ◌∷◌, length, get_or, arith, inl, inr}
 use Rattle.std.proofs.lemmas.Bool.{cases_lt}
 use Rattle.sym_model.specs.Partition.{size}
 use Rattle.sym_model.specs.Permutation.{letter}
@@ -13,12 +13,7 @@ use Rattle.schubert_laws.proofs.TransitionFromOne.{get_past}
 use Rattle.stanley_laws.specs.Grassmannian.{IsRising, front_beta, front_shape}
 use Rattle.stanley_laws.proofs.SchurPositive.{front_strict, length_front, front_partition, front_rows}
 
--- the first entry is at most so great
-abbrev IsFirstAtMost : ℕ → List ℕ → Type 0
-IsFirstAtMost most [] = Unit {0}
-IsFirstAtMost most (a ∷ b) = a ≤ most
-
-size_falling : (t : ℕ) (b : List ℕ) → FallsStrictly b → IsFirstAtMost (t + length b - 1) b → size b ≤ size (staircase (length b)) + length b * t
+size_falling : (t : ℕ) (b : List ℕ) → FallsStrictly b → get_or b 0 0 ≤ t + length b - 1 → size b ≤ size (staircase (length b)) + length b * t
 size_falling t [] f h = omega arith
 size_falling t (a ∷ []) f h = let s : 1 * t ≡ t = omega arith in omega arith
 size_falling t (a ∷ c ∷ b) f h =
@@ -33,8 +28,8 @@ letter_most n u i s h l = elim (cases_lt (length u) i) [
   | inr k ↦ let p = letter_within u i s.one_line k in let few = s.few in omega arith
 ]
 
-front_first : (m : ℕ) (u : List ℕ) → IsShort (m + 16) u → IsFirstAtMost (16 + length (front_beta m u) - 1) (front_beta m u)
-front_first zero u s = tt
+front_first : (m : ℕ) (u : List ℕ) → IsShort (m + 16) u → get_or (front_beta m u) 0 0 ≤ 16 + length (front_beta m u) - 1
+front_first zero u s = omega arith
 front_first (suc m) u s = let a = letter_most (suc m + 16) u (suc m) s (omega arith) (omega arith) in let l = length_front m u in omega arith
 
 pub shape_limits : (m : ℕ) (u : List ℕ) → m ≤ 64 → IsRising m (m + 16) u → IsWithinLimits (front_shape m u)

@@ -7,7 +7,7 @@ use Rattle.std.proofs.Math.Seq.{take-suc}
 use Rattle.std.proofs.lemmas.Int.{ints}
 use Rattle.std.proofs.lemmas.Bool.{cases_lt, cases_eq}
 use Rattle.std.proofs.lemmas.List.{take-append-drop, get_or-drop, get_or-take, length-take, length-drop, reverse-append}
-use Rattle.sym_model.specs.Sum.{total, Among, Once, Within}
+use Rattle.sym_model.specs.Sum.{Among, Once, Within}
 use Rattle.sym_model.specs.Polynomial.{Term, Same, coefficient, resize, nothing, plus, times, fits_in}
 use Rattle.sym_model.specs.Partition.{after}
 use Rattle.sym_model.specs.PlaceOrders.{places, smaller, inversions}
@@ -20,6 +20,7 @@ use Rattle.sym_model.proofs.Sums.{total_within, Among-append_left, Among_from_ma
 use Rattle.sym_model.proofs.AfterLists.{length_after, after_among, among_after}
 use Rattle.sym_model.proofs.Lists.{get_or-any}
 use Rattle.sym_model.proofs.Numbers.{counts-less, counts-not_less}
+use Rattle.schubert_laws.proofs.Codes.{smaller_total}
 use Rattle.schubert_laws.proofs.Exchanges.{Rises}
 use Rattle.schubert_laws.proofs.FixedTails.{one_line_added, schubert_added, inversions_kept, one_less_rising}
 use Rattle.schubert_laws.proofs.Swaps.{swap_at, length-swap_at, get_swap_left}
@@ -154,10 +155,6 @@ rises_at k [] h l = absurd (omega arith)
 rises_at zero (a ∷ []) h l = absurd (omega arith)
 rises_at zero (a ∷ b ∷ w) h l = l
 rises_at (suc k) (a ∷ w) h l = rises_at k w (omega arith) l
-
-smaller_total : (x : ℕ) (w : List ℕ) → pos (smaller x w) ≡ total (λ b. pos (cond (nat_lt b x) 1 0)) w
-smaller_total x [] = refl
-smaller_total x (b ∷ w) = let e = smaller_total x w in omega (arith, ints)
 
 smaller_after : (x a n : ℕ) → a < x → x ≤ a + n → suc (smaller x (after a n) + a) ≡ x
 smaller_after x a zero h l = absurd (omega arith)

@@ -5,7 +5,7 @@
 use Rattle.std.proofs.Common.{◌≡◌, ℕ, zero, suc, ◌<◌, ◌≤◌, List, [], ◌∷◌, ◌++◌, map, reverse, length, replicate, refl, sym, ◌∙◌, ap, ap₂, subst, arith, inl, inr, ◌⊎◌, cond, nat_le, false, ℤ, pos, length-append}
 use Rattle.std.proofs.lemmas.Bool.{cases_eq}
 use Rattle.std.proofs.lemmas.Bool.Decides.{nat_tests}
-use Rattle.std.proofs.lemmas.List.{length-map, reverse-append}
+use Rattle.std.proofs.lemmas.List.{length-map, length-reverse, reverse-append}
 use Rattle.sym_model.specs.Sum.{Among}
 use Rattle.sym_model.specs.Polynomial.{Same, same, times, pair, join, coefficient, resize, fits_in}
 use Rattle.sym_model.specs.Partition.{Falls}
@@ -21,7 +21,7 @@ use Rattle.sym_model.proofs.Sums.{Among_from_append}
 use Rattle.sym_model.proofs.Exponents.{tests_agree, same_true, same_from}
 use Rattle.sym_model.proofs.Polynomials.{In_restrict, at_only, coefficient_pair, coefficient_outside, pair_ext, pair_in, pair_restrict, pair_determined, same_from_pair}
 use Rattle.sym_model.proofs.Numbers.{counts-less, counts-not_less}
-use Rattle.sym_model.proofs.Parts.{length-staircase}
+use Rattle.sym_model.proofs.Parts.{length-staircase, Falls-zeros}
 use Rattle.schubert_laws.proofs.Climbs.{across_exchanged}
 use Rattle.schubert_laws.proofs.Differences.{along}
 use Rattle.schubert_laws.proofs.Exchanges.{exchange_at, Rises, exchange_twice, length-exchange_at}
@@ -38,7 +38,7 @@ use Rattle.alternant_laws.proofs.Staircase.{staircase_cancels}
 use Rattle.alternant_laws.proofs.GoodAlternants.{In-skew_schur}
 use Rattle.alternant_laws.proofs.SchurProducts.{bialternant}
 use Rattle.alternant_laws.proofs.SortedAlternants.{from_beta-join}
-use Rattle.stanley_laws.proofs.SortingPaths.{alternates, along_within, rising_code, rises_front, IsFront, pred, falls_zeros, grassmannian_path}
+use Rattle.stanley_laws.proofs.SortingPaths.{alternates, along_within, rising_code, rises_front, IsFront, pred, grassmannian_path}
 
 -- ---- rising letters
 
@@ -103,13 +103,7 @@ strict_reverse (a ∷ w) r c =
     (strict_added a (reverse w) (strict_reverse w (tail_rises a w r) (λ x m. c x (inr m))) (c a (inl refl)) (λ x m. rising_head a w r x (among_reverse x w m)))
 
 length-reverse_map : (w : List ℕ) → length (map pred (reverse w)) ≡ length w
-length-reverse_map [] = refl
-length-reverse_map (a ∷ w) =
-    let e = length-reverse_map w in
-    let m = length-map (reverse w) pred in
-    let n = length-map (reverse w ++ (a ∷ [])) pred in
-    let l = length-append (reverse w) (a ∷ []) in
-    ap (λ l. length (map pred l)) (reverse-append (a ∷ []) w) ∙ omega arith
+length-reverse_map w = length-map (reverse w) pred ∙ length-reverse w
 
 -- ---- symmetry in the variables at whose places the letters rise
 
@@ -178,7 +172,7 @@ grassmannian w z i r =
     let rows_fit = rows-from_beta (map pred (reverse w)) in
     let sl = length-staircase (length w) in
     let sym_f = symmetric_front (length w) (w ++ z) (omega arith) (λ k h. rises_front k w z (r k h)) in
-    let falls = subst Falls (sym (code_rising w r)) (falls_zeros (length w)) in
+    let falls = subst Falls (sym (code_rising w r)) (Falls-zeros (length w)) in
     staircase_cancels (length w) (schubert_in (w ++ z) (length w)) (schur (front_parts w) (length w)) inside (In-skew_schur (length w) (front_parts w) [])
     (same_from_pair (times (alternant (staircase (length w))) (schubert_in (w ++ z) (length w))) (times (alternant (staircase (length w))) (schur (front_parts w) (length w))) (λ φ.
     pair_determined (times (alternant (staircase (length w))) (schubert_in (w ++ z) (length w))) (alternants_over (staircase (length w)) (schubert_in (w ++ z) (length w))) φ

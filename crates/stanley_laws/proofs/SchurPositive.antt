@@ -2,7 +2,7 @@
 --     rising_covers    the permutations that the transition rule makes rise at the first places too
 --     schur_positive   so by its order each is a sum of Schur polynomials
 --     natural          and no Schur coefficient is negative
-use Rattle.std.proofs.Common.{◌≡◌, ℕ, zero, suc, ◌+◌, ◌-◌, ◌<◌, ◌≤◌, List, [], ◌∷◌, ◌++◌, length, get_or, refl, sym, ◌∙◌, ap, ap₂, subst, arith, inl, inr, cond, Bool, true, false, pos, ◌+ℤ◌, ◌≤ℤ◌, Some, None, Option, unwrap_or}
+use Rattle.std.proofs.Common.{◌≡◌, ℕ, zero, suc, ◌+◌, ◌<◌, ◌≤◌, List, [], ◌∷◌, ◌++◌, length, refl, sym, ◌∙◌, ap, ap₂, subst, arith, inl, inr, cond, Bool, true, false, pos, ◌+ℤ◌, ◌≤ℤ◌, Some, None, Option, unwrap_or}
 use Rattle.std.proofs.lemmas.Int.{ints}
 use Rattle.std.proofs.lemmas.Bool.{cases_lt}
 use Rattle.sym_model.specs.Sum.{total, each, Among}
@@ -21,7 +21,7 @@ use Rattle.beta_list_laws.proofs.BetaLists.{from_beta_partition, rows-from_beta}
 use Rattle.alternant_laws.proofs.CountedTerms.{schur_coefficient_of_schur}
 use Rattle.schubert_laws.specs.TransitionOrder.{rank}
 use Rattle.schubert_laws.proofs.LowerPermutations.{transition_exists, transition_covers_lower}
-use Rattle.schubert_laws.proofs.Ranks.{rank_lower}
+use Rattle.schubert_laws.proofs.Ranks.{letter_counts, rank_lower}
 use Rattle.schubert_laws.proofs.Members.{short_transition, short_cover, place_within}
 use Rattle.stanley_laws.specs.Grassmannian.{RisesTo, IsRising, front_beta, front_shape}
 use Rattle.stanley_laws.specs.SchurPositive.{IsSchurPositive, schur_test}
@@ -29,14 +29,6 @@ use Rattle.stanley_laws.proofs.FirstPlaces.{dropped, still_rising, leaf}
 use Rattle.stanley_laws.proofs.Behind.{rising_behind, schubert_behind}
 
 -- ---- the partition of a Grassmannian permutation
-
-pub letter_counts : (w : List ℕ) (i : ℕ) → IsOneLine w → 1 ≤ i → 1 ≤ letter w i
-letter_counts w i o h = at w (i - 1) (λ a m. (o.letters a m).0)
-  where
-    at : (v : List ℕ) (j : ℕ) → ((a : ℕ) → Among a v → 1 ≤ a) → 1 ≤ get_or v j i
-    at [] j g = h
-    at (x ∷ v) zero g = g x (inl refl)
-    at (x ∷ v) (suc j) g = at v j (λ a m. g a (inr m))
 
 pub front_strict : (m : ℕ) (u : List ℕ) → IsOneLine u → RisesTo m u → FallsStrictly (front_beta m u)
 front_strict zero u o r = tt

@@ -16,12 +16,14 @@ use Rattle.sym_model.specs.Permutation.{code, first_ascent}
 use Rattle.sym_model.specs.DividedDifference.{x_to}
 use Rattle.sym_model.specs.Schubert.{schubert}
 use Rattle.sym_model.proofs.SortedParts.{Falls_tail}
+use Rattle.sym_model.proofs.Parts.{Falls-zeros}
 use Rattle.sym_model.proofs.Exponents.{join_zeros, length-resize, all_zero_zeros}
 use Rattle.sym_model.proofs.Polynomials.{pair_in}
 use Rattle.sym_model.proofs.Numbers.{counts-less, counts-not_less}
 use Rattle.schubert_laws.proofs.Climbs.{across, across_ext, across_alternating}
 use Rattle.schubert_laws.proofs.Differences.{along, along_zero}
 use Rattle.schubert_laws.proofs.Exchanges.{exchange_at, Rises, IsFirstAscent, first_ascent_cases, rises_within, rising_pairs_exchange, length-exchange_at, greater_exchange}
+use Rattle.schubert_laws.proofs.FixedTails.{greater_or_smaller, once_front}
 use Rattle.schubert_laws.proofs.Dominant.{IsOneUp, one_up, falls_exchange, over_exchange, once_exchange, among_exchange, smaller_exchange, greater_head}
 use Rattle.schubert_laws.proofs.FixedLetters.{In_schubert}
 use Rattle.schubert_laws.proofs.MonkStep.{pair_ascent, jump_first}
@@ -87,18 +89,6 @@ length-rising_code : (w : List ℕ) → length (rising_code w) ≡ length w
 length-rising_code [] = refl
 length-rising_code (a ∷ w) = ap suc (length-rising_code w)
 
-greater_and_smaller : (a : ℕ) (w : List ℕ) → (Among a w → ⊥) → greater a w + smaller a w ≡ length w
-greater_and_smaller a [] n = refl
-greater_and_smaller a (b ∷ w) n =
-    let e = greater_and_smaller a w (λ m. n (inr m)) in
-    elim (cases_lt a b) [
-      | inl l ↦ let p = counts-less a b l in let q = counts-not_less b a (omega arith) in omega arith
-      | inr l ↦ let q = counts-less b a (strict (λ d. n (inl d)) l) in let p = counts-not_less a b l in omega arith
-    ]
-  where
-    strict : (a ≡ b → ⊥) → b ≤ a → b < a
-    strict d l = omega arith
-
 rising_up : (k : ℕ) (w : List ℕ) → Once w → Falls (code w) → Rises k w → IsOneUp k (rising_code (exchange_at k w)) (rising_code w)
 rising_up k [] o f r = absurd r
 rising_up zero (a ∷ []) o f r = absurd r
@@ -106,8 +96,8 @@ rising_up zero (a ∷ b ∷ w) o f r =
     let u = (one_up zero (a ∷ b ∷ w) f r).0 in
     let p = counts-less a b r in
     let q = counts-not_less b a (omega arith) in
-    let x = greater_and_smaller a w (λ m. o.0 (inr m)) in
-    let y = greater_and_smaller b w o.1.0 in
+    let x = greater_or_smaller a w (λ m. o.0 (inr m)) in
+    let y = greater_or_smaller b w o.1.0 in
     (omega arith, ap₂ (λ s t. s ∷ t ∷ rising_code w) (omega arith) (omega arith))
 rising_up (suc k) (a ∷ w) o f r = (greater_exchange a k w, rising_up k w o.1 (Falls_tail (smaller a w) (code w) f) r)
 
@@ -145,15 +135,6 @@ front_exchange k w z r f = record {
   rest = f.rest;
 }
 
-pub once_front : (w z : List ℕ) → Once (w ++ z) → Once w
-once_front [] z o = tt
-once_front (a ∷ w) z o = (λ m. o.0 (left w m), once_front w z o.1)
-  where
-    left : (u : List ℕ) → Among a u → Among a (u ++ z)
-    left [] m = absurd m
-    left (b ∷ u) (inl e) = inl e
-    left (b ∷ u) (inr m) = inr (left u m)
-
 falls_without_ascent : (w : List ℕ) → HasNoAscent w → Falls w
 falls_without_ascent [] n = tt
 falls_without_ascent (a ∷ []) n = tt
@@ -173,15 +154,10 @@ code_front (a ∷ w) z o n h =
     let c = counts-not_less a x (omega arith) in
     omega arith))
 
-pub falls_zeros : (k : ℕ) → Falls (replicate k 0)
-falls_zeros zero = tt
-falls_zeros (suc zero) = tt
-falls_zeros (suc (suc k)) = (omega arith, falls_zeros (suc k))
-
 falls_front : (w : List ℕ) (k : ℕ) → Falls w → Falls (map pred w ++ replicate k 0)
-falls_front [] k f = falls_zeros k
+falls_front [] k f = Falls-zeros k
 falls_front (a ∷ []) zero f = tt
-falls_front (a ∷ []) (suc k) f = (omega arith, falls_zeros (suc k))
+falls_front (a ∷ []) (suc k) f = (omega arith, Falls-zeros (suc k))
 falls_front (a ∷ b ∷ w) k f = let h : b ≤ a = f.0 in (omega arith, falls_front (b ∷ w) k f.1)
 
 fits_front : (w : List ℕ) (k : ℕ) → fits_in (length w) (map pred w ++ replicate k 0) ≡ true

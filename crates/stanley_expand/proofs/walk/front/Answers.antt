@@ -1,5 +1,5 @@
 use Rattle.std.proofs.Common.{arith}
-use Rattle.stanley_laws.proofs.SchurPositive.{letter_counts}
+use Rattle.schubert_laws.proofs.Ranks.{letter_counts}
 use Rattle.stanley_expand.proofs.walk.front.Goals as goal
 
 pub overflow_sub-letter : goal.overflow_sub-letter
