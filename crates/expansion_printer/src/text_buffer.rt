@@ -1,5 +1,5 @@
 //! A buffer for text on its way to a sink.
-ghost use Rattle.std.specs.Prelude.{◌≡◌, [], ◌++◌, true, false, IsTrue, is_ok};
+ghost use Rattle.std.specs.Prelude.{◌≡◌, ◌+◌, ◌≤◌, ◌↔◌, [], ◌++◌, length, true, false, IsTrue, is_ok};
 ghost use Rattle.calc_base.specs.Puts.{Puts};
 ghost use Rattle.expansion_printer.specs.Gathering.{Waiting, Gathers};
 
@@ -57,6 +57,7 @@ impl TextBuffer {
     fn keep(&mut self, piece: &[u8]) -> bool
         ensures kept { IsTrue result → self.new ≡ record { bytes = self.old.bytes ++ piece.now; well = self.old.well } }
         ensures full { result ≡ false → self.new ≡ self.old }
+        ensures room { IsTrue result ↔ (length self.old.bytes + length piece.now ≤ 1024) }
     {
         self.bytes.try_extend_from_slice(piece).is_ok()
     }
