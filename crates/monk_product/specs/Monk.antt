@@ -1,5 +1,5 @@
 -- Lists of permutations with whole coefficients, and Monk's rule on them.
-use Rattle.std.specs.Prelude.{ℕ, ◌+◌, ◌≤◌, ◌-ℤ◌, ℤ, cond, max, nat_abs, List, [], ◌∷◌, length}
+use Rattle.std.specs.Prelude.{ℕ, ◌+◌, ◌≤◌, ◌-ℤ◌, ℤ, cond, max, List, [], ◌∷◌, length}
 pub use Rattle.sparse_polys.specs.WholeTables.{mass}
 use Rattle.sym_model.specs.Sum.{total, Among}
 use Rattle.sym_model.specs.Expansion.{Fraction, Terms}

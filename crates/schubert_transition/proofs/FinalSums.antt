@@ -127,7 +127,7 @@ over_identity n φ w terms o d =
 -- ---- how many inversions there are at most
 
 -- the pairs of n places
-pairs_upto : ℕ → ℕ
+unfoldable pub pairs_upto : ℕ → ℕ
 pairs_upto zero = 0
 pairs_upto (suc n) = n + pairs_upto n
 
@@ -153,11 +153,13 @@ pairs_most : pairs_upto 255 ≡ 32385
 unfolding pairs_upto
 pairs_most = refl
 
-pub few_inversions : (w : List ℕ) → length w ≤ 255 → inversions w ≤ 32385
-few_inversions w h =
+pub inversions_upto : (n : ℕ) (w : List ℕ) → length w ≤ n → inversions w ≤ pairs_upto n
+inversions_upto n w h =
     let a = inversions_within w in
-    let b = pairs_more (255 - length w) (length w) in
-    let e : (255 - length w) + length w ≡ 255 = omega arith in
+    let b = pairs_more (n - length w) (length w) in
+    let e : (n - length w) + length w ≡ n = omega arith in
     let p = ap pairs_upto e in
-    let m = pairs_most in
     omega arith
+
+pub few_inversions : (w : List ℕ) → length w ≤ 255 → inversions w ≤ 32385
+few_inversions w h = let a = inversions_upto 255 w h in let m = pairs_most in omega arith

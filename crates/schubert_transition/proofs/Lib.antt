@@ -16,3 +16,4 @@ pub mod Covers
 pub mod Labels
 pub mod Weights
 pub mod ListWeights
+pub mod Answering

@@ -1,5 +1,5 @@
 -- The weight of a list with whole coefficients is the sum of their absolute values, or 1 for the empty list.
-use Rattle.std.proofs.Common.{◌≡◌, ℕ, ◌*◌, ◌/◌, ◌≤◌, max, List, [], ◌∷◌, refl, ap, ap₂, ◌∙◌, arith}
+use Rattle.std.proofs.Common.{◌≡◌, ℕ, ◌*◌, ◌/◌, ◌≤◌, max, [], ◌∷◌, refl, ap, ap₂, ◌∙◌, arith}
 use Rattle.std.specs.Prelude.{nat_abs}
 use Rattle.sym_model.specs.Expansion.{Terms}
 use Rattle.sym_model.specs.Expression.{lcm}

@@ -1,10 +1,10 @@
 -- Polynomials as lists of terms, seen through sums over their terms.
-use Rattle.std.specs.Prelude.{ℕ, ◌^◌, ◌≤◌, ◌≤ℤ◌, ◌<ℤ◌, ◌*ℤ◌, cond, Bool, nat_eq, ℤ, pos, List, length}
+use Rattle.std.specs.Prelude.{ℕ, ◌^◌, ◌≤◌, ◌≤ℤ◌, ◌<ℤ◌, cond, Bool, nat_eq, ℤ, pos, List, length}
 use Rattle.std.specs.Cmp.Lexicographic.{pointwise}
 use Rattle.sparse_polys.specs.Combination.{IsCombination}
 pub use Rattle.sparse_polys.specs.WholeTables.{over}
 use Rattle.sym_model.specs.Polynomial.{same}
-use Rattle.sym_model.specs.Sum.{total, Among}
+use Rattle.sym_model.specs.Sum.{Among}
 use Rattle.sym_model.specs.Expansion.{Fraction, Terms}
 use Rattle.sym_model.specs.Partition.{size}
 

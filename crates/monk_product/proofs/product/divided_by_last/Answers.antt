@@ -1,8 +1,8 @@
 use Rattle.std.proofs.Common.{ℕ, List, length, sym, ap, ◌∙◌, subst, arith}
-use Rattle.std.specs.Prelude.{IfOk, Result, Ok, Err}
 use Rattle.sym_model.specs.Partition.{without_last_zeros}
 use Rattle.sparse_polys.specs.Limits.{IsWithinLimits}
 use Rattle.sparse_polys.specs.Raised.{raised}
+use Rattle.schubert_transition.proofs.Answering.{if_ok}
 use Rattle.monk_product.proofs.Dividing.{last_positive, divided, limits_lowered, entry_read, list_written}
 use Rattle.monk_product.proofs.product.divided_by_last.Goals as goal
 
@@ -19,10 +19,6 @@ from_valid_exponents-requires c =
     let x = entry_read c.in_ok-lowered.lowered.items c.exponents-exponents.result.now c.args.monomial.now c.index_mut.result.now (c.in_ok-lowered.ensures.items ∙ v) v c.requires c.index_mut.ensures.value in
     let l = c.as_slice.ensures.value ∙ list_written c.in_ok-lowered.lowered.items c.exponents-exponents.result.now c.args.monomial.now c.index_mut.result.now (c.in_ok-lowered.ensures.items ∙ v) v x in
     subst (λ (e : List ℕ). IsWithinLimits (without_last_zeros e)) (sym l) (limits_lowered c.args.monomial.now c.exponents-exponents.ensures.limits)
-
-if_ok : {T E : Type 0} {P Q : T → Type 0} (r : Result T E) → IfOk r P → ((x : T) → P x → Q x) → IfOk r Q
-if_ok (Ok x) h f = f x h
-if_ok (Err e) h f = tt
 
 pub returns : goal.returns
 returns c =

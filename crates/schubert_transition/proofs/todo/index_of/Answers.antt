@@ -1,6 +1,5 @@
 use Rattle.std.proofs.Common.{ap, subst, sym}
 use Rattle.sparse_polys.proofs.ClearedSums.{on_ok}
-use Rattle.sym_model.specs.PlaceOrders.{inversions}
 use Rattle.schubert_transition.specs.TermLists.{over, AreTerms}
 use Rattle.schubert_transition.specs.Transitions.{acted}
 use Rattle.schubert_transition.specs.Todo.{WithPolynomial, IsWaiting}

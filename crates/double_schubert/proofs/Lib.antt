@@ -1,0 +1,5 @@
+pub mod ShiftSums
+pub mod FactorProducts
+pub mod Shares
+pub mod WaitingLists
+pub mod WalkSteps
