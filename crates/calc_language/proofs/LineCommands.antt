@@ -38,11 +38,6 @@ some_words [] h = cc
 some_words ([] ∷ words) h = refl
 some_words ((b ∷ text) ∷ words) h = ap (λ t. cond t passed_over (spoken ((b ∷ text) ∷ words))) (sym (hash_seen b) ∙ h)
 
-no_words : (words : Words) → is_passed_over (map seen words) ≡ true → line_of_words words ≡ passed_over
-no_words [] h = refl
-no_words ([] ∷ words) h = cc
-no_words ((b ∷ text) ∷ words) h = ap (λ t. cond t passed_over (spoken ((b ∷ text) ∷ words))) (sym (hash_seen b) ∙ h)
-
 line_is : (line : List ℕ) (kind : BatchLine) → nat_lt most_bytes (length line) ≡ false → line_of_words (words_of_line (without_return line)) ≡ kind
     → batch_line line ≡ kind
 line_is line kind n h = ap (λ t. cond t too_long (line_of_words (words_of_line (without_return line)))) n ∙ h
@@ -52,12 +47,6 @@ pub spoken_line : (line : List ℕ) (kept : Words) → nat_lt most_bytes (length
 spoken_line line kept n k h =
     let words = words_of_line (without_return line) in
     line_is line (spoken words) n (some_words words (sym (ap is_passed_over k) ∙ h))
-
-pub passed_line : (line : List ℕ) (kept : Words) → nat_lt most_bytes (length line) ≡ false → kept ≡ map seen (words_of_line (without_return line))
-    → is_passed_over kept ≡ true → batch_line line ≡ passed_over
-passed_line line kept n k h =
-    let words = words_of_line (without_return line) in
-    line_is line passed_over n (no_words words (sym (ap is_passed_over k) ∙ h))
 
 -- ---- what is read of it
 

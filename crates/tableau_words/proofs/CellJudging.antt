@@ -3,11 +3,10 @@ use Rattle.std.proofs.Common.{◌≡◌, ℕ, zero, suc, ◌+◌, ◌-◌, ◌^�
 use Rattle.std.specs.Prelude.{slice_get}
 use Rattle.std.proofs.lemmas.Bool.{le-leb, lt-ltb, leb-true}
 use Rattle.std.proofs.lemmas.Option.{slice_get_past}
-use Rattle.std.proofs.Math.ListN.{drop_of_length-le}
 use Rattle.std.proofs.lemmas.List.{take_more, length-map}
 use Rattle.sym_model.specs.Sum.{Among}
 use Rattle.sym_model.specs.ExpressionOffence.{OffenceKind, is_wide, literal, range, shape, rank}
-use Rattle.sym_model.specs.CommandOffence.{Offence, Rule, first_offence, offences_by, offences_after, left_of, falls, stays, stands_in, entry_above, when, is_outside, greatest_letter}
+use Rattle.sym_model.specs.CommandOffence.{Offence, Rule, first_offence, offences_after, left_of, falls, stays, stands_in, entry_above, when, is_outside, greatest_letter}
 use Rattle.sym_model.proofs.Lists.{slice_get-within}
 use Rattle.word_laws.specs.JudgedRows.{is_too_much, is_too_long, cell_rule, is_disordered, is_no_record}
 use Rattle.calc_words.specs.declared.offence.Kind.{Kind}

@@ -1,13 +1,10 @@
 -- The numbers of an inner partition, judged against an outer one.
-use Rattle.std.proofs.Common.{◌≡◌, ℕ, suc, ◌+◌, ◌^◌, ◌<◌, nat_lt, Bool, true, false, cond, List, [], ◌∷◌, ◌++◌, map, length, drop, get_or, drop-cons, refl, sym, ap, ◌∙◌, arith, Option, Some, None}
-use Rattle.std.proofs.lemmas.Bool.{lt-ltb, leb-true}
+use Rattle.std.proofs.Common.{◌≡◌, ℕ, suc, ◌+◌, ◌<◌, nat_lt, Bool, true, false, cond, List, [], ◌∷◌, ◌++◌, map, length, drop, get_or, drop-cons, refl, sym, ap, ◌∙◌, arith, Some}
 use Rattle.sym_model.specs.Partition.{part}
 use Rattle.sym_model.specs.ExpressionOffence.{shape}
 use Rattle.sym_model.specs.CommandOffence.{Offence, first_offence, offences_after, inside_rule, when}
-use Rattle.calc_words.specs.NumberRuns.{narrow}
 use Rattle.tableau_words.proofs.CellJudging.{before_of, before_next, before_length, from_place}
 use Rattle.calc_words.proofs.FirstOffences.{of_kind, first-kind, Behind, within}
-use Rattle.calc_words.proofs.Judging.{narrow_none}
 
 one_kind : (k : ℕ) (b : Bool) (rest : List Offence) → Behind k rest → first_offence (map (of_kind k) (when b shape) ++ rest) ≡ cond b (Some (k, 0, shape)) (first_offence rest)
 one_kind k true rest l = first-kind k shape [] rest (λ q m. absurd m) l

@@ -1,5 +1,5 @@
 -- The first offence of two tableaux that are a pair.
-use Rattle.std.proofs.Common.{◌≡◌, ℕ, ◌+◌, ◌<◌, ◌≤◌, ◌==◌, min, Bool, true, false, cond, List, [], ◌∷◌, ◌++◌, map, length, length-append, refl, sym, ap, ◌∙◌, subst, arith, Option, Some, None, Result, ◌⊎◌, inl, inr}
+use Rattle.std.proofs.Common.{◌≡◌, ℕ, ◌+◌, ◌<◌, ◌≤◌, ◌==◌, min, Bool, true, false, cond, List, [], ◌∷◌, ◌++◌, map, length, refl, sym, ap, ◌∙◌, subst, arith, Option, Some, None, Result, ◌⊎◌, inl, inr}
 use Rattle.std.specs.Prelude.{codes}
 use Rattle.std.proofs.lemmas.List.{length-map, append-nil}
 use Rattle.sym_model.specs.Sum.{Among}
@@ -13,6 +13,7 @@ use Rattle.sym_model.specs.CommandOffence.{Offence, PlacedRow, first_offence, of
 use Rattle.sym_model.specs.Grammar.{insertion_offences, filled_offences, unrsk_entry, unrsk_offends}
 use Rattle.sym_model.specs.WordForms.{tableau_words, numbers, placed_rows, tableau_rows, shape_offences}
 use Rattle.sym_model.specs.Form.{words_of}
+use Rattle.tableau_words.proofs.RowJudging.{further_length, numbers_fit}
 use Rattle.word_laws.specs.Words.{Words}
 use Rattle.word_laws.proofs.FirstOffences.{first-among, first_none}
 use Rattle.word_laws.specs.WrittenRows.{row_text, further_text, rows_text, tableau_written, rows_at, left_at}
@@ -37,10 +38,6 @@ use Rattle.tableau_words.proofs.EmptyRows.{empties}
 use Rattle.calc_words.proofs.FirstOffences.{within, no_later_word}
 use Rattle.calc_words.proofs.WrittenLists.{none_append, none_next, none_judged, not_when, inside}
 use Rattle.tableau_words.proofs.WrittenTableaux.{written_words, written_may, written_rows, written_entries}
-
-numbers_fit : (w : Words) → length (numbers w) ≤ length (row_text w)
-numbers_fit [] = omega arith
-numbers_fit (t ∷ w) = let e = length-map w decimal_value in omega (arith, e)
 
 -- ---- where offences of rows stand
 
@@ -89,14 +86,11 @@ before_append k xs ys a b p m = by (Among_from_append p xs ys m)
 before_more : (k m : ℕ) (os : List Offence) → k ≤ m → BeforeIt k os → BeforeIt m os
 before_more k m os h a p l = let z = a p l in omega (arith, z, h)
 
-further_is : (w : Words) (ws : List Words) → length (further_text (w ∷ ws)) ≡ length (row_text w) + length (further_text ws) + 1
-further_is w ws = let e = length-append (row_text w) (further_text ws) in omega (arith, e)
-
 inserted_before : (count : ℕ) (most : Option ℕ) (upper : List ℕ) (k : ℕ) (ws : List Words)
     → BeforeIt (k + length (further_text ws)) (inserted count most upper (rows_at k ws))
 inserted_before count most upper k [] = λ p m. absurd m
 inserted_before count most upper k (w ∷ ws) =
-    let l = further_is w ws in
+    let l = further_length w ws in
     let fit = numbers_fit w in
     before_append (k + length (further_text (w ∷ ws))) (offences_by (cell_rule (Some count) most (is_disordered 0 upper 0)) k (numbers w))
     (inserted (count + length (numbers w)) (Some (length (numbers w))) (numbers w) (rows_at (k + length (row_text w) + 1) ws))
@@ -113,7 +107,7 @@ dot_before false k m h p l = absurd l
 empties_before : (k : ℕ) (ws : List Words) → BeforeIt (k + length (further_text ws)) (empties (rows_at k ws))
 empties_before k [] = λ p m. absurd m
 empties_before k (w ∷ ws) =
-    let l = further_is w ws in
+    let l = further_length w ws in
     before_append (k + length (further_text (w ∷ ws))) (cond (length (numbers w) == 0) ((k, 0, shape) ∷ []) []) (empties (rows_at (k + length (row_text w) + 1) ws))
     (dot_before (length (numbers w) == 0) k (k + length (further_text (w ∷ ws))) (omega (arith, l)))
     (before_more (k + length (row_text w) + 1 + length (further_text ws)) (k + length (further_text (w ∷ ws))) (empties (rows_at (k + length (row_text w) + 1) ws))
@@ -262,7 +256,7 @@ no_entry_second rows more h =
 
 pub lengths_fit : (ws : List Words) → size (map length ws) ≤ length (further_text ws)
 lengths_fit [] = omega arith
-lengths_fit (w ∷ ws) = let e = further_is w ws in let i = lengths_fit ws in let r = wide w in omega (arith, e, i, r)
+lengths_fit (w ∷ ws) = let e = further_length w ws in let i = lengths_fit ws in let r = wide w in omega (arith, e, i, r)
   where
     wide : (w : Words) → length w ≤ length (row_text w)
     wide [] = omega arith

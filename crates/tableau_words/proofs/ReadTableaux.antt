@@ -1,6 +1,5 @@
 -- The column reading of rows that were read, and the tableau that has it.
-use Rattle.std.proofs.Common.{◌≡◌, ◌≤◌, ◌<◌, ℕ, zero, suc, ◌+◌, true, ◌&&◌, List, [], ◌∷◌, map, length, get_or, refl, sym, ap, ◌∙◌, arith}
-use Rattle.std.proofs.lemmas.List.{length-append}
+use Rattle.std.proofs.Common.{◌≡◌, ◌≤◌, ◌<◌, ℕ, zero, suc, true, ◌&&◌, List, [], ◌∷◌, map, length, get_or, sym, ap, ◌∙◌, arith}
 use Rattle.partitions.specs.Limits.{IsWithinLimits}
 use Rattle.sym_model.proofs.SortedParts.{rows_within_size}
 use Rattle.sym_model.specs.CommandOffence.{most_letters}

@@ -41,7 +41,7 @@ row_then rule k ns m later (Some f) h l e =
     first-append (offences_by rule k ns) later (offence_of f) (sym e)
     (λ p q a b. let x = within rule [] k ns p a in let y = l q b in let z = x.1 in omega (arith, z, y, h))
 
-numbers_fit : (w : Words) → length (numbers w) ≤ length (row_text w)
+pub numbers_fit : (w : Words) → length (numbers w) ≤ length (row_text w)
 numbers_fit [] = omega arith
 numbers_fit (t ∷ w) = let e = length-map w decimal_value in omega (arith, e)
 

@@ -10,7 +10,7 @@ use Rattle.word_laws.specs.Reading.{is_expression}
 use Rattle.word_laws.specs.WrittenRows.{row_text, further_text, rows_text}
 use Rattle.calc_words.specs.NumberRuns.{IsNumber, BeginsOtherwise}
 use Rattle.calc_words.specs.Standing.{GoesAs, WrongAt}
-use Rattle.tableau_words.specs.TableauWords.{RowEnds, IsRowFirst, further_rows, followed, Follows, WrongTableau, AreRowsFirst, AreRows, AreTwoTableaux}
+use Rattle.tableau_words.specs.TableauWords.{RowEnds, IsRowFirst, further_rows, followed, Follows, WrongTableau, AreRowsFirst}
 use Rattle.tableau_words.specs.WordRows.{IsWrongRows, IsWrongFor}
 use Rattle.tableau_words.specs.declared.row_words.RowsFault.{RowsFault}
 use Rattle.tableau_words.specs.declared.row_words.RowsFault.TheVariants.{Wrong, NoMemory}

@@ -1,5 +1,5 @@
 -- The first offence of two shapes and a tableau.
-use Rattle.std.proofs.Common.{◌≡◌, ℕ, zero, suc, ◌+◌, ◌-◌, ◌<◌, ◌≤◌, ◌||◌, nat_lt, get_or, ◌⊎◌, inl, inr, List, [], ◌∷◌, ◌++◌, map, length, drop, refl, sym, ap, ◌∙◌, subst, arith, Option, Some, None, Result}
+use Rattle.std.proofs.Common.{◌≡◌, ℕ, zero, suc, ◌+◌, ◌-◌, ◌<◌, ◌||◌, nat_lt, ◌⊎◌, inl, inr, List, [], ◌∷◌, ◌++◌, map, length, drop, refl, sym, ap, ◌∙◌, subst, arith, Some, None, Result}
 use Rattle.std.specs.Prelude.{codes}
 use Rattle.std.proofs.lemmas.List.{length-map, append-nil}
 use Rattle.sym_model.specs.Sum.{each, Among}
@@ -7,7 +7,7 @@ use Rattle.sym_model.proofs.Sums.{Among_from_append}
 use Rattle.sym_model.specs.Partition.{part, in_front, without_last_zeros}
 use Rattle.sym_model.specs.PrintedBlock.{decimal_value}
 use Rattle.sym_model.specs.Schur.{row_lengths}
-use Rattle.sym_model.specs.ExpressionOffence.{shape, literal, range}
+use Rattle.sym_model.specs.ExpressionOffence.{shape}
 use Rattle.sym_model.specs.Form.{EachOf, words_of}
 use Rattle.sym_model.specs.Command.{rect}
 use Rattle.sym_model.specs.CommandOffence.{Offence, PlacedRow, first_offence, offences_by, offences_after, part_offences, part_rule, inside_rule, judged_against, entry_rule, row_offences, order_offences, when, falls, stays, left_of, entry_above, rows_in}
@@ -21,7 +21,6 @@ use Rattle.word_laws.specs.JudgedRows.{earlier, skewed}
 use Rattle.word_laws.proofs.EarlierOffences.{first_of_both, tally_append, first_alike}
 use Rattle.word_laws.proofs.JudgedRows.{skewed_first}
 use Rattle.calc_base.specs.declared.words.WordsFault.{WordsFault}
-use Rattle.calc_base.specs.declared.words.WordsFault.TheVariants.{Syntax, Literal, Range, Shape, NoMemory}
 use Rattle.tableau_words.specs.AskedLengths.{asked_lengths}
 use Rattle.calc_words.specs.NumberRuns.{IsNumber}
 use Rattle.calc_words.specs.Reading.{IsJudged, IsRead}

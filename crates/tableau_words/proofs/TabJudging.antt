@@ -29,9 +29,8 @@ use Rattle.tableau_words.specs.TabWords.{AreTabWords, from_text, last_of, unlist
 use Rattle.calc_commands.specs.Commands.{command_of}
 use Rattle.calc_commands.specs.declared.command.Command.{Command as Read}
 use Rattle.calc_commands.specs.declared.command.Command.TheVariants.{Tab}
-use Rattle.calc_words.proofs.Commands.{read_judged, may_be, singles, judged_err, judged_next}
+use Rattle.calc_words.proofs.Commands.{read_judged, may_be, singles, judged_err}
 use Rattle.calc_words.proofs.FirstOffences.{AllBefore, first-append, within}
-use Rattle.calc_words.proofs.WrittenLists.{none_judged}
 use Rattle.tableau_words.proofs.PairJudging.{entries_after, map_twice}
 use Rattle.tableau_words.proofs.WrittenTableaux.{written_words, written_may, written_rows, written_entries}
 

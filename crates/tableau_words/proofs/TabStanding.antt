@@ -1,5 +1,5 @@
 -- Where the words behind two shapes go wrong in the place of a tableau behind `-from`, or of none.
-use Rattle.std.proofs.Common.{◌≡◌, ◌<◌, ℕ, List, [], ◌∷◌, ◌++◌, cond, map, length, refl, sym, ap, subst, arith, Result, Ok, Err}
+use Rattle.std.proofs.Common.{◌≡◌, ◌<◌, ℕ, [], ◌∷◌, ◌++◌, cond, map, length, refl, sym, ap, subst, arith, Result, Ok, Err}
 use Rattle.std.specs.Prelude.{codes, IfErr}
 use Rattle.sym_model.proofs.Exponents.{same_refl}
 use Rattle.sym_model.specs.Form.{Form, empty, sequence, EachOf, derivatives}

@@ -1,5 +1,5 @@
 -- Offences that were found, and how the numbers of a row are judged where they stand (this project's own).
-use Rattle.std.specs.Prelude.{ℕ, ◌+◌, ◌-◌, ◌==◌, nat_lt, min, Bool, ◌||◌, cond, List, [], ◌∷◌, ◌++◌, take, slice_get, slice_index_or, Option, Some, None}
+use Rattle.std.specs.Prelude.{ℕ, ◌+◌, ◌-◌, ◌==◌, nat_lt, min, Bool, ◌||◌, cond, List, [], ◌∷◌, ◌++◌, take, slice_get, Option, Some, None}
 use Rattle.sym_model.specs.ExpressionOffence.{OffenceKind, literal, range, shape}
 use Rattle.sym_model.specs.CommandOffence.{Offence, greatest_letter, falls, stays, stands_in, entry_above}
 use Rattle.calc_words.specs.declared.offence.Kind.{Kind}

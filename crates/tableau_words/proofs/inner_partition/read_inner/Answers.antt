@@ -1,7 +1,7 @@
-use Rattle.std.proofs.Common.{◌≡◌, ◌++◌, true, ℕ, List, map, sym, ap, ◌∙◌, subst}
+use Rattle.std.proofs.Common.{◌≡◌, ◌++◌, true, map, sym, ap, ◌∙◌, subst}
 use Rattle.std.specs.Prelude.{string_bytes}
 use Rattle.sym_model.specs.CommandOffence.{first_offence, offences_by, inside_rule, part_offences}
-use Rattle.sym_model.specs.WordForms.{numbers, partition}
+use Rattle.sym_model.specs.WordForms.{numbers}
 use Rattle.word_laws.specs.JudgedRows.{earlier}
 use Rattle.word_laws.proofs.EarlierOffences.{first_of_both}
 use Rattle.tableau_words.specs.FoundOffences.{found_of}

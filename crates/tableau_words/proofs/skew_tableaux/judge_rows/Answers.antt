@@ -7,7 +7,7 @@ use Rattle.word_laws.specs.WrittenRows.{rows_at, left_at}
 use Rattle.word_laws.specs.JudgedRows.{earlier, skewed}
 use Rattle.tableau_words.specs.AskedLengths.{asked_lengths}
 use Rattle.tableau_words.specs.FoundOffences.{found_of, at_most_entry}
-use Rattle.tableau_words.specs.SkewWords.{AreSkewRows, skew_offences}
+use Rattle.tableau_words.specs.SkewWords.{skew_offences}
 use Rattle.tableau_words.proofs.PairJudging.{found_judged, small_rows, map_twice}
 use Rattle.sym_model.specs.Tableau.{IsTableau}
 use Rattle.tableau_words.proofs.SkewTableaux.{skew_tableau}

@@ -1,14 +1,13 @@
-use Rattle.std.proofs.Common.{◌≡◌, ◌-◌, ℕ, List, length, map, refl, sym, ap, subst, arith, ◌∷◌, [], Err}
+use Rattle.std.proofs.Common.{◌≡◌, ◌-◌, ℕ, List, length, map, refl, sym, ap, subst, arith, ◌∷◌, []}
 use Rattle.std.specs.Prelude.{string_bytes, codes}
 use Rattle.std.proofs.lemmas.List.{length-map}
 use Rattle.sym_model.specs.Form.{Form, sequence}
 use Rattle.sym_model.specs.Grammar.{rect_words, rect_entry}
 use Rattle.sym_model.specs.WordForms.{the, partition_words, tableau_words}
 use Rattle.calc_base.specs.declared.words.WordsFault.{WordsFault}
-use Rattle.tableau_words.specs.declared.skew_tableaux.SkewRows.{SkewRows}
 use Rattle.tableau_words.specs.declared.row_words.RowsFault.{RowsFault}
 use Rattle.tableau_words.specs.declared.row_words.RowsFault.TheVariants.{Wrong, NoMemory}
-use Rattle.tableau_words.specs.SkewWords.{rectified, AreSkewWords}
+use Rattle.tableau_words.specs.SkewWords.{AreSkewWords}
 use Rattle.calc_words.specs.Reading.{IsRefusal}
 use Rattle.calc_words.specs.Standing.{WrongAt}
 use Rattle.tableau_words.specs.WordRows.{IsWrongFor, refusal_of}

@@ -1,4 +1,4 @@
-use Rattle.std.proofs.Common.{◌≡◌, true, false, map, refl, sym, ap, subst, ◌∙◌, Option, Some, None}
+use Rattle.std.proofs.Common.{◌≡◌, true, false, map, sym, ap, subst, ◌∙◌, Option, Some, None}
 use Rattle.std.specs.Prelude.{string_bytes, MatchOption}
 use Rattle.sym_model.specs.CommandOffence.{rows_in, is_lattice_tableau}
 use Rattle.sym_model.specs.GoodTableau.{column_reading}

@@ -1,4 +1,4 @@
-use Rattle.std.proofs.Common.{◌≡◌, ◌-◌, ℕ, List, length, map, refl, sym, ap, subst, arith, ◌∷◌, [], Err}
+use Rattle.std.proofs.Common.{◌≡◌, ◌-◌, ℕ, List, length, map, refl, sym, ap, subst, arith, ◌∷◌, []}
 use Rattle.std.specs.Prelude.{string_bytes, codes}
 use Rattle.std.proofs.lemmas.List.{length-map}
 use Rattle.sym_model.specs.Form.{Form, sequence}
