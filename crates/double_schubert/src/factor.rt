@@ -78,9 +78,10 @@ fn add_product(
 {
     let covers = w.covers_at(r)?;
     let minus = negated(k)?;
+    let letter = w.letter(r);
     add_each(sum, covers.up(), e, k)?;
     add_each(sum, covers.down(), e, minus)?;
-    add_at(sum, w, e.times_var(w.letter(r))?, k)?;
+    add_at(sum, w, e.times_var(letter)?, k)?;
     add_at(sum, w, e.times_var(c)?, minus)
 }
 

@@ -4,7 +4,8 @@ use Rattle.sym_model.specs.Partition.{size}
 use Rattle.sym_model.specs.Permutation.{covers_up, covers_down}
 use Rattle.sym_model.specs.DividedDifference.{raised}
 use Rattle.sym_model.specs.Sum.{Among, total}
-use Rattle.double_schubert_laws.proofs.DoubleFromOne.{letter_counts, letter_small}
+use Rattle.schubert_laws.proofs.Ranks.{letter_counts}
+use Rattle.double_schubert_laws.proofs.DoubleFromOne.{letter_small}
 use Rattle.sparse_polys.specs.WholeTables.{Gains}
 use Rattle.sparse_polys.proofs.ClearedSums.{on_ok}
 use Rattle.sparse_polys.proofs.Raising.{size-raised}
@@ -18,14 +19,14 @@ covers_at-requires-clause-letters c = c.requires.label.short
 
 pub times_var-requires-clause-first : goal.times_var-requires-clause-first
 times_var-requires-clause-first c =
-    let a = letter_counts c.args.w.now c.args.r c.letter.ensures.limits.kept.one_line c.requires.first in
-    let b = c.letter.ensures.value in
+    let a = letter_counts c.args.w.now c.args.r c.letter-letter.ensures.limits.kept.one_line c.requires.first in
+    let b = c.letter-letter.ensures.value in
     omega arith
 
 pub times_var-requires-clause-last : goal.times_var-requires-clause-last
 times_var-requires-clause-last c =
-    let a = letter_small c.args.w.now c.args.r c.letter.ensures.limits.kept.one_line c.requires.first in
-    let b = c.letter.ensures.value in
+    let a = letter_small c.args.w.now c.args.r c.letter-letter.ensures.limits.kept.one_line c.requires.first in
+    let b = c.letter-letter.ensures.value in
     let d = c.requires.label.short in
     let e = c.requires.last in
     omega arith
@@ -91,7 +92,7 @@ returns-clause-gains c =
     (count_covers c.args.r c.args.w.now c.requires.first)
     (subst (λ (vs : List (List ℕ)). Gains c.args.sum.now c.add_each.new.sum (λ φ. c.args.k *ℤ total (λ (v : List ℕ). φ (v, c.args.e.now)) vs) (nat_abs c.args.k * length vs)) (c.up.ensures ∙ c.in_ok-covers.ensures.up) c.in_ok-add_each.ensures.gains)
     (subst (λ (vs : List (List ℕ)). Gains c.add_each.new.sum c.add_each-2.new.sum (λ φ. c.in_ok-minus.minus *ℤ total (λ (v : List ℕ). φ (v, c.args.e.now)) vs) (nat_abs c.in_ok-minus.minus * length vs)) (c.down.ensures ∙ c.in_ok-covers.ensures.down) c.in_ok-add_each-2.ensures.gains)
-    (subst (λ (e : List ℕ). Gains c.add_each-2.new.sum c.add_at.new.sum (λ φ. c.args.k *ℤ φ (c.args.w.now, e)) (nat_abs c.args.k)) (c.in_ok-times_var.ensures ∙ ap (λ l. raised l c.args.e.now) c.letter.ensures.value) c.in_ok-add_at.ensures.gains)
+    (subst (λ (e : List ℕ). Gains c.add_each-2.new.sum c.add_at.new.sum (λ φ. c.args.k *ℤ φ (c.args.w.now, e)) (nat_abs c.args.k)) (c.in_ok-times_var.ensures ∙ ap (λ l. raised l c.args.e.now) c.letter-letter.ensures.value) c.in_ok-add_at.ensures.gains)
     (subst (λ (e : List ℕ). Gains c.add_at.new.sum c.add_at-2.new.sum (λ φ. c.in_ok-minus.minus *ℤ φ (c.args.w.now, e)) (nat_abs c.in_ok-minus.minus)) c.in_ok-times_var-2.ensures less))
 
 pub returns-clause-labels : goal.returns-clause-labels
@@ -102,7 +103,7 @@ returns-clause-labels c =
     let d = is.small in
     let more = ap size c.in_ok-times_var.ensures in
     let fewer = ap size c.in_ok-times_var-2.ensures in
-    let a = size-raised c.letter.result c.args.e.now in
+    let a = size-raised c.letter-letter.result c.args.e.now in
     let b = size-raised c.args.c c.args.e.now in
     less (letters + 1) (degree + 1)
     (c.in_ok-add_at.ensures.labels (letters + 1) (degree + 1)

@@ -7,7 +7,8 @@ use Rattle.sym_model.specs.PlaceOrders.{inversions}
 use Rattle.sym_model.specs.Permutation.{IsTransition, letter, times_swap, covers_down}
 use Rattle.schubert_laws.proofs.Members.{short_cover, short_transition, place_within, cover_inversions}
 use Rattle.double_schubert_laws.specs.Factors.{over_factor, acted}
-use Rattle.double_schubert_laws.proofs.DoubleFromOne.{letter_counts, letter_small}
+use Rattle.schubert_laws.proofs.Ranks.{letter_counts}
+use Rattle.double_schubert_laws.proofs.DoubleFromOne.{letter_small}
 use Rattle.sparse_polys.specs.WholeTables.{over, mass, HaveLabels}
 use Rattle.sparse_polys.proofs.ClearedSums.{on_ok}
 use Rattle.sparse_polys.proofs.Steps.{error_is}
