@@ -64,12 +64,6 @@ AreWithin-list N d terms f is h b t m = by (cases_lt d (size t.0))
 pub AreWithin-cleared : (e : Tree) (terms : Terms (List ℕ)) → IsTable terms → IsCleared (numerators terms) e → AreWithin (degree e) terms
 AreWithin-cleared e terms is h = AreWithin-list (numerator e) (degree e) terms (cleared_value e) is h (bounded_value e)
 
-pub coefficient-bounded : (e : Tree) (W : WholeTerms) → IsCleared W e → (label : List ℕ) → IsPartition label
-    → nat_abs (coefficient W label) * factorials label ≤ numerator e * factorial (size label)
-coefficient-bounded e W h label p =
-    subst (λ z. nat_abs z * factorials label ≤ numerator e * factorial (size label)) (sym (coefficient-list W (cleared_value e) h label p))
-    (coefficient_bound (numerator e) (degree e) (length label) (cleared_value e (length label)) (bounded_value e (length label)) label refl)
-
 pub past-weight : (e : Tree) (W : WholeTerms) → HasDenominators e → IsCleared W e → (label : List ℕ) → IsPartition label → 2 ^ 127 ≤ nat_abs (coefficient W label)
     → 2 ^ 127 ≤ weight Basis.monomials e
 past-weight e W d h label p large =

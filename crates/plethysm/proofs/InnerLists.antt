@@ -29,7 +29,8 @@ use Rattle.basis_expand.specs.Tables.{IsTable}
 use Rattle.basis_expand.specs.LabelSizes.{AreWithin}
 use Rattle.basis_expand.proofs.Bounds.{coefficient-list}
 use Rattle.basis_expand.proofs.WholeLists.{Once-keys, coefficient-numerators, found-among}
-use Rattle.plethysm.specs.BoundedSums.{AreNaturalNumbers, IsBoundedSum}
+use Rattle.plethysm.specs.BoundedSums.{IsBoundedSum}
+use Rattle.plethysm.specs.PlethysmLists.{AreNaturalNumbers}
 use native.Mathlib.Nat.{mul-pos}
 
 -- each coefficient has the denominator 1

@@ -19,8 +19,9 @@ use Rattle.basis_expand.proofs.WholeLists.{Once-keys}
 use Rattle.basis_expand.proofs.Quotients.{Quotients, IsDivided-quotients}
 use Rattle.plethysm_laws.proofs.Paths.{plethysm-path}
 use Rattle.plethysm_laws.proofs.RepeatedMonomials.{repeated-places}
-use Rattle.plethysm.specs.BoundedSums.{AreNaturalNumbers, IsBoundedSum}
-use Rattle.plethysm.specs.PathSums.{power_sum_in, IsPlethysmOf}
+use Rattle.plethysm.specs.BoundedSums.{IsBoundedSum}
+use Rattle.plethysm.specs.PathSums.{power_sum_in}
+use Rattle.plethysm.specs.PlethysmLists.{AreNaturalNumbers, IsPlethysmOf}
 use Rattle.plethysm.proofs.FactorLists.{sums}
 use Rattle.plethysm.proofs.InnerLists.{inner-value}
 

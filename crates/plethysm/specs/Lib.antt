@@ -1,2 +1,3 @@
+pub mod PlethysmLists
 pub mod BoundedSums
 pub mod PathSums

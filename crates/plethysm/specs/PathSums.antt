@@ -3,8 +3,7 @@ use Rattle.std.specs.Prelude.{ℕ, ◌+◌, ◌*◌, ◌^◌, ◌≤◌, ◌⊎�
 use Rattle.sym_model.specs.Sum.{Among}
 use Rattle.sym_model.specs.Partition.{IsPartition, size}
 use Rattle.sym_model.specs.Polynomial.{Poly, coefficient}
-use Rattle.sym_model.specs.Expansion.{Basis, monomials, Fraction, Terms, IsExpansionOf}
-use Rattle.sym_model.specs.Plethysm.{plethysm}
+use Rattle.sym_model.specs.Expansion.{monomials, Fraction, Terms}
 use Rattle.sym_model.specs.Weight.{growth}
 use Rattle.sym_model.specs.WholeTerms.{WholeTerms}
 use Rattle.monomial_laws.specs.ExpressionTerms.{in_monomials, over}
@@ -35,11 +34,3 @@ IsPastPath den K b W terms =
     ((t : List ℕ × Fraction) × Among t terms × (2 ^ 127 ≤ nat_abs (scaled den t.1)))
     ⊎ ((t : List ℕ × Fraction) × Among t terms × IsProductPast K b t.0)
     ⊎ ((ν : List ℕ) × IsPartition ν × (2 ^ 127 ≤ met (over den terms) (power_sum_at W ν)))
-
--- the list, labels read in the target, is F[G] for all F and G of which the two lists are the expansions in m, G of degree at
--- most b
-abbrev pub IsPlethysmOf : Basis → ℕ → Terms (List ℕ) → Terms (List ℕ) → Terms (List ℕ) → Type 0
-IsPlethysmOf target b outer inner list =
-    (n : ℕ) (f : ℕ → Poly) (g : Poly) (q : ℕ)
-    → ((k : ℕ) → IsExpansionOf monomials outer k (f k) q) → IsExpansionOf monomials inner n g 1
-    → IsExpansionOf target list n (plethysm f b n g) q

@@ -8,8 +8,8 @@ ghost use Rattle.sym_model.specs.WholeTerms.{numerators};
 ghost use Rattle.calc_expressions.specs.Trees.{basis_of};
 ghost use Rattle.sparse_polys.specs.MonomialProducts.{greatest_size};
 ghost use Rattle.basis_expand.specs.LabelSizes.{AreWithin};
-ghost use Rattle.plethysm.specs.BoundedSums.{AreNaturalNumbers, IsBoundedSum};
-ghost use Rattle.plethysm.specs.PathSums.{IsPlethysmOf};
+ghost use Rattle.plethysm.specs.BoundedSums.{IsBoundedSum};
+ghost use Rattle.plethysm.specs.PlethysmLists.{AreNaturalNumbers, IsPlethysmOf};
 
 use crate::path::multiplied_out;
 use basis_change::{factorial, greatest_size, is_table, to_basis};
