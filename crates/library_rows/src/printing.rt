@@ -6,7 +6,7 @@ use expansion_printer::Answer;
 use partitions::Partition;
 use perm_codes::Perm;
 use row_texts::{end, said, start, term};
-use sparse_polys::{Lin, Monomial, Pair, Poly, Power, Terms};
+use sparse_polys::{Lin, Monomial, Pair, Poly, Power, Shifted, Terms};
 
 /// Prints what a text is read as.
 pub fn read_as(rt: &impl Print, what: &str, read: Result<Answer, ReadBackFault>) -> Result<()> {
@@ -26,6 +26,7 @@ fn answered(rt: &impl Print, what: &str, answer: &Answer) -> Result<()> {
         Answer::Powers { terms } => powers(rt, what, terms),
         Answer::Permutations { terms } => permutations(rt, what, terms),
         Answer::Polynomial { terms } => monomials(rt, what, terms),
+        Answer::Shifts { terms } => shifts(rt, what, terms),
     }
 }
 
@@ -63,6 +64,15 @@ fn powers(rt: &impl Print, what: &str, list: &Terms<Power, Int>) -> Result<()> {
     for (power, c) in list.iter() {
         term(rt, &c.get(), power.shape.parts())?;
         term(rt, &"q to the power", &[power.power])?;
+    }
+    end(rt)
+}
+
+fn shifts(rt: &impl Print, what: &str, list: &Terms<Shifted, Int>) -> Result<()> {
+    start(rt, what)?;
+    for (shifted, c) in list.iter() {
+        term(rt, &c.get(), shifted.perm.letters())?;
+        term(rt, &"in y", shifted.y.exponents())?;
     }
     end(rt)
 }

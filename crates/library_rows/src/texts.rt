@@ -63,7 +63,8 @@ fn other_blocks(rt: &(impl Print + Alloc<A = Global>)) -> Result<()> {
     block(rt, "a pair", "1  (2,1) ()\n", Kind::Pairs)?;
     block(rt, "a power", "1  q^1  ()\n", Kind::Powers)?;
     block(rt, "a permutation", "1  (2,1)\n", Kind::Permutations)?;
-    block(rt, "a monomial", "1  (1,0,1)\n", Kind::Polynomial)
+    block(rt, "a monomial", "1  (1,0,1)\n", Kind::Polynomial)?;
+    block(rt, "a shift", "-1  (2,1) (0,1)\n", Kind::Shifts)
 }
 
 /// Prints what a block is read as.
