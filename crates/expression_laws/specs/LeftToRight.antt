@@ -1,10 +1,8 @@
 -- An expression read byte by byte from the left: what is kept of the bytes so far, and how the next one changes it.
 -- A reader is proved by this; what an expression is, the grammar of Phrase says (this project's own).
-use Rattle.std.specs.Prelude.{ℕ, ◌+◌, ◌-◌, ◌*◌, ◌==◌, nat_le, Bool, true, false, ◌&&◌, cond, List, [], ◌∷◌, ◌++◌, Option, Some, None, option_map}
+use Rattle.std.specs.Prelude.{ℕ, ◌==◌, nat_le, Bool, true, false, ◌&&◌, cond, List, [], ◌∷◌, ◌++◌, Option, Some, None, option_map}
 use Rattle.sym_model.specs.Expansion.{Basis, monomials, elementaries, completes, power_sums, schurs}
-use Rattle.sym_model.specs.Partition.{without_last_zeros}
-use Rattle.sym_model.specs.Expression.{Tree, number, fraction, atom, negation}
-use Rattle.sym_model.specs.Phrase.{Operator, plus, minus, times, Phrase, numeral, ratio, label, brackets, minus_first, operation, join_trees}
+use Rattle.sym_model.specs.Phrase.{Operator, plus, minus, times, Phrase, numeral, ratio, label, brackets, minus_first, operation}
 
 -- what a byte is to the grammar
 pub data Symbol : Type 0 where
@@ -167,40 +165,10 @@ phrases = record {
   operation_of = operation;
 }
 
--- its tree, numbers as their values
-abbrev pub trees : Makes Tree ℕ
-trees = record {
-  begin = λ byte. byte - 48;
-  extend = λ n byte. 10 * n + (byte - 48);
-  numeral_of = number;
-  ratio_of = fraction;
-  label_of = λ basis numbers. atom basis (without_last_zeros numbers);
-  brackets_of = λ e. e;
-  minus_first_of = negation;
-  operation_of = join_trees;
-}
-
 -- whether the bytes so far begin an expression
 abbrev pub is_live : {A N : Type 0} → State A N → Bool
 is_live dead = false
 is_live (at p t f o) = true
-
--- whether no parenthesis is open
-abbrev pub is_outermost : {A : Type 0} → Opened A → Bool
-is_outermost outermost = true
-is_outermost (inside o t f) = false
-
--- whether a factor is there whole
-abbrev pub is_factor : {A N : Type 0} → Piece A N → Bool
-is_factor (in_number n) = true
-is_factor (in_denominator n k) = true
-is_factor (closed x) = true
-is_factor _ = false
-
--- whether the bytes so far are an expression
-abbrev pub is_whole : {A N : Type 0} → State A N → Bool
-is_whole dead = false
-is_whole (at p t f o) = is_factor p && is_outermost o
 
 -- the factor that is there
 abbrev pub factor_found : {A N : Type 0} → Makes A N → Piece A N → Option A

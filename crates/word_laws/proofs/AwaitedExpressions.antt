@@ -6,9 +6,7 @@ use Rattle.sym_model.proofs.Sums.{Among-append_left, Among-append_right, Among_f
 use Rattle.sym_model.specs.Form.{exact, number, target, formula, Form, empty, word, sequence, either, many, SomeOf, Has, Awaits, fits, is_skippable, derivatives, after_word, after_words, awaits_next, some_awaits_next, TellsExpressions}
 use Rattle.word_laws.proofs.Derivatives.{sequence_parts, has_more, has_none, skipped, skippable, derivative_sound, derivative_complete, Splits, inside, behind, splits, among_cond_true, among_cond as from_cond}
 use Rattle.word_laws.proofs.LongestPrefixes.{some_in, some_out}
-
-abbrev Words : Type 0
-Words = List (List ℕ)
+use Rattle.word_laws.specs.Words.{Words}
 
 -- ---- next
 

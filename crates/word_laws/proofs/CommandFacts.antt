@@ -15,9 +15,7 @@ use Rattle.sym_model.specs.Grammar.{entries_of, mult_entry, skew_entry, coef_ent
 use Rattle.word_laws.specs.Reading.{forms_of}
 use Rattle.word_laws.proofs.LongestPrefixes.{CanBe, some_words}
 use Rattle.word_laws.proofs.FirstOffences.{first_none}
-
-abbrev Words : Type 0
-Words = List (List ℕ)
+use Rattle.word_laws.specs.Words.{Words}
 
 each_has : (entries : List Entry) → CanBe (forms_of entries) → EachOf (λ (e : Entry). (words : Words) × Has e.form words) entries
 each_has [] c = tt

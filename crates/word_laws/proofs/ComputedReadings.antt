@@ -14,9 +14,7 @@ use Rattle.sym_model.specs.Command.{Command}
 use Rattle.sym_model.specs.CommandOffence.{Offence, first_offence}
 use Rattle.sym_model.specs.Entry.{Entry, HasFirstOffence, SpellsWithoutOffence}
 use Rattle.word_laws.proofs.Classes.{number_sound}
-
-abbrev Words : Type 0
-Words = List (List ℕ)
+use Rattle.word_laws.specs.Words.{Words}
 
 abbrev of_option : {A : Type 0} → Option A → List A
 of_option None = []

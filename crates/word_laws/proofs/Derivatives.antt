@@ -6,9 +6,7 @@ use Rattle.sym_model.specs.Sum.{each, Among}
 use Rattle.sym_model.proofs.Sums.{Among-append_left, Among-append_right, Among_from_append, Among-map, Among_from_map}
 use Rattle.sym_model.specs.Form.{Form, empty, word, sequence, either, many, Written, word_of, words_of, May, Has, fits, is_skippable, derivatives, TellsExpressions}
 use Rattle.word_laws.proofs.Classes.{fits_sound, fits_complete}
-
-abbrev Words : Type 0
-Words = List (List ℕ)
+use Rattle.word_laws.specs.Words.{Words}
 
 -- what has the words of a sequence, and of many
 pub has_sequence : (f g : Form) (us vs : Words) → Has f us → Has g vs → Has (sequence f g) (us ++ vs)

@@ -16,9 +16,7 @@ use Rattle.word_laws.proofs.LongestPrefixes.{CanBe, HasOne, BeginsOne, taken_lon
 use Rattle.word_laws.proofs.AwaitedExpressions.{awaits_sound, awaits_complete}
 use Rattle.word_laws.proofs.Readings.{OnePhrase, told_apart, one_written}
 use Rattle.word_laws.proofs.ExpressionWords.{tells_expressions, bytes_longest}
-
-abbrev Words : Type 0
-Words = List (List ℕ)
+use Rattle.word_laws.specs.Words.{Words}
 
 -- ---- commands and their forms
 

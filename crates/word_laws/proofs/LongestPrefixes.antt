@@ -8,9 +8,7 @@ use Rattle.sym_model.specs.LongestPrefix.{IsLongestPrefix}
 use Rattle.sym_model.specs.Form.{Form, empty, word, sequence, either, many, word_of, SomeOf, EachOf, Has, Begins, fits, is_skippable, derivatives, after_word, one_more, taken, has_skippable, after_words, TellsExpressions, can_be}
 use Rattle.word_laws.proofs.Classes.{some_word}
 use Rattle.word_laws.proofs.Derivatives.{has_sequence, has_left, has_none, skipped, skippable, derivative_sound, derivative_complete}
-
-abbrev Words : Type 0
-Words = List (List ℕ)
+use Rattle.word_laws.specs.Words.{Words}
 
 -- ---- a form has words
 

@@ -4,9 +4,7 @@ use Rattle.std.proofs.lemmas.List.{append-nil}
 use Rattle.sym_model.specs.Form.{Form, empty, sequence, is_number_word, derivatives, after_word}
 use Rattle.sym_model.specs.WordForms.{partition_words}
 use Rattle.word_laws.specs.Reading.{is_expression}
-
-abbrev Words : Type 0
-Words = List (List ℕ)
+use Rattle.word_laws.specs.Words.{Words}
 
 -- what is still to be read behind the numbers of a list, where more of them and then words of the form may follow
 abbrev pub behind_numbers : Words → Form → Form

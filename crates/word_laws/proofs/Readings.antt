@@ -13,9 +13,7 @@ use Rattle.sym_model.specs.Form.{Class, exact, number, target, formula, WrittenW
 use Rattle.word_laws.specs.OneReading.{is_apart, is_apart_from, are_apart, firsts, continuing, is_unambiguous}
 use Rattle.word_laws.proofs.Classes.{number_complete, letter_complete}
 use Rattle.word_laws.proofs.Derivatives.{skippable}
-
-abbrev Words : Type 0
-Words = List (List ℕ)
+use Rattle.word_laws.specs.Words.{Words}
 
 -- no word spells two phrases
 abbrev pub OnePhrase : Type 0

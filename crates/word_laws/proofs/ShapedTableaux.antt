@@ -16,9 +16,7 @@ use Rattle.word_laws.proofs.Derivatives.{has_sequence}
 use Rattle.word_laws.proofs.LongestPrefixes.{BeginsOne, taken_longest, whole_sound, whole_complete, among_cond}
 use Rattle.word_laws.proofs.Readings.{one_written}
 use Rattle.word_laws.proofs.ExpressionWords.{tells_expressions}
-
-abbrev Words : Type 0
-Words = List (List ℕ)
+use Rattle.word_laws.specs.Words.{Words}
 
 -- ---- forms without expressions do not ask which words are expressions
 

@@ -14,9 +14,7 @@ use Rattle.word_laws.proofs.LongestPrefixes.{CanBe, whole_complete}
 use Rattle.word_laws.proofs.AwaitedExpressions.{awaits_sound, awaits_complete}
 use Rattle.word_laws.proofs.EntryLists.{of_forms, to_forms, spells_has, word_longest, not_true}
 use Rattle.word_laws.proofs.ExpressionWords.{tells_expressions}
-
-abbrev Words : Type 0
-Words = List (List ℕ)
+use Rattle.word_laws.specs.Words.{Words}
 
 -- of the words these have been read, and these forms, one at least, are still to come
 pub record Stands (entries : List Entry) (words before rest : Words) (f : Form) (forms : List Form) : Type 0 where
