@@ -1,8 +1,8 @@
 -- What a command says (this project's own).
-use Rattle.sym_model.specs.Command.{Command as PlainCommand, mult, skew, coef, coprod, quantum, fusion, expand, schubert, schubmult, tab, rsk, unrsk, rect, batch, work}
+use Rattle.sym_model.specs.Command.{Command as PlainCommand, mult, skew, coef, coprod, quantum, fusion, expand, schubert, schubmult, tab, rsk, unrsk, rect, growth, plethysm, dschubmult, stanley, batch, work}
 use Rattle.calc_expressions.specs.Trees.{basis_of, tree_of}
 use Rattle.calc_commands.specs.declared.command.Command.{Command}
-use Rattle.calc_commands.specs.declared.command.Command.TheVariants.{Mult, Skew, Coef, Coprod, Quantum, Fusion, Expand, Schubert, Schubmult, Tab, Rsk, Unrsk, Rect, Batch, Work}
+use Rattle.calc_commands.specs.declared.command.Command.TheVariants.{Mult, Skew, Coef, Coprod, Quantum, Fusion, Expand, Schubert, Schubmult, Tab, Rsk, Unrsk, Rect, Growth, Plethysm, Dschubmult, Stanley, Batch, Work}
 
 -- the plain command
 abbrev pub command_of : Command → PlainCommand
@@ -19,5 +19,9 @@ command_of (Expand target one_line formula) = expand (basis_of target) one_line 
 command_of (Rsk letters) = rsk letters
 command_of (Unrsk pair) = unrsk pair.0.rows pair.1.rows
 command_of (Rect tableau) = rect tableau.outer tableau.inner tableau.rows
+command_of (Growth perm) = growth perm
+command_of (Plethysm target outer inner) = plethysm (basis_of target) (tree_of outer.tree) (tree_of inner.tree)
+command_of (Dschubmult left right) = dschubmult left right
+command_of (Stanley rows perm) = stanley rows perm
 command_of Batch = batch
 command_of (Work lines seed) = work lines seed

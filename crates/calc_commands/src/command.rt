@@ -81,6 +81,26 @@ pub enum Command {
     Rect {
         tableau: Tableau,
     },
+    /// The growth grid of a permutation.
+    Growth {
+        perm: Perm,
+    },
+    /// The outer expression with its variables replaced by the monomials of the inner one, in the basis of the target.
+    Plethysm {
+        target: Basis,
+        outer: Formula,
+        inner: Formula,
+    },
+    /// The product of the double Schubert polynomials of two permutations.
+    Dschubmult {
+        left: Perm,
+        right: Perm,
+    },
+    /// The Stanley polynomial of a permutation, in so many variables.
+    Stanley {
+        rows: u16,
+        perm: Perm,
+    },
     /// Each line of the input.
     Batch,
     /// So many lines that the generator makes from a seed.

@@ -1,5 +1,5 @@
 -- What the offences of an expression's word come to.
-use Rattle.std.proofs.Common.{◌≡◌, ℕ, ◌+◌, ◌<◌, ◌≤◌, nat_lt, max, Bool, true, false, ◌||◌, cond, List, [], ◌∷◌, ◌++◌, length, length-append, map, refl, sym, ap, ◌∙◌, arith, Option, Some, None, option_map, ◌⊎◌, inl, inr, ⊎_elim}
+use Rattle.std.proofs.Common.{◌≡◌, ℕ, ◌+◌, ◌<◌, ◌≤◌, nat_lt, max, Bool, true, false, ◌||◌, cond, List, [], ◌∷◌, ◌++◌, length, length-append, map, refl, sym, ap, ◌∙◌, subst, arith, Option, Some, None, option_map, ◌⊎◌, inl, inr, ⊎_elim}
 use Rattle.std.proofs.lemmas.Bool.Decides.{nat_tests}
 use Rattle.std.proofs.lemmas.Bool.{cases_lt, or_cases}
 use Rattle.std.specs.Prelude.{codes, Result, Ok, Err, IfOk}
@@ -181,7 +181,7 @@ marks-below level d b (operation operator l r) h =
     (marks-below (level_after operator) d (b + length (spelling l) + 1) r h.2)
 
 -- the first offence is one of the two
-first_is : (a b : Option WordOffence) (o : WordOffence) → earlier a b ≡ Some o → (a ≡ Some o) ⊎ (b ≡ Some o)
+pub first_is : (a b : Option WordOffence) (o : WordOffence) → earlier a b ≡ Some o → (a ≡ Some o) ⊎ (b ≡ Some o)
 first_is None b o h = inr h
 first_is (Some p) None o h = inl h
 first_is (Some p) (Some q) o h = by (comes_first p q) h
@@ -233,23 +233,26 @@ long_is n o true h k =
     omega (arith, ap (λ (x : WordOffence). x.0) same, less)
 long_is n o false h k = cc
 
-before-end : (n b : ℕ) (k : OffenceKind) → b < n → comes_first (b, k) (n, range) ≡ true
+pub before-end : (n b : ℕ) (k : OffenceKind) → b < n → comes_first (b, k) (n, range) ≡ true
 before-end n b k h = grind (arith, nat_tests)
 
 first_stays : (o : WordOffence) (n : ℕ) (h : Bool) → o.0 < n → earlier (Some o) (cond h (Some (n, range)) None) ≡ Some o
 first_stays o n true l = ap (λ c. cond c (Some o) (Some (n, range))) (before-end n o.0 o.1 l)
 first_stays o n false l = refl
 
-pub judge-some : (limit : ℕ) (e : Phrase) (o : WordOffence) → Is expression e → first_before_degree e ≡ Some o → first_of (offences_within limit e) ≡ Some o
-judge-some limit e o a h =
+-- an offence that is no degree past the limit stands at a byte of the word
+below-end : (e : Phrase) (o : WordOffence) → Is expression e → first_before_degree e ≡ Some o → o.0 < length (spelling e)
+below-end e o a h =
     let n = length (spelling e) in
-    let below : o.0 < n =
     ⊎_elim
     (λ mark. first-below n (marks 0 0 e) o (below-more (0 + n) n (marks 0 0 e) (omega arith) (marks-below expression 0 0 e a)) mark)
     (λ long. long_is n o (nat_lt 4096 n) refl long)
-    (first_is (first_of (each offences_at (marks 0 0 e))) (long_offence n) o h) in
+    (first_is (first_of (each offences_at (marks 0 0 e))) (long_offence n) o h)
+
+pub judge-some : (limit : ℕ) (e : Phrase) (o : WordOffence) → Is expression e → first_before_degree e ≡ Some o → first_of (offences_within limit e) ≡ Some o
+judge-some limit e o a h =
     all_offences limit e ∙ ap (λ f. earlier f (high_offence limit e)) h
-    ∙ first_stays o n (nat_lt limit (degree (tree e))) below
+    ∙ first_stays o (length (spelling e)) (nat_lt limit (degree (tree e))) (below-end e o a h)
 
 high_test : (l d : ℕ) → l < d → nat_lt l d ≡ true
 high_test l d h = grind (arith, nat_tests)
@@ -351,3 +354,20 @@ read-low limit w f h = omega (arith, ap degree h.3, none-low limit h.0 h.2)
 pub result-low : (limit : ℕ) (w : List ℕ) (r : Result Formula ExpressionFault) → IsReadBy (offences_within limit) w r → IfOk r (λ f. degree (tree_of f.tree) ≤ limit)
 result-low limit w (Ok f) h = read-low limit w f h
 result-low limit w (Err e) h = tt
+
+-- the first offence is no later than the end of the word
+end-itself : (n : ℕ) → comes_first (n, range) (n, range) ≡ true
+end-itself n = grind (arith, nat_tests)
+
+is-end : (n : ℕ) (b : Bool) (o : WordOffence) → cond b (Some (n, range)) None ≡ Some o → (n, range) ≡ o
+is-end n true o h = cc
+is-end n false o h = cc
+
+pub ends-last : (limit : ℕ) (e : Phrase) (o : WordOffence) → Is expression e → first_of (offences_within limit e) ≡ Some o
+    → comes_first o (length (spelling e), range) ≡ true
+ends-last limit e o a h =
+    let n = length (spelling e) in
+    ⊎_elim
+    (λ before. before-end n o.0 o.1 (below-end e o a before))
+    (λ high. subst (λ x. comes_first x (n, range) ≡ true) (is-end n (nat_lt limit (degree (tree e))) o high) (end-itself n))
+    (first_is (first_before_degree e) (high_offence limit e) o (sym (all_offences limit e) ∙ h))

@@ -1,11 +1,12 @@
 -- What comes of a word with a minus or a fraction, and of one without.
-use Rattle.std.proofs.Common.{◌≡◌, ℕ, suc, ◌<◌, ◌≤◌, ◌==◌, nat_le, nat_lt, Bool, true, false, ◌&&◌, ◌||◌, cond, List, ◌∷◌, length, drop, get_or, drop-cons, refl, sym, ap, ◌∙◌, arith, Option, Some, None, option_map, Result, Ok, Err}
+use Rattle.std.proofs.Common.{◌≡◌, ℕ, suc, ◌<◌, ◌≤◌, ◌==◌, nat_le, nat_lt, Bool, true, false, ◌&&◌, ◌||◌, cond, List, ◌∷◌, length, drop, get_or, drop-cons, refl, sym, ap, ◌∙◌, arith, Option, Some, None, option_map, Result, Ok, Err, ⊎_elim}
 use Rattle.std.proofs.lemmas.Bool.Decides.{nat_tests}
 use Rattle.std.proofs.Math.ListN.{drop_of_length-le}
-use Rattle.sym_model.specs.Phrase.{Phrase, SpellsPhrase}
+use Rattle.sym_model.specs.Phrase.{Phrase, expression, Is, spelling, SpellsPhrase}
 use Rattle.sym_model.specs.ExpressionOffence.{OffenceKind, literal, range, shape, WordOffence, rank, comes_first, earlier, first_of, offences_within, inner_offences, plethysm_degree_limit, sign_offences}
 use Rattle.expression_laws.specs.Signs.{first_sign}
-use Rattle.expression_laws.proofs.SignRuns.{word-signs}
+use Rattle.expression_laws.proofs.SignRuns.{word-signs, signs-below}
+use Rattle.calc_expressions.proofs.JudgeFacts.{before-end, first_is, ends-last}
 use Rattle.calc_expressions.specs.declared.formula.Formula.{Formula}
 use Rattle.calc_expressions.specs.declared.reading.ExpressionFault.{ExpressionFault}
 use Rattle.calc_expressions.specs.declared.reading.ExpressionFault.TheVariants.{Syntax, Literal, Range, Shape, NoMemory}
@@ -107,3 +108,11 @@ sign-refused word (Shape byte) sign s h = by (nat_lt sign byte) refl
     by : (b : Bool) → nat_lt sign byte ≡ b → IsReadBy inner_offences word (Err (cond b (Shape sign) (Shape byte)))
     by true e = (h.0, h.1, first_with word sign byte shape h.0 true e s h.1 h.2)
     by false e = (h.0, h.1, first_with word sign byte shape h.0 false e s h.1 h.2)
+
+-- the first offence of an inner expression is no later than the end of its word
+pub inner-ends_last : (e : Phrase) (o : WordOffence) → Is expression e → first_of (inner_offences e) ≡ Some o → comes_first o (length (spelling e), range) ≡ true
+inner-ends_last e o a h =
+    ⊎_elim
+    (λ outer. ends-last plethysm_degree_limit e o a outer)
+    (λ signed. before-end (length (spelling e)) o.0 o.1 (signs-below e o signed))
+    (first_is (first_of (outer_offences e)) (first_of (sign_offences 0 e)) o (sym (first_of-append (outer_offences e) (sign_offences 0 e)) ∙ h))

@@ -3,9 +3,9 @@ use Rattle.std.proofs.Common.{◌≡◌, ℕ, ◌<◌, Bool, true, false, cond, 
 use Rattle.std.specs.Prelude.{IfOk, codes}
 use Rattle.sym_model.specs.Sum.{Among}
 use Rattle.sym_model.specs.Polynomial.{same}
-use Rattle.sym_model.specs.Form.{EachOf, can_be}
+use Rattle.sym_model.specs.Form.{EachOf}
 use Rattle.sym_model.specs.Command.{Command as PlainCommand}
-use Rattle.sym_model.specs.Entry.{Entry, SpellsFreely, SpellsWithoutOffence}
+use Rattle.sym_model.specs.Entry.{Entry, SpellsWithoutOffence}
 use Rattle.sym_model.specs.Grammar.{entries_of, all_bases, batch_entry, work_entry}
 use Rattle.sym_model.specs.SyntaxPlace.{IsSyntaxPlace}
 use Rattle.sym_model.proofs.Exponents.{same_true, same_from, same_apart}
@@ -19,10 +19,10 @@ use Rattle.calc_commands.specs.declared.command.Command.{Command}
 use Rattle.calc_words.specs.Reading.{IsRead as IsReadBy}
 use Rattle.calc_words.specs.WrittenLimits.{KeepsLimits}
 use Rattle.calc_words.proofs.Joining.{joined_read}
-use Rattle.calc_words.proofs.WrittenCommands.{Keeps, all_keep, some_keeps}
-use Rattle.calc_language.specs.BuiltCommands.{is_read, command_entries, batch_entries}
+use Rattle.calc_words.proofs.WrittenCommands.{all_keep, some_keeps}
+use Rattle.calc_language.specs.BuiltCommands.{command_entries, batch_entries}
 use Rattle.calc_language.specs.Reading.{command_of, entry_named, IsReadAs, IsRead, IsWithinItsLimits}
-use Rattle.calc_language.proofs.NamedEntries.{IsLed, are_named_apart, each_among, some_select, one_named, led_named, unnamed, wordless, clash}
+use Rattle.calc_language.proofs.NamedEntries.{IsLed, are_named_apart, each_among, one_named, led_named, unnamed, wordless, clash}
 
 -- ---- entries by their names
 
@@ -90,8 +90,8 @@ named_among all entries t w words rest r is here there h = by (entry_named w all
 
 pub commands_told : AreTold command_entries
 commands_told = record {
-  led = (inl refl, (inl refl, (inl refl, (inl refl, (inl refl, (inl refl, (inl refl, (inl refl, (inl refl, (inl refl, (inl refl, (inl refl, (inl refl, (inr refl, (inl refl, tt)))))))))))))));
-  can = (refl, (refl, (refl, (refl, (refl, (refl, (refl, (refl, (refl, (refl, (refl, (refl, (refl, (refl, (refl, tt)))))))))))))));
+  led = (inl refl, (inl refl, (inl refl, (inl refl, (inl refl, (inl refl, (inl refl, (inl refl, (inl refl, (inl refl, (inl refl, (inl refl, (inl refl, (inl refl, (inl refl, (inl refl, (inl refl, (inr refl, (inl refl, tt)))))))))))))))))));
+  can = (refl, (refl, (refl, (refl, (refl, (refl, (refl, (refl, (refl, (refl, (refl, (refl, (refl, (refl, (refl, (refl, (refl, (refl, (refl, tt)))))))))))))))))));
   some = omega arith;
   apart = refl;
 }
@@ -144,7 +144,7 @@ no_words words r entries t is h =
 -- words without an offence keep the limits
 pub kept_by_all : (words : Words) (c : PlainCommand) → SpellsWithoutOffence command_entries words c → KeepsLimits c
 kept_by_all words c h =
-    some_keeps (entries_of all_bases) (all_keep all_bases) words c (some_select (λ (e : Entry). SpellsFreely e words c) is_read (entries_of all_bases) h)
+    some_keeps (entries_of all_bases) (all_keep all_bases) words c h
 
 pub within : (words : Words) (result : Result Command WordsFault) → IsRead words result → IfOk result IsWithinItsLimits
 within words (Ok command) h = kept_by_all words (command_of command) h

@@ -3,7 +3,6 @@ use Rattle.std.proofs.Common.{◌≡◌, ℕ, ◌+◌, ◌<◌, ◌==◌, nat_lt
 use Rattle.std.specs.Prelude.{codes}
 use Rattle.std.proofs.lemmas.Bool.Decides.{nat_tests}
 use Rattle.sym_model.specs.Polynomial.{same}
-use Rattle.sym_model.proofs.Exponents.{same_true}
 use Rattle.sym_model.specs.Expansion.{Basis, monomials, elementaries, completes, power_sums, schurs}
 use Rattle.sym_model.specs.Phrase.{Phrase, SpellsPhrase, letter, tree}
 use Rattle.sym_model.specs.ExpressionOffence.{WordOffence, comes_first, earlier, first_of, offences}
@@ -138,7 +137,7 @@ expression_word : (m : Bool) → 2 + length (words_of (optional form_words) (for
 expression_word false = refl
 expression_word true = refl
 
-no_expression : (z : List ℕ) → ((e : Phrase) → SpellsPhrase z e → ⊥) → is_expression z ≡ false
+pub no_expression : (z : List ℕ) → ((e : Phrase) → SpellsPhrase z e → ⊥) → is_expression z ≡ false
 no_expression z n = by (is_expression z) refl
   where
     by : (b : Bool) → is_expression z ≡ b → b ≡ false
@@ -203,7 +202,7 @@ place-fourth m t i z v xs e s =
     refl refl)
 
 -- the offences of an expression, with the word at which it stands, come in the same order
-abbrev at_word : ℕ → WordOffence → Offence
+abbrev pub at_word : ℕ → WordOffence → Offence
 at_word k o = (k, o.0, o.1)
 
 same_word : (p q r : Bool) → p ≡ false → q ≡ true → (p || (q && r)) ≡ r
@@ -214,7 +213,7 @@ same_word false false r h k = cc
 not_less : (k : ℕ) → nat_lt k k ≡ false
 not_less k = grind (arith, nat_tests)
 
-same_order : (k : ℕ) (o p : WordOffence) → is_no_later (at_word k o) (at_word k p) ≡ comes_first o p
+pub same_order : (k : ℕ) (o p : WordOffence) → is_no_later (at_word k o) (at_word k p) ≡ comes_first o p
 same_order k o p = same_word (nat_lt k k) (k == k) (comes_first o p) (not_less k) (eq-eqb k k refl)
 
 chosen : (k : ℕ) (o p : WordOffence) (b : Bool) → cond b (Some (at_word k o)) (Some (at_word k p)) ≡ option_map (at_word k) (cond b (Some o) (Some p))
@@ -226,7 +225,7 @@ earlier-placed k o None = refl
 earlier-placed k o (Some p) =
     ap (λ b. cond b (Some (at_word k o)) (Some (at_word k p))) (same_order k o p) ∙ chosen k o p (comes_first o p)
 
-first-placed : (k : ℕ) (os : List WordOffence) → first_offence (map (at_word k) os) ≡ option_map (at_word k) (first_of os)
+pub first-placed : (k : ℕ) (os : List WordOffence) → first_offence (map (at_word k) os) ≡ option_map (at_word k) (first_of os)
 first-placed k [] = refl
 first-placed k (o ∷ os) = ap (earlier_of (at_word k o)) (first-placed k os) ∙ earlier-placed k o (first_of os)
 

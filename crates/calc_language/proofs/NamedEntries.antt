@@ -1,11 +1,10 @@
 -- Lists of commands whose first word is the name: each is told by it, and words with another first word go wrong there.
 use Rattle.std.proofs.Common.{◌≡◌, ℕ, ◌<◌, Bool, true, false, not, ◌&&◌, ◌||◌, cond, List, [], ◌∷◌, ◌++◌, map, length, refl, sym, ap, ◌∙◌, subst, arith, ◌⊎◌, inl, inr}
-use Rattle.sym_model.specs.Sum.{Among, select}
+use Rattle.sym_model.specs.Sum.{Among}
 use Rattle.sym_model.specs.GoodTableau.{is_among}
 use Rattle.sym_model.specs.Polynomial.{same}
-use Rattle.sym_model.proofs.Exponents.{same_from, same_true}
-use Rattle.sym_model.proofs.Sums.{Among-select, Among_from_select}
-use Rattle.sym_model.specs.Form.{Form, empty, sequence, SomeOf, EachOf, Has, Awaits, can_be, is_skippable, derivatives, after_word, has_skippable, awaits_next, some_awaits_next}
+use Rattle.sym_model.proofs.Exponents.{same_from}
+use Rattle.sym_model.specs.Form.{Form, empty, sequence, EachOf, Has, Awaits, is_skippable, derivatives, after_word, has_skippable, awaits_next, some_awaits_next}
 use Rattle.sym_model.specs.Entry.{Entry}
 use Rattle.sym_model.specs.SyntaxPlace.{IsSyntaxPlace}
 use Rattle.sym_model.specs.WordForms.{the}
@@ -13,7 +12,7 @@ use Rattle.word_laws.specs.Words.{Words}
 use Rattle.word_laws.specs.Reading.{is_expression, forms_of}
 use Rattle.word_laws.proofs.LongestPrefixes.{CanBe}
 use Rattle.word_laws.proofs.Stands.{wrong_word, ends_early}
-use Rattle.calc_words.specs.Joined.{Named, Joined}
+use Rattle.calc_words.specs.Joined.{Named}
 use Rattle.calc_words.proofs.Joining.{first_spells, first_awaits}
 
 -- what stands behind the first of two forms
@@ -31,15 +30,6 @@ pub each_among : (P : Entry → Type 0) (entries : List Entry) → EachOf P entr
 each_among P [] h e m = absurd m
 each_among P (f ∷ entries) h e (inl s) = subst P (sym s) h.0
 each_among P (f ∷ entries) h e (inr m) = each_among P entries h.1 e m
-
-pub some_select : (P : Entry → Type 0) (test : Entry → Bool) (entries : List Entry) → SomeOf P (select test entries) → SomeOf P entries
-some_select P test [] h = h
-some_select P test (e ∷ entries) h = by (test e) h (some_select P test entries)
-  where
-    by : (b : Bool) → SomeOf P (cond b (e ∷ select test entries) (select test entries)) → (SomeOf P (select test entries) → SomeOf P entries) → SomeOf P (e ∷ entries)
-    by true (inl k) rest = inl k
-    by true (inr k) rest = inr (rest k)
-    by false k rest = inr (rest k)
 
 -- ---- names that tell the commands apart
 

@@ -1,7 +1,5 @@
 -- The commands that are read, on the command line and in a line of a batch (this project's own).
-use Rattle.std.specs.Prelude.{◌≡◌, ℕ, Bool, not, List, [], ◌∷◌, codes}
-use Rattle.sym_model.specs.Sum.{select}
-use Rattle.sym_model.specs.GoodTableau.{is_among}
+use Rattle.std.specs.Prelude.{◌≡◌, List}
 use Rattle.sym_model.specs.Expansion.{Basis}
 use Rattle.sym_model.specs.Form.{SomeOf}
 use Rattle.sym_model.specs.Entry.{Entry}
@@ -11,18 +9,10 @@ use Rattle.sym_model.specs.Grammar.{entries_of, line_entries, all_bases}
 abbrev pub IsTarget : Basis → Type 0
 IsTarget basis = SomeOf (λ b. basis ≡ b) all_bases
 
--- the commands that no words spell yet
-abbrev pub unread_names : List (List ℕ)
-unread_names = codes "growth" ∷ codes "plethysm" ∷ codes "dschubmult" ∷ codes "stanley" ∷ []
-
--- whether words spell the command
-abbrev pub is_read : Entry → Bool
-is_read e = not (is_among e.name unread_names)
-
 -- the commands of the command line
 abbrev pub command_entries : List Entry
-command_entries = select is_read (entries_of all_bases)
+command_entries = entries_of all_bases
 
 -- the commands of a line of a batch
 abbrev pub batch_entries : List Entry
-batch_entries = select is_read (line_entries all_bases)
+batch_entries = line_entries all_bases

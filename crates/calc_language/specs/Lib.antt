@@ -2,3 +2,4 @@ pub mod Reading
 pub mod BuiltCommands
 pub mod Lines
 pub mod ExpandFront
+pub mod Expressions

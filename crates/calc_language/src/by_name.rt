@@ -5,11 +5,12 @@ ghost use Rattle.calc_language.specs.Reading.{IsReadAs, entry_named};
 
 use crate::Command;
 use crate::expand::read_expand;
+use crate::plethysm_command::read_plethysm;
 use crate::refusal::syntax;
 use calc_base::WordsFault;
 use calc_words::{
-    read_batch, read_coef, read_coprod, read_fusion, read_mult, read_quantum, read_rsk,
-    read_schubert, read_schubmult, read_skew, read_work,
+    read_batch, read_coef, read_coprod, read_dschubmult, read_fusion, read_growth, read_mult,
+    read_quantum, read_rsk, read_schubert, read_schubmult, read_skew, read_stanley, read_work,
 };
 use std::alloc::Global;
 use tableau_words::{read_rect, read_tab, read_unrsk};
@@ -32,6 +33,10 @@ pub(crate) fn by_name(alloc: Global, name: &str, words: &[String]) -> Result<Com
         "rsk" => read_rsk(alloc, words),
         "unrsk" => read_unrsk(alloc, words),
         "rect" => read_rect(alloc, words),
+        "growth" => read_growth(alloc, words),
+        "plethysm" => read_plethysm(alloc, words),
+        "dschubmult" => read_dschubmult(alloc, words),
+        "stanley" => read_stanley(alloc, words),
         "batch" => read_batch(words),
         "work" => read_work(words),
         _ => Err(syntax(0, 0)),

@@ -17,7 +17,7 @@ use calc_words::behind;
 use std::alloc::Global;
 
 /// The target of this letter.
-fn target_named(word: &str) -> Option<Basis>
+pub(crate) fn target_named(word: &str) -> Option<Basis>
     ensures { MatchOption result (is_letter_of all_bases word.now ≡ false)
         (λ target. (word.now ≡ letter (basis_of target)) × IsTarget (basis_of target)) }
 {

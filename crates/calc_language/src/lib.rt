@@ -5,6 +5,7 @@
 mod by_name;
 mod expand;
 mod lines;
+mod plethysm_command;
 mod refusal;
 mod words;
 

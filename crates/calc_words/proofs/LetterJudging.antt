@@ -4,7 +4,7 @@ use Rattle.std.proofs.lemmas.Bool.{eqb-false}
 use Rattle.std.proofs.Math.ListN.{drop_of_length-le, set, length-set}
 use Rattle.std.proofs.lemmas.List.{take_all, take_more, take_more_set}
 use Rattle.sym_model.specs.ExpressionOffence.{is_wide}
-use Rattle.sym_model.specs.CommandOffence.{first_offence, permutation_offences, permutation_rule, offences_after, is_outside, stands_in, most_permuted}
+use Rattle.sym_model.specs.CommandOffence.{first_offence, permutation_offences_within, permutation_rule_within, offences_after, is_outside, stands_in}
 use Rattle.calc_base.specs.declared.words.WordsFault.{WordsFault}
 use Rattle.calc_words.specs.declared.offence.Kind.{Kind}
 use Rattle.calc_words.specs.declared.offence.Kind.TheVariants.{Literal}
@@ -16,56 +16,56 @@ use Rattle.calc_words.proofs.FirstOffences.{of_kind, first_of_three, three_kinds
 use Rattle.calc_words.proofs.Judging.{narrow_none, narrow_some, kind_judged, no_kinds, none_kinds, or_both}
 
 -- what is kept of the first letters of a list that begins at the word `at`: these have been heard, the last one first
-pub record Hearing (at : ℕ) (ns : List ℕ) (i : ℕ) (letters : List ℕ) : Type 0 where
+pub record Hearing (most at : ℕ) (ns : List ℕ) (i : ℕ) (letters : List ℕ) : Type 0 where
   pub heard : List ℕ
   pub count_is : length heard ≡ i
-  pub rest_is : permutation_offences at ns ≡ offences_after (permutation_rule (length ns)) heard (at + i) (drop i ns)
-  pub few : i ≤ 16
+  pub rest_is : permutation_offences_within most at ns ≡ offences_after (permutation_rule_within most (length ns)) heard (at + i) (drop i ns)
+  pub few : i ≤ most
   pub letters_are : take i letters ≡ take i ns
   pub heard_are : (a : ℕ) → stands_in a heard ≡ stands_in a (take i letters)
   pub length_is : length (take i letters) ≡ i
   pub room : length letters ≡ 16
 
 -- the letter next judged, by its three kinds
-judged : (at : ℕ) (ns : List ℕ) (i a : ℕ) (letters : List ℕ) (j : Hearing at ns i letters) → i < length ns → get_or ns i 0 ≡ a
-    → first_offence (permutation_offences at ns)
-    ≡ first_of_three (at + i) (is_wide a) (nat_lt most_permuted a || (length (take i letters) == most_permuted))
+judged : (most at : ℕ) (ns : List ℕ) (i a : ℕ) (letters : List ℕ) (j : Hearing most at ns i letters) → i < length ns → get_or ns i 0 ≡ a
+    → first_offence (permutation_offences_within most at ns)
+    ≡ first_of_three (at + i) (is_wide a) (nat_lt most a || (length (take i letters) == most))
     (is_outside (length ns) a || stands_in a (take i letters))
-    (first_offence (offences_after (permutation_rule (length ns)) (a ∷ j.heard) (at + i + 1) (drop (suc i) ns)))
-judged at ns i a letters j h e =
-    let rule = permutation_rule (length ns) in
+    (first_offence (offences_after (permutation_rule_within most (length ns)) (a ∷ j.heard) (at + i + 1) (drop (suc i) ns)))
+judged most at ns i a letters j h e =
+    let rule = permutation_rule_within most (length ns) in
     let more = offences_after rule (a ∷ j.heard) (at + i + 1) (drop (suc i) ns) in
     ap first_offence (j.rest_is ∙ ap (offences_after rule j.heard (at + i)) (drop-cons ns i 0 h ∙ ap (λ x. x ∷ drop (suc i) ns) e))
-    ∙ three_kinds_left (at + i) (is_wide a) (nat_lt most_permuted a || (length j.heard == most_permuted)) (is_outside (length ns) a || stands_in a j.heard) more
+    ∙ three_kinds_left (at + i) (is_wide a) (nat_lt most a || (length j.heard == most)) (is_outside (length ns) a || stands_in a j.heard) more
     (λ p m. let w = within rule (a ∷ j.heard) (at + i + 1) (drop (suc i) ns) p m in omega arith)
-    ∙ ap (λ n. first_of_three (at + i) (is_wide a) (nat_lt most_permuted a || (n == most_permuted)) (is_outside (length ns) a || stands_in a j.heard) (first_offence more))
+    ∙ ap (λ n. first_of_three (at + i) (is_wide a) (nat_lt most a || (n == most)) (is_outside (length ns) a || stands_in a j.heard) (first_offence more))
     (j.count_is ∙ sym j.length_is)
-    ∙ ap (λ b. first_of_three (at + i) (is_wide a) (nat_lt most_permuted a || (length (take i letters) == most_permuted)) (is_outside (length ns) a || b) (first_offence more))
+    ∙ ap (λ b. first_of_three (at + i) (is_wide a) (nat_lt most a || (length (take i letters) == most)) (is_outside (length ns) a || b) (first_offence more))
     (j.heard_are a)
 
 -- a letter that is too wide
-pub wide_letter : (at : ℕ) (ns : List ℕ) (i a : ℕ) (letters : List ℕ) → Hearing at ns i letters → i < length ns → get_or ns i 0 ≡ a
+pub wide_letter : (most at : ℕ) (ns : List ℕ) (i a : ℕ) (letters : List ℕ) → Hearing most at ns i letters → i < length ns → get_or ns i 0 ≡ a
     → narrow a ≡ None → (fault : WordsFault) → fault ≡ fault_of (at + i) Literal
-    → IsFirst (first_offence (permutation_offences at ns)) fault
-wide_letter at ns i a letters j h e w fault f =
-    subst (λ r. IsFirst (first_offence (permutation_offences at ns)) r) (sym f)
-    (judged at ns i a letters j h e
-    ∙ ap (λ b. first_of_three (at + i) b (nat_lt most_permuted a || (length (take i letters) == most_permuted)) (is_outside (length ns) a || stands_in a (take i letters))
-    (first_offence (offences_after (permutation_rule (length ns)) (a ∷ j.heard) (at + i + 1) (drop (suc i) ns)))) (narrow_none a w))
+    → IsFirst (first_offence (permutation_offences_within most at ns)) fault
+wide_letter most at ns i a letters j h e w fault f =
+    subst (λ r. IsFirst (first_offence (permutation_offences_within most at ns)) r) (sym f)
+    (judged most at ns i a letters j h e
+    ∙ ap (λ b. first_of_three (at + i) b (nat_lt most a || (length (take i letters) == most)) (is_outside (length ns) a || stands_in a (take i letters))
+    (first_offence (offences_after (permutation_rule_within most (length ns)) (a ∷ j.heard) (at + i + 1) (drop (suc i) ns)))) (narrow_none a w))
 
 -- a letter that offends otherwise
-pub letter_first : (at : ℕ) (ns : List ℕ) (i a v : ℕ) (letters : List ℕ) → Hearing at ns i letters → i < length ns → get_or ns i 0 ≡ a
-    → Some v ≡ narrow a → (kind : Kind) → Some kind ≡ letter_kind (length ns) (take i letters) v → (fault : WordsFault) → fault ≡ fault_of (at + i) kind
-    → IsFirst (first_offence (permutation_offences at ns)) fault
-letter_first at ns i a v letters j h e w kind k fault f =
+pub letter_first : (most at : ℕ) (ns : List ℕ) (i a v : ℕ) (letters : List ℕ) → Hearing most at ns i letters → i < length ns → get_or ns i 0 ≡ a
+    → Some v ≡ narrow a → (kind : Kind) → Some kind ≡ letter_kind most (length ns) (take i letters) v → (fault : WordsFault) → fault ≡ fault_of (at + i) kind
+    → IsFirst (first_offence (permutation_offences_within most at ns)) fault
+letter_first most at ns i a v letters j h e w kind k fault f =
     let n = narrow_some a v w in
-    let y = nat_lt most_permuted a || (length (take i letters) == most_permuted) in
+    let y = nat_lt most a || (length (take i letters) == most) in
     let z = is_outside (length ns) a || stands_in a (take i letters) in
-    let rest = first_offence (offences_after (permutation_rule (length ns)) (a ∷ j.heard) (at + i + 1) (drop (suc i) ns)) in
-    subst (λ r. IsFirst (first_offence (permutation_offences at ns)) r) (sym f)
-    (kind_judged (at + i) y z rest (first_offence (permutation_offences at ns)) kind
-    (judged at ns i a letters j h e ∙ ap (λ b. first_of_three (at + i) b y z rest) n.0)
-    (k ∙ ap (letter_kind (length ns) (take i letters)) n.1))
+    let rest = first_offence (offences_after (permutation_rule_within most (length ns)) (a ∷ j.heard) (at + i + 1) (drop (suc i) ns)) in
+    subst (λ r. IsFirst (first_offence (permutation_offences_within most at ns)) r) (sym f)
+    (kind_judged (at + i) y z rest (first_offence (permutation_offences_within most at ns)) kind
+    (judged most at ns i a letters j h e ∙ ap (λ b. first_of_three (at + i) b y z rest) n.0)
+    (k ∙ ap (letter_kind most (length ns) (take i letters)) n.1))
 
 stands_last : (a v : ℕ) (xs : List ℕ) → stands_in a (xs ++ v ∷ []) ≡ ((a == v) || stands_in a xs)
 stands_last a v [] = refl
@@ -78,18 +78,18 @@ stands_last a v (x ∷ xs) = ap (λ b. (a == x) || b) (stands_last a v xs) ∙ t
     turned false false r = refl
 
 -- a letter that does not
-pub letter_goes_on : (at : ℕ) (ns : List ℕ) (i a v : ℕ) (letters : List ℕ) → Hearing at ns i letters → i < length ns → get_or ns i 0 ≡ a
-    → Some v ≡ narrow a → letter_kind (length ns) (take i letters) v ≡ None → Hearing at ns (i + 1) (set letters i v)
-letter_goes_on at ns i a v letters j h e w k =
+pub letter_goes_on : (most at : ℕ) (ns : List ℕ) (i a v : ℕ) (letters : List ℕ) → most ≤ 16 → Hearing most at ns i letters → i < length ns → get_or ns i 0 ≡ a
+    → Some v ≡ narrow a → letter_kind most (length ns) (take i letters) v ≡ None → Hearing most at ns (i + 1) (set letters i v)
+letter_goes_on most at ns i a v letters low j h e w k =
     let n = narrow_some a v w in
-    let rule = permutation_rule (length ns) in
-    let r = none_kinds (nat_lt most_permuted v || (length (take i letters) == most_permuted)) (is_outside (length ns) v || stands_in v (take i letters)) k in
-    let here_few = or_both (nat_lt most_permuted v) (length (take i letters) == most_permuted) r.0 in
-    let few : i + 1 ≤ 16 = let x = j.few in let l = j.length_is in let m = eqb-false (length (take i letters)) 16 here_few.1 in omega (arith, x, l, m) in
+    let rule = permutation_rule_within most (length ns) in
+    let r = none_kinds (nat_lt most v || (length (take i letters) == most)) (is_outside (length ns) v || stands_in v (take i letters)) k in
+    let here_few = or_both (nat_lt most v) (length (take i letters) == most) r.0 in
+    let few : i + 1 ≤ most = let x = j.few in let l = j.length_is in let m = eqb-false (length (take i letters)) most here_few.1 in omega (arith, x, l, m) in
     let room = j.room in
-    let here : i < length letters = omega (arith, room, few) in
-    let y_not : (nat_lt most_permuted v || (length j.heard == most_permuted)) ≡ false =
-    ap (λ m. nat_lt most_permuted v || (m == most_permuted)) (j.count_is ∙ sym j.length_is) ∙ r.0 in
+    let here : i < length letters = omega (arith, room, few, low) in
+    let y_not : (nat_lt most v || (length j.heard == most)) ≡ false =
+    ap (λ m. nat_lt most v || (m == most)) (j.count_is ∙ sym j.length_is) ∙ r.0 in
     let z_not : (is_outside (length ns) v || stands_in v j.heard) ≡ false = ap (λ b. is_outside (length ns) v || b) (j.heard_are v) ∙ r.1 in
     let more = take_more_set letters i v here in
     record {
@@ -99,7 +99,7 @@ letter_goes_on at ns i a v letters j h e w k =
           j.rest_is
           ∙ ap (offences_after rule j.heard (at + i)) (drop-cons ns i 0 h ∙ ap (λ x. x ∷ drop (suc i) ns) (e ∙ sym n.1))
           ∙ ap (λ kinds. map (of_kind (at + i)) kinds ++ offences_after rule (v ∷ j.heard) (at + i + 1) (drop (suc i) ns))
-          (no_kinds (is_wide v) (nat_lt most_permuted v || (length j.heard == most_permuted)) (is_outside (length ns) v || stands_in v j.heard)
+          (no_kinds (is_wide v) (nat_lt most v || (length j.heard == most)) (is_outside (length ns) v || stands_in v j.heard)
           (ap is_wide n.1 ∙ n.0) y_not z_not)
           ∙ ap (λ m. offences_after rule (v ∷ j.heard) m (drop (suc i) ns)) (let z : at + i + 1 ≡ at + (i + 1) = omega arith in z)
           ∙ ap (λ m. offences_after rule (v ∷ j.heard) (at + (i + 1)) (drop m ns)) (let z : suc i ≡ i + 1 = omega arith in z);
@@ -111,13 +111,13 @@ letter_goes_on at ns i a v letters j h e w k =
     }
 
 -- all of them
-pub letters_end : (at : ℕ) (ns : List ℕ) (i : ℕ) (letters : List ℕ) → Hearing at ns i letters → length ns ≤ i
-    → first_offence (permutation_offences at ns) ≡ None
-letters_end at ns i letters j h =
-    ap first_offence (j.rest_is ∙ ap (offences_after (permutation_rule (length ns)) j.heard (at + i)) (drop_of_length-le ns h))
+pub letters_end : (most at : ℕ) (ns : List ℕ) (i : ℕ) (letters : List ℕ) → Hearing most at ns i letters → length ns ≤ i
+    → first_offence (permutation_offences_within most at ns) ≡ None
+letters_end most at ns i letters j h =
+    ap first_offence (j.rest_is ∙ ap (offences_after (permutation_rule_within most (length ns)) j.heard (at + i)) (drop_of_length-le ns h))
 
-pub all_letters : (at : ℕ) (ns : List ℕ) (i : ℕ) (letters : List ℕ) → Hearing at ns i letters → length ns ≤ i → i ≤ length ns
+pub all_letters : (most at : ℕ) (ns : List ℕ) (i : ℕ) (letters : List ℕ) → Hearing most at ns i letters → length ns ≤ i → i ≤ length ns
     → take (length ns) letters ≡ ns
-all_letters at ns i letters j h k =
+all_letters most at ns i letters j h k =
     let same : length ns ≡ i = omega arith in
     ap (λ n. take n letters) same ∙ j.letters_are ∙ take_all i ns h

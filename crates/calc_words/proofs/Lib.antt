@@ -22,3 +22,4 @@ pub mod FactorCuts
 pub mod FactorJudging
 pub mod FactorLimits
 pub mod FactorCommands
+mod RowsStanding

@@ -171,7 +171,7 @@ rows_next : (g : Form) → derivatives is_expression g (codes "-r") ≡ []
     → derivatives is_expression (sequence (optional rows_words) g) (codes "-r") ≡ sequence (sequence empty (word number)) g ∷ []
 rows_next g e = ap (λ fs. sequence (sequence empty (word number)) g ∷ fs) e
 
-number_goes : (g : Form) (rest : Words) → GoesAs (sequence (sequence empty (word number)) g) (sequence (word number) g) rest
+pub number_goes : (g : Form) (rest : Words) → GoesAs (sequence (sequence empty (word number)) g) (sequence (word number) g) rest
 number_goes g [] = refl
 number_goes g (t ∷ rest) = refl
 

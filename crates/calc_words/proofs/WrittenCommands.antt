@@ -22,7 +22,7 @@ use Rattle.word_laws.proofs.FirstOffences.{first_none}
 use Rattle.calc_words.specs.WrittenLimits.{IsWritten, KeepsLimits, IsInList, IsRowLimit, AreWrittenFactors}
 use Rattle.calc_words.proofs.WrittenLetters.{letters_within, written_letters}
 use Rattle.calc_words.proofs.WordJudging.{written_word}
-use Rattle.calc_words.proofs.WrittenExpressions.{not_past, none_in_word, within_limit, within_degree}
+use Rattle.calc_words.proofs.WrittenExpressions.{not_past, none_in_word, within_limit, within_degree, no_signs}
 use Rattle.calc_words.proofs.WrittenLists.{none_append, none_first, none_judged, written, two_written, row_number, lines_number, seed_number}
 
 -- what the words of the entry say where they have no offence
@@ -138,6 +138,7 @@ plethysm_keeps bases (name, (basis, (outer, inner))) h =
       within_degree 2 plethysm_degree_limit outer q.0,
       within_limit plethysm_degree_limit inner r.0,
       not_past plethysm_degree_limit (degree (tree outer) * degree (tree inner)) (3, length (spelling inner), range) s,
+      no_signs 0 inner r.1,
     )
 
 schubert_keeps : Keeps schubert_entry

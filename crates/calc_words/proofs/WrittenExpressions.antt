@@ -1,11 +1,12 @@
--- Expressions without an offence are within their limit of degree.
-use Rattle.std.proofs.Common.{◌≡◌, ℕ, ◌≤◌, nat_lt, Bool, true, false, cond, List, [], ◌∷◌, ◌++◌, length, refl, None}
+-- Expressions without an offence are within their limit of degree, and inner expressions of a plethysm have no signs.
+use Rattle.std.proofs.Common.{◌≡◌, ℕ, ◌+◌, ◌≤◌, nat_lt, Bool, true, false, cond, List, [], ◌∷◌, ◌++◌, length, refl, None}
 use Rattle.std.proofs.lemmas.Bool.{ltb-false}
 use Rattle.sym_model.specs.Sum.{each}
 use Rattle.sym_model.specs.Expression.{degree}
-use Rattle.sym_model.specs.Phrase.{Phrase, tree, spelling}
-use Rattle.sym_model.specs.ExpressionOffence.{WordOffence, range, offences_at, marks, offences_of_whole_within, offences_within}
-use Rattle.sym_model.specs.CommandOffence.{Offence, first_offence, offences_in_word}
+use Rattle.sym_model.specs.Phrase.{plus, minus, times, Phrase, numeral, ratio, label, brackets, minus_first, operation, tree, spelling}
+use Rattle.sym_model.specs.ExpressionOffence.{WordOffence, range, shape, offences_at, marks, offences_of_whole_within, offences_within, sign_offences}
+use Rattle.sym_model.specs.CommandOffence.{first_offence, offences_in_word}
+use Rattle.plethysm_laws.specs.PositiveExpression.{HasNoSigns}
 use Rattle.word_laws.proofs.FirstOffences.{first_none}
 use Rattle.calc_words.proofs.WrittenLists.{none_append, none_map}
 
@@ -33,3 +34,21 @@ none_in_word k found h = none_map (λ (o : WordOffence). (k, o.0, o.1)) found (f
 pub within_degree : (k limit : ℕ) (phrase : Phrase) → first_offence (offences_in_word k (offences_within limit phrase)) ≡ None
     → degree (tree phrase) ≤ limit
 within_degree k limit phrase h = within_limit limit phrase (none_in_word k (offences_within limit phrase) h)
+
+-- an expression that does not offend by a minus or a fraction has none
+pub no_signs : (b : ℕ) (e : Phrase) → sign_offences b e ≡ [] → HasNoSigns (tree e)
+no_signs b (numeral digits) h = tt
+no_signs b (ratio num den) h = cc
+no_signs b (label basis words) h = tt
+no_signs b (brackets e) h = no_signs (b + 1) e h
+no_signs b (minus_first e) h = cc
+no_signs b (operation plus l r) h =
+    let p = none_append (sign_offences b l ++ []) (sign_offences (b + length (spelling l) + 1) r) h in
+    (no_signs b l (none_append (sign_offences b l) [] p.0).0, no_signs (b + length (spelling l) + 1) r p.1)
+no_signs b (operation minus l r) h =
+    let m : WordOffence = (b + length (spelling l), shape) in
+    let p = none_append (sign_offences b l ++ m ∷ []) (sign_offences (b + length (spelling l) + 1) r) h in
+    let q = (none_append (sign_offences b l) (m ∷ []) p.0).1 in cc
+no_signs b (operation times l r) h =
+    let p = none_append (sign_offences b l ++ []) (sign_offences (b + length (spelling l) + 1) r) h in
+    (no_signs b l (none_append (sign_offences b l) [] p.0).0, no_signs (b + length (spelling l) + 1) r p.1)

@@ -51,18 +51,13 @@ letters_fine most count before k (a ∷ ns) f h =
     itself : stands_in a (a ∷ before) ≡ false → ⊥
     itself e = let x = (or_both (a == a) (stands_in a before) e).0 in let y = eq-eqb a a refl in cc
 
-short_within : (most k : ℕ) (ns : List ℕ) → most ≤ 16 → 0 < length ns → first_offence (permutation_offences_within most k ns) ≡ None
+-- letters of a permutation without an offence, of which at most so many may be written
+pub short_within : (most k : ℕ) (ns : List ℕ) → most ≤ 16 → 0 < length ns → first_offence (permutation_offences_within most k ns) ≡ None
     → IsShortPermutation ns × (length ns ≤ most)
 short_within most k ns m s h =
     let f = letters_fine most (length ns) [] k ns (omega arith) (first_none (permutation_offences_within most k ns) h) in
     let few = f.few in
     (record { one_line = record { letters = f.letters; once = f.once }; some = s; few = omega (arith, m, few) }, omega (arith, few))
-
--- letters of a permutation without an offence
-pub short_letters : (k : ℕ) (ns : List ℕ) → 0 < length ns → first_offence (permutation_offences k ns) ≡ None
-    → IsShortPermutation ns × (length ns ≤ most_permuted)
-short_letters k ns s h =
-    short_within most_permuted k ns (omega arith) s h
 
 fewer_from : (i : ℕ) (w : List ℕ) → length (without_fixed_from i w) ≤ length w
 fewer_from i [] = omega arith
@@ -80,7 +75,7 @@ fewer_kept : (w : List ℕ) → length (kept w) ≤ length w
 fewer_kept [] = omega arith
 fewer_kept (a ∷ w) = let x = fewer_from 2 w in omega (arith, x)
 
--- letters without an offence, of which at most so many may be written
+-- the permutation that is kept of them
 pub letters_within : (most k : ℕ) (ns : List ℕ) → most ≤ 16 → 0 < length ns → first_offence (permutation_offences_within most k ns) ≡ None
     → IsPermutationWithin most (kept ns)
 letters_within most k ns m s h = let l = short_within most k ns m s h in

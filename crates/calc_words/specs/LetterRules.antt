@@ -1,10 +1,10 @@
 -- By which kind a letter of a permutation offends, where its value is not wide (this project's own).
 use Rattle.std.specs.Prelude.{ℕ, ◌==◌, nat_lt, ◌||◌, List, length, Option}
-use Rattle.sym_model.specs.CommandOffence.{most_permuted, is_outside, stands_in}
+use Rattle.sym_model.specs.CommandOffence.{is_outside, stands_in}
 use Rattle.calc_words.specs.declared.offence.Kind.{Kind}
 use Rattle.calc_words.specs.PartRules.{range_or_shape}
 
--- the kind of a letter of a permutation of so many letters behind these
-abbrev pub letter_kind : ℕ → List ℕ → ℕ → Option Kind
-letter_kind count before value =
-    range_or_shape (nat_lt most_permuted value || (length before == most_permuted)) (is_outside count value || stands_in value before)
+-- the kind of a letter of a permutation of so many letters behind these, of which at most so many may be written
+abbrev pub letter_kind : ℕ → ℕ → List ℕ → ℕ → Option Kind
+letter_kind most count before value =
+    range_or_shape (nat_lt most value || (length before == most)) (is_outside count value || stands_in value before)

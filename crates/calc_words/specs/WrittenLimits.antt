@@ -7,6 +7,7 @@ use Rattle.sym_model.specs.Sum.{Among}
 use Rattle.sym_model.specs.Expression.{degree}
 use Rattle.sym_model.specs.ExpressionOffence.{degree_limit, plethysm_degree_limit}
 use Rattle.sym_model.specs.Form.{EachOf}
+use Rattle.plethysm_laws.specs.PositiveExpression.{HasNoSigns}
 use Rattle.sym_model.specs.Command.{Command, mult, skew, coef, coprod, tab, quantum, fusion, schubert, schubmult, expand, rsk, growth, plethysm, dschubmult, stanley, work}
 use Rattle.sym_model.specs.CommandOffence.{most_parts, most_cells, most_factors, most_permuted, most_doubled, most_letters, greatest_letter, most_rows, most_lines, greatest_seed}
 
@@ -67,7 +68,7 @@ KeepsLimits (rsk word) = IsWrittenWord word
 KeepsLimits (growth w) = IsWrittenPermutation w
 KeepsLimits (plethysm target outer inner) =
     (degree outer ≤ plethysm_degree_limit) × (degree inner ≤ plethysm_degree_limit)
-    × (degree outer * degree inner ≤ plethysm_degree_limit)
+    × (degree outer * degree inner ≤ plethysm_degree_limit) × HasNoSigns inner
 KeepsLimits (dschubmult left right) = IsPermutationWithin most_doubled left × IsPermutationWithin most_doubled right
 KeepsLimits (stanley variables w) = IsRowNumber variables × IsWrittenPermutation w
 KeepsLimits (work lines seed) = (1 ≤ lines) × (lines ≤ most_lines) × (seed ≤ greatest_seed)

@@ -1,7 +1,7 @@
 //! Permutations as they are written.
 ghost use Rattle.std.specs.Prelude.{◌≡◌, ◌≤◌, ◌<◌, ◌+◌, ◌^◌, map, length, string_bytes, IfOk, IfErr};
 ghost use Rattle.perm_codes.specs.Limits.{IsShortPermutation};
-ghost use Rattle.sym_model.specs.CommandOffence.{first_offence, permutation_offences, stands_in as stands_in_list};
+ghost use Rattle.sym_model.specs.CommandOffence.{first_offence, permutation_offences_within, stands_in as stands_in_list};
 ghost use Rattle.sym_model.specs.Permutation.{kept};
 ghost use Rattle.sym_model.specs.WordForms.{numbers as numbers_of};
 ghost use Rattle.calc_words.specs.LetterRules.{letter_kind};
@@ -14,9 +14,10 @@ use perm_codes::Perm;
 use std::alloc::Global;
 
 /// The most letters of a permutation that is written, and the greatest of them.
-const MOST_LETTERS: usize = 16;
+pub(crate) const MOST_PERMUTED: usize = 16;
 
-const GREATEST_LETTER: u128 = 16;
+/// The same where its double Schubert polynomial is a factor.
+pub(crate) const MOST_DOUBLED: usize = 8;
 
 /// Whether the letter is one of these.
 fn stands_in(letter: u16, letters: &[u16]) -> bool
@@ -25,11 +26,12 @@ fn stands_in(letter: u16, letters: &[u16]) -> bool
     letters.contains(&letter)
 }
 
-/// What a letter offends by that stands behind these in a list of so many.
-fn letter_offence(count: usize, before: &[u16], value: u128) -> Option<Kind>
-    ensures { result ≡ letter_kind count before.now value }
+/// What a letter offends by that stands behind these in a list of so many, where at most so many may be written.
+fn letter_offence(most: usize, count: usize, before: &[u16], value: u128) -> Option<Kind>
+    requires { most ≤ 16 }
+    ensures { result ≡ letter_kind most count before.now value }
 {
-    if value > GREATEST_LETTER || before.len() == MOST_LETTERS {
+    if value > most as u128 || before.len() == most {
         return Some(Kind::Range);
     }
     if value == 0 || value > count as u128 || stands_in(value as u16, before) {
@@ -50,20 +52,27 @@ fn permutation_of(alloc: Global, letters: &[u16]) -> Result<Perm, WordsFault>
     }
 }
 
-/// The permutation of the letters that are these words, the first of which is the word `at`, or their first offence.
-pub(crate) fn read_permutation(alloc: Global, at: u64, words: &[String]) -> Result<Perm, WordsFault>
+/// The permutation of the letters that are these words, the first of which is the word `at`, or their first offence; at most
+/// so many letters may be written.
+pub(crate) fn read_permutation(
+    alloc: Global,
+    most: usize,
+    at: u64,
+    words: &[String],
+) -> Result<Perm, WordsFault>
+    requires most { most ≤ 16 }
     requires some { 0 < length words.now }
     requires room { at + length words.now < 2 ^ 64 }
     ensures { IsJudged (λ w. w ≡ kept (numbers_of (map string_bytes words.now)))
-        (first_offence (permutation_offences at (numbers_of (map string_bytes words.now)))) result }
+        (first_offence (permutation_offences_within most at (numbers_of (map string_bytes words.now)))) result }
 {
-    let mut letters: [u16; MOST_LETTERS] = [0; MOST_LETTERS];
+    let mut letters: [u16; MOST_PERMUTED] = [0; MOST_PERMUTED];
     for (i, word) in words.iter().enumerate() {
         let place = at + i as u64;
         let Some(value) = value_of(word.as_bytes()) else {
             return Err(offence(place, Kind::Literal));
         };
-        if let Some(kind) = letter_offence(words.len(), &letters[..i], value) {
+        if let Some(kind) = letter_offence(most, words.len(), &letters[..i], value) {
             return Err(offence(place, kind));
         }
         letters[i] = value as u16;

@@ -286,3 +286,12 @@ pub word-signs : (word : List ℕ) (phrase : Phrase) → SpellsPhrase word phras
 word-signs word phrase h =
     ap (first_sign 0 0) (h.spelled ∙ sym (append-nil (spelling phrase))) ∙ phrase-run expression 0 phrase [] h.allowed tt
     ∙ or_else-none (first_of (sign_offences 0 phrase))
+
+-- the first sign stands at a byte of the phrase
+pub signs-below : (e : Phrase) (o : WordOffence) → first_of (sign_offences 0 e) ≡ Some o → o.0 < length (spelling e)
+signs-below e o h = by (first_of (sign_offences 0 e)) h (first-between 0 (0 + length (spelling e)) (sign_offences 0 e) (signs-between 0 e))
+  where
+    by : (first : Option WordOffence) → first ≡ Some o → IsBetween 0 (0 + length (spelling e)) first → o.0 < length (spelling e)
+    by None k b = cc
+    by (Some p) k b =
+        let same : p ≡ o = cc in let at = ap (λ (x : WordOffence). x.0) same in omega (arith, at, b.1)

@@ -1,4 +1,4 @@
-use Rattle.std.proofs.Common.{◌≡◌, [], ◌∷◌, ◌+◌, length, map, arith, refl, sym, ap, ◌∙◌, subst, ◌==◌, ◌++◌, true, false, Ok, Err, List, ℕ}
+use Rattle.std.proofs.Common.{◌≡◌, [], ◌∷◌, ◌+◌, length, map, arith, refl, sym, ap, ◌∙◌, subst, ◌==◌, ◌++◌, true, false, Ok, Err}
 use Rattle.std.proofs.lemmas.Bool.{eqb-false, eqb-true}
 use Rattle.std.specs.Prelude.{string_bytes}
 use Rattle.calc_expressions.specs.Reading.{IsRead as IsReadAs, IsExpression, IsWrongByte}

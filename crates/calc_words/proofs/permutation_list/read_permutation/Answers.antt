@@ -1,13 +1,12 @@
-use Rattle.std.proofs.Common.{◌≡◌, ◌<◌, ◌≤◌, length, map, take, sym, ap, ◌∙◌, subst, arith}
+use Rattle.std.proofs.Common.{◌<◌, ◌≤◌, length, map, take, sym, ap, ◌∙◌, subst, arith}
 use Rattle.std.specs.Prelude.{string_bytes}
 use Rattle.sym_model.specs.PrintedBlock.{decimal_value}
-use Rattle.sym_model.specs.Permutation.{kept}
 use Rattle.sym_model.specs.WordForms.{numbers}
 use Rattle.perm_codes.specs.Limits.{IsShortPermutation}
 use Rattle.calc_words.specs.LetterRules.{letter_kind}
 use Rattle.calc_words.proofs.Judging.{number_at, counted}
 use Rattle.calc_words.proofs.LetterJudging.{wide_letter, letter_first, letter_goes_on, letters_end, all_letters}
-use Rattle.calc_words.proofs.WrittenLetters.{short_letters}
+use Rattle.calc_words.proofs.WrittenLetters.{short_within}
 use Rattle.calc_words.proofs.permutation_list.read_permutation.Goals as goal
 
 pub returns-in_default : goal.returns-in_default
@@ -17,7 +16,7 @@ returns-in_default c =
     let i = c.loop-i.i in
     let e = number_at string_bytes decimal_value ws i c.index-words-i.result c.loop-i-test.true c.index-words-i.is in
     let h : i < length ns = let x = counted string_bytes decimal_value ws in omega (arith, x) in
-    wide_letter c.args.at ns i _ c.loop-i.letters
+    wide_letter c.args.most c.args.at ns i _ c.loop-i.letters
     c.loop-i.invariant h (e ∙ ap decimal_value (sym c.as_bytes.ensures.value)) (sym c.value_of.ensures ∙ c.in_default.is) c.offence.result c.offence.ensures
 
 pub returns-in-Some-letter_offence : goal.returns-in-Some-letter_offence
@@ -28,10 +27,10 @@ returns-in-Some-letter_offence c =
     let x = counted string_bytes decimal_value ws in
     let e = number_at string_bytes decimal_value ws i c.index-words-i.result c.loop-i-test.true c.index-words-i.is in
     let h : i < length ns = omega (arith, x) in
-    letter_first c.args.at ns i _ c.in-Some.value c.loop-i.letters
+    letter_first c.args.most c.args.at ns i _ c.in-Some.value c.loop-i.letters
     c.loop-i.invariant h (e ∙ ap decimal_value (sym c.as_bytes.ensures.value)) (sym c.in-Some.is ∙ c.value_of.ensures)
     c.in-Some-letter_offence.kind
-    (sym c.in-Some-letter_offence.is ∙ c.letter_offence.ensures ∙ ap (λ n. letter_kind n (take i c.loop-i.letters) c.in-Some.value) (sym x))
+    (sym c.in-Some-letter_offence.is ∙ c.letter_offence.ensures ∙ ap (λ n. letter_kind c.args.most n (take i c.loop-i.letters) c.in-Some.value) (sym x))
     c.offence-in-Some-letter_offence.result c.offence-in-Some-letter_offence.ensures
 
 pub loop-i-preserved : goal.loop-i-preserved
@@ -42,9 +41,9 @@ loop-i-preserved c =
     let x = counted string_bytes decimal_value ws in
     let e = number_at string_bytes decimal_value ws i c.index-words-i.result c.loop-i-test.true c.index-words-i.is in
     let h : i < length ns = omega (arith, x) in
-    letter_goes_on c.args.at ns i _ c.in-Some.value c.loop-i.letters
+    letter_goes_on c.args.most c.args.at ns i _ c.in-Some.value c.loop-i.letters c.requires.most
     c.loop-i.invariant h (e ∙ ap decimal_value (sym c.as_bytes.ensures.value)) (sym c.in-Some.is ∙ c.value_of.ensures)
-    (ap (λ n. letter_kind n (take i c.loop-i.letters) c.in-Some.value) x ∙ sym c.letter_offence.ensures ∙ c.in_default-letter_offence.is)
+    (ap (λ n. letter_kind c.args.most n (take i c.loop-i.letters) c.in-Some.value) x ∙ sym c.letter_offence.ensures ∙ c.in_default-letter_offence.is)
 
 pub permutation_of-requires : goal.permutation_of-requires
 permutation_of-requires c =
@@ -57,7 +56,7 @@ permutation_of-requires c =
     let some = c.requires.some in
     let j = c.loop-i.invariant in
     let letters = c.loop-i.letters in
-    let first = letters_end c.args.at ns i letters j (omega (arith, x, over)) in
-    let all = all_letters c.args.at ns i letters j (omega (arith, x, over)) (omega (arith, x, most)) in
+    let first = letters_end c.args.most c.args.at ns i letters j (omega (arith, x, over)) in
+    let all = all_letters c.args.most c.args.at ns i letters j (omega (arith, x, over)) (omega (arith, x, most)) in
     subst IsShortPermutation (sym (ap (λ n. take n letters) (sym x) ∙ all))
-    (short_letters c.args.at ns (omega (arith, x, some)) first).0
+    (short_within c.args.most c.args.at ns c.requires.most (omega (arith, x, some)) first).0

@@ -1,0 +1,190 @@
+-- What the two expressions of a `plethysm` offend by first.
+use Rattle.std.proofs.Common.{◌≡◌, ℕ, ◌*◌, ◌≤◌, ◌<◌, nat_lt, Bool, true, false, cond, List, [], ◌∷◌, ◌++◌, append_assoc, length, refl, sym, ap, ◌∙◌, subst, arith, Option, Some, None, option_map, Result, Ok, Err, inl, inr, ◌⊎◌}
+use Rattle.std.specs.Prelude.{codes}
+use Rattle.std.proofs.lemmas.Bool.Decides.{nat_tests}
+use Rattle.sym_model.specs.Sum.{Among}
+use Rattle.sym_model.proofs.Sums.{Among_from_append}
+use Rattle.sym_model.specs.Expansion.{Basis}
+use Rattle.sym_model.specs.Expression.{degree}
+use Rattle.sym_model.specs.Phrase.{Phrase, expression, Is, SpellsPhrase, spelling, tree, letter}
+use Rattle.sym_model.specs.ExpressionOffence.{WordOffence, range, first_of, offences_within, inner_offences, plethysm_degree_limit}
+use Rattle.sym_model.specs.CommandOffence.{Offence, first_offence, earlier_of, is_no_later, judged_against, offences_in_word, plethysm_offences}
+use Rattle.sym_model.specs.Command.{plethysm}
+use Rattle.sym_model.specs.Grammar.{all_bases, plethysm_entry}
+use Rattle.expression_laws.proofs.PhraseRuns.{one_phrase}
+use Rattle.word_laws.specs.Words.{Words}
+use Rattle.word_laws.specs.JudgedRows.{earlier}
+use Rattle.word_laws.proofs.EarlierOffences.{first_of_both}
+use Rattle.word_laws.proofs.FirstOffences.{first_none}
+use Rattle.calc_base.specs.declared.words.WordsFault.{WordsFault}
+use Rattle.calc_expressions.specs.declared.formula.Formula.{Formula}
+use Rattle.calc_expressions.specs.declared.reading.ExpressionFault.{ExpressionFault}
+use Rattle.calc_expressions.specs.declared.reading.ExpressionFault.TheVariants.{Syntax as Wrong, Literal as Wide, Range as Past, Shape as Misshapen, NoMemory as Full}
+use Rattle.calc_expressions.specs.Reading.{IsReadBy}
+use Rattle.calc_expressions.specs.Trees.{tree_of}
+use Rattle.calc_expressions.proofs.SignJudging.{inner-ends_last}
+use Rattle.calc_words.specs.Reading.{IsRead as IsReadAs, IsFirst, IsJudged}
+use Rattle.calc_words.proofs.Commands.{read_judged, judged_err, judged_on}
+use Rattle.calc_words.proofs.FirstOffences.{AllBefore, none-append}
+use Rattle.calc_commands.specs.declared.command.Command.{Command}
+use Rattle.calc_language.specs.Expressions.{AreTwoExpressions}
+use Rattle.calc_language.specs.Reading.{placed, command_of}
+use Rattle.calc_language.proofs.ExpandWords.{at_word, first-placed, same_order}
+use Rattle.calc_language.proofs.PlethysmWords.{alone, is_target}
+
+-- the offences of the first expression, of the second one, and of the two together
+abbrev outer_found : Phrase → List Offence
+outer_found f = offences_in_word 2 (offences_within plethysm_degree_limit f)
+
+abbrev inner_found : Phrase → List Offence
+inner_found g = offences_in_word 3 (inner_offences g)
+
+abbrev end_of : Phrase → Offence
+end_of g = (3, length (spelling g), range)
+
+abbrev too_high : Bool → Phrase → List Offence
+too_high past g = cond past (end_of g ∷ []) []
+
+abbrev is_past : Phrase → Phrase → Bool
+is_past f g = nat_lt plethysm_degree_limit (degree (tree f) * degree (tree g))
+
+-- the offences of a word stand at it
+in_word : (k : ℕ) (os : List WordOffence) (p : Offence) → Among p (offences_in_word k os) → p.0 ≡ k
+in_word k [] p m = absurd m
+in_word k (o ∷ os) p (inl h) = ap (λ (x : Offence). x.0) h
+in_word k (o ∷ os) p (inr m) = in_word k os p m
+
+-- a fault of an expression that is spelled is its first offence
+pub placed_first : (k : ℕ) (offends : Phrase → List WordOffence) (w : List ℕ) (f : Phrase) (e : ExpressionFault) → SpellsPhrase w f → IsReadBy offends w (Err e)
+    → IsFirst (first_offence (offences_in_word k (offends f))) (placed k e)
+placed_first k offends w f (Wrong byte) s h = h.0 f s
+placed_first k offends w f (Wide byte) s h =
+    first-placed k (offends f) ∙ ap (option_map (at_word k)) (ap (λ p. first_of (offends p)) (one_phrase w f h.0 s h.1) ∙ h.2)
+placed_first k offends w f (Past byte) s h =
+    first-placed k (offends f) ∙ ap (option_map (at_word k)) (ap (λ p. first_of (offends p)) (one_phrase w f h.0 s h.1) ∙ h.2)
+placed_first k offends w f (Misshapen byte) s h =
+    first-placed k (offends f) ∙ ap (option_map (at_word k)) (ap (λ p. first_of (offends p)) (one_phrase w f h.0 s h.1) ∙ h.2)
+placed_first k offends w f Full s h = tt
+
+-- an expression without offence
+none_placed : (k : ℕ) (offends : Phrase → List WordOffence) (w : List ℕ) (f : Phrase) (x : Formula) → SpellsPhrase w f → IsReadBy offends w (Ok x)
+    → first_offence (offences_in_word k (offends f)) ≡ None
+none_placed k offends w f x s h =
+    first-placed k (offends f) ∙ ap (option_map (at_word k)) (ap (λ p. first_of (offends p)) (one_phrase w f h.0 s h.1) ∙ h.2)
+
+tree_read : (offends : Phrase → List WordOffence) (w : List ℕ) (f : Phrase) (x : Formula) → SpellsPhrase w f → IsReadBy offends w (Ok x) → tree_of x.tree ≡ tree f
+tree_read offends w f x s h = h.3 ∙ sym (ap tree (one_phrase w f h.0 s h.1))
+
+in_judged : (xs : List Offence) (past : Bool) (g : Phrase) (p : Offence) → Among p (judged_against xs (too_high past g)) → p.0 ≡ 3
+in_judged [] true g p (inl h) = ap (λ (x : Offence). x.0) h
+in_judged [] true g p (inr m) = absurd m
+in_judged [] false g p m = absurd m
+in_judged (x ∷ xs) past g p m = absurd m
+
+-- the first expression offends
+behind_outer : (f g : Phrase) → AllBefore (outer_found f) (inner_found g ++ judged_against (outer_found f) (too_high (is_past f g) g))
+behind_outer f g p q m n =
+    let a = in_word 2 (offences_within plethysm_degree_limit f) p m in
+    let b = at_three (Among_from_append q (inner_found g) (judged_against (outer_found f) (too_high (is_past f g) g)) n) in
+    omega (arith, a, b)
+  where
+    at_three : Among q (inner_found g) ⊎ Among q (judged_against (outer_found f) (too_high (is_past f g) g)) → q.0 ≡ 3
+    at_three (inl k) = in_word 3 (inner_offences g) q k
+    at_three (inr k) = in_judged (outer_found f) (is_past f g) g q k
+
+pub outer_faulty : (w : List ℕ) (f g : Phrase) (e : ExpressionFault) → SpellsPhrase w f → IsReadBy (offences_within plethysm_degree_limit) w (Err e)
+    → IsFirst (first_offence (plethysm_offences 2 f g)) (placed 2 e)
+outer_faulty w f g e s h =
+    let last = judged_against (outer_found f) (too_high (is_past f g) g) in
+    subst (λ os. IsFirst (first_offence os) (placed 2 e)) (sym (append_assoc (outer_found f) (inner_found g) last))
+    (judged_err (outer_found f) (inner_found g ++ last) (placed 2 e) (behind_outer f g)
+    (placed_first 2 (offences_within plethysm_degree_limit) w f e s h))
+
+-- the first expression has no offence
+rest_only : (f g : Phrase) → first_offence (outer_found f) ≡ None
+    → first_offence (plethysm_offences 2 f g) ≡ first_offence (inner_found g ++ too_high (is_past f g) g)
+rest_only f g n =
+    ap (λ (os : List Offence). first_offence ((os ++ inner_found g) ++ judged_against os (too_high (is_past f g) g))) (first_none (outer_found f) n)
+
+-- an offence of the second expression is no later than that of the two together
+stays : (past : Bool) (g : Phrase) (o : Offence) → is_no_later o (end_of g) ≡ true → earlier_of o (first_offence (too_high past g)) ≡ Some o
+stays true g o h = ap (λ b. cond b (Some o) (Some (end_of g))) h
+stays false g o h = refl
+
+inner_first : (past : Bool) (g : Phrase) → Is expression g → (o : Offence) → first_offence (inner_found g) ≡ Some o
+    → first_offence (inner_found g ++ too_high past g) ≡ Some o
+inner_first past g a o h = by (first_of (inner_offences g)) refl (sym (first-placed 3 (inner_offences g)) ∙ h)
+  where
+    by : (found : Option WordOffence) → first_of (inner_offences g) ≡ found → option_map (at_word 3) found ≡ Some o
+        → first_offence (inner_found g ++ too_high past g) ≡ Some o
+    by None e k = cc
+    by (Some q) e k =
+        let same : at_word 3 q ≡ o = cc in
+        let first : is_no_later (at_word 3 q) (end_of g) ≡ true = same_order 3 q (length (spelling g), range) ∙ inner-ends_last g q a e in
+        first_of_both (inner_found g) (too_high past g) ∙ ap (λ x. earlier x (first_offence (too_high past g))) h
+        ∙ stays past g o (subst (λ x. is_no_later x (end_of g) ≡ true) same first)
+
+pub inner_faulty : (v w : List ℕ) (f g : Phrase) (x : Formula) (e : ExpressionFault) → SpellsPhrase v f → IsReadBy (offences_within plethysm_degree_limit) v (Ok x)
+    → SpellsPhrase w g → IsReadBy inner_offences w (Err e) → IsFirst (first_offence (plethysm_offences 2 f g)) (placed 3 e)
+inner_faulty v w f g x e r k s h =
+    subst (λ o. IsFirst o (placed 3 e)) (sym (rest_only f g (none_placed 2 (offences_within plethysm_degree_limit) v f x r k)))
+    (judged_on (first_offence (inner_found g)) (first_offence (inner_found g ++ too_high (is_past f g) g)) (placed 3 e)
+    (inner_first (is_past f g) g s.allowed) (placed_first 3 inner_offences w g e s h))
+
+-- neither has an offence
+both_judged : (v w : List ℕ) (f g : Phrase) (x y : Formula) → SpellsPhrase v f → IsReadBy (offences_within plethysm_degree_limit) v (Ok x)
+    → SpellsPhrase w g → IsReadBy inner_offences w (Ok y) → first_offence (plethysm_offences 2 f g) ≡ first_offence (too_high (is_past f g) g)
+both_judged v w f g x y r k s h =
+    rest_only f g (none_placed 2 (offences_within plethysm_degree_limit) v f x r k)
+    ∙ none-append (inner_found g) (too_high (is_past f g) g) (none_placed 3 inner_offences w g y s h)
+
+degrees_read : (v w : List ℕ) (f g : Phrase) (x y : Formula) → SpellsPhrase v f → IsReadBy (offences_within plethysm_degree_limit) v (Ok x)
+    → SpellsPhrase w g → IsReadBy inner_offences w (Ok y) → degree (tree_of x.tree) * degree (tree_of y.tree) ≡ degree (tree f) * degree (tree g)
+degrees_read v w f g x y r k s h =
+    ap (λ t. degree t * degree (tree_of y.tree)) (tree_read (offences_within plethysm_degree_limit) v f x r k)
+    ∙ ap (λ t. degree (tree f) * degree t) (tree_read inner_offences w g y s h)
+
+pub both_past : (v w : List ℕ) (f g : Phrase) (x y : Formula) → SpellsPhrase v f → IsReadBy (offences_within plethysm_degree_limit) v (Ok x)
+    → SpellsPhrase w g → IsReadBy inner_offences w (Ok y) → plethysm_degree_limit < degree (tree_of x.tree) * degree (tree_of y.tree)
+    → IsFirst (first_offence (plethysm_offences 2 f g)) (placed 3 (Past (length w)))
+both_past v w f g x y r k s h past =
+    let d = degrees_read v w f g x y r k s h in
+    both_judged v w f g x y r k s h
+    ∙ ap (λ b. first_offence (too_high b g)) (over (degree (tree f) * degree (tree g)) (subst (λ n. plethysm_degree_limit < n) d past))
+    ∙ ap (λ n. Some (3, n, range)) (sym (ap length s.spelled))
+  where
+    over : (n : ℕ) → 10 < n → nat_lt 10 n ≡ true
+    over n l = grind (arith, nat_tests)
+
+pub both_fine : (v w : List ℕ) (f g : Phrase) (x y : Formula) → SpellsPhrase v f → IsReadBy (offences_within plethysm_degree_limit) v (Ok x)
+    → SpellsPhrase w g → IsReadBy inner_offences w (Ok y) → degree (tree_of x.tree) * degree (tree_of y.tree) ≤ plethysm_degree_limit
+    → first_offence (plethysm_offences 2 f g) ≡ None
+both_fine v w f g x y r k s h few =
+    let d = degrees_read v w f g x y r k s h in
+    both_judged v w f g x y r k s h
+    ∙ ap (λ b. first_offence (too_high b g)) (not_over (degree (tree f) * degree (tree g)) (subst (λ n. n ≤ plethysm_degree_limit) d few))
+  where
+    not_over : (n : ℕ) → n ≤ 10 → nat_lt 10 n ≡ false
+    not_over n l = grind (arith, nat_tests)
+
+pub trees_said : (v w : List ℕ) (f g : Phrase) (x y : Formula) (t : Basis) → SpellsPhrase v f → IsReadBy (offences_within plethysm_degree_limit) v (Ok x)
+    → SpellsPhrase w g → IsReadBy inner_offences w (Ok y) → plethysm t (tree_of x.tree) (tree_of y.tree) ≡ plethysm t (tree f) (tree g)
+trees_said v w f g x y t r k s h =
+    ap (λ e. plethysm t e (tree_of y.tree)) (tree_read (offences_within plethysm_degree_limit) v f x r k)
+    ∙ ap (plethysm t (tree f)) (tree_read inner_offences w g y s h)
+
+-- words of the form
+pub plethysm_read : (t : Basis) (words : Words) (v w : List ℕ) (a : AreTwoExpressions v w words) (r : Result Command WordsFault)
+    → IsJudged (λ c. command_of c ≡ plethysm t (tree a.outer_phrase) (tree a.inner_phrase)) (first_offence (plethysm_offences 2 a.outer_phrase a.inner_phrase)) r
+    → IsReadAs alone command_of (codes "plethysm" ∷ letter t ∷ words) r
+plethysm_read t words v w a r h =
+    read_judged (plethysm_entry all_bases) (codes "plethysm" ∷ letter t ∷ words)
+    (record {
+      written = (tt, (t, (a.outer_phrase, a.inner_phrase)));
+      allowed = (tt, (is_target t, (a.outer_spelled.allowed, a.inner_spelled.allowed)));
+      spelled =
+          ap (λ (ws : Words). codes "plethysm" ∷ letter t ∷ ws) a.words_are
+          ∙ ap (λ x. codes "plethysm" ∷ letter t ∷ x ∷ w ∷ []) a.outer_spelled.spelled
+          ∙ ap (λ x. codes "plethysm" ∷ letter t ∷ spelling a.outer_phrase ∷ x ∷ []) a.inner_spelled.spelled;
+    })
+    command_of (λ c. command_of c ≡ plethysm t (tree a.outer_phrase) (tree a.inner_phrase)) (λ c k. k) r h
