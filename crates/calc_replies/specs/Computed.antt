@@ -26,7 +26,7 @@ use Rattle.sym_model.specs.Target.{Meets}
 use Rattle.calc_replies.specs.Forms.{plain_form}
 use Rattle.calc_replies.specs.declared.form.Form.{Form}
 use Rattle.calc_replies.specs.declared.tableau_answer.TableauAnswer.{TableauAnswer}
-use Rattle.calc_replies.specs.declared.tableau_answer.TableauAnswer.TheVariants.{Listed, Paired, Spelled, Straight}
+use Rattle.calc_replies.specs.declared.tableau_answer.TableauAnswer.TheVariants.{Listed, Paired, Spelled, Straight, Grown}
 use Rattle.calc_replies.specs.declared.listing.Listing.{Listing}
 use Rattle.calc_language.specs.BuiltCommands.{command_entries}
 use Rattle.calc_replies.specs.declared.outcome.Task.{Task}
@@ -45,6 +45,7 @@ lines_text (Listed list) = listing_text list
 lines_text (Paired p q) = pair_text p.rows q.rows
 lines_text (Spelled word) = word_line word
 lines_text (Straight t) = tableau_line t.rows
+lines_text (Grown w) = grid_text w
 
 -- the command is one on tableaux, and the text is what it answers
 abbrev pub Tells : PlainCommand → List ℕ → Type 0

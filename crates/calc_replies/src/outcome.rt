@@ -11,7 +11,7 @@ ghost use Rattle.calc_replies.specs.Computed.{reply_of, IsReplyTo, RunsNoOther, 
 use crate::expanding::expanded;
 use crate::form::Form;
 use crate::tableau_answer::TableauAnswer;
-use crate::{insertion, listing, permutations, products, reductions};
+use crate::{grids, insertion, listing, permutations, products, reductions};
 use calc_base::{NoMemory, SumFault, WordsFault};
 use calc_language::{Command, read_words};
 use expansion_printer::Answer;
@@ -164,6 +164,9 @@ pub fn reply_to(alloc: Global, command: &Command) -> Result<Outcome, NoMemory>
         Command::Rsk { letters } => insertion::rsk(alloc, letters),
         Command::Unrsk { pair } => insertion::unrsk(alloc, pair),
         Command::Rect { tableau } => insertion::rect(tableau),
+        Command::Growth { perm } => grids::growth(alloc, perm),
+        Command::Dschubmult { left, right } => permutations::dschubmult(alloc, left, right),
+        Command::Stanley { rows, perm } => permutations::stanley(alloc, *rows, perm),
         Command::Batch | Command::Work { .. } => unreachable!(),
     }
 }

@@ -1,4 +1,4 @@
-//! The answers to `schubert` and `schubmult`.
+//! The answers to `schubert`, `schubmult`, `dschubmult` and `stanley`.
 ghost use Rattle.sym_model.specs.Command as commands;
 ghost use Rattle.calc_words.specs.WrittenLimits.{KeepsLimits};
 ghost use Rattle.calc_replies.specs.Computed.{IsReplyTo};
@@ -38,6 +38,28 @@ pub(crate) fn schubmult(alloc: Global, left: &Perm, right: &Perm) -> Result<Outc
 {
     answered(
         monk_product::schubmult(alloc, left, right).map(|terms| Answer::Permutations { terms }),
+        Form::Block,
+    )
+}
+
+/// The product of two double Schubert polynomials.
+pub(crate) fn dschubmult(alloc: Global, left: &Perm, right: &Perm) -> Result<Outcome, NoMemory>
+    requires { KeepsLimits (commands.dschubmult left.now right.now) }
+    ensures { IsReplyTo (commands.dschubmult left.now right.now) result }
+{
+    answered(
+        double_schubert::dschubmult(alloc, left, right).map(|terms| Answer::Shifts { terms }),
+        Form::Block,
+    )
+}
+
+/// The Stanley polynomial of a permutation, in so many variables.
+pub(crate) fn stanley(alloc: Global, rows: u16, perm: &Perm) -> Result<Outcome, NoMemory>
+    requires { KeepsLimits (commands.stanley rows perm.now) }
+    ensures { IsReplyTo (commands.stanley rows perm.now) result }
+{
+    answered(
+        stanley_expand::stanley(alloc, perm, rows).map(|terms| Answer::Product { terms }),
         Form::Block,
     )
 }
