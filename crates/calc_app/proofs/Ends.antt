@@ -24,44 +24,6 @@ use Rattle.calc_app.proofs.Outcomes.{leaves_whole, leaves_prefix, answers_say, n
 
 -- ---- an outcome was put
 
-no_fault_status : (outcome : Outcome) → (status_for outcome ≡ status.SinkFault → ⊥) × (status_for outcome ≡ status.SourceFault → ⊥)
-no_fault_status (Answered answer form) = ((λ e. cc), (λ e. cc))
-no_fault_status (Refused (fault.Syntax at)) = ((λ e. cc), (λ e. cc))
-no_fault_status (Refused (fault.Literal at)) = ((λ e. cc), (λ e. cc))
-no_fault_status (Refused (fault.Range at)) = ((λ e. cc), (λ e. cc))
-no_fault_status (Refused (fault.Shape at)) = ((λ e. cc), (λ e. cc))
-no_fault_status (Refused fault.NoMemory) = ((λ e. cc), (λ e. cc))
-no_fault_status Large = ((λ e. cc), (λ e. cc))
-no_fault_status (Told lines) = ((λ e. cc), (λ e. cc))
-
-pub put_sink_fault : {K : Type 0} (written : K → Option (List ℕ)) (count : K → Option ℕ) (faults : K → ℕ) (settled : K → Bool) (old new : K)
-    (outcome : Outcome) (result : Status) → PutsOutcome written count faults settled old new outcome result → result ≡ status.SinkFault
-    → Rose (faults old) (faults new)
-put_sink_fault written count faults settled old new outcome result p e = by p.well p.puts p.is
-  where
-    by : (well : Bool) → Puts written count faults true old well new (text_of outcome) → result ≡ cond well (status_for outcome) status.SinkFault
-        → Rose (faults old) (faults new)
-    by true puts is = absurd ((no_fault_status outcome).0 (sym is ∙ e))
-    by false puts is = puts.rose refl refl
-
-pub put_no_fault : {K : Type 0} (written : K → Option (List ℕ)) (count : K → Option ℕ) (faults : K → ℕ) (settled : K → Bool) (old new : K)
-    (outcome : Outcome) (result : Status) → PutsOutcome written count faults settled old new outcome result → result ≢ status.SinkFault
-    → faults new ≡ faults old
-put_no_fault written count faults settled old new outcome result p n = by p.well p.puts p.is
-  where
-    by : (well : Bool) → Puts written count faults true old well new (text_of outcome) → result ≡ cond well (status_for outcome) status.SinkFault
-        → faults new ≡ faults old
-    by true puts is = puts.still refl
-    by false puts is = absurd (n is)
-
-pub put_no_source : {K : Type 0} (written : K → Option (List ℕ)) (count : K → Option ℕ) (faults : K → ℕ) (settled : K → Bool) (old new : K)
-    (outcome : Outcome) (result : Status) → PutsOutcome written count faults settled old new outcome result → result ≡ status.SourceFault → ⊥
-put_no_source written count faults settled old new outcome result p e = by p.well p.is
-  where
-    by : (well : Bool) → result ≡ cond well (status_for outcome) status.SinkFault → ⊥
-    by true is = (no_fault_status outcome).1 (sym is ∙ e)
-    by false is = let clash : status.SinkFault ≡ status.SourceFault = sym is ∙ e in cc
-
 pub put_leaves : {K : Type 0} (written : K → Option (List ℕ)) (count : K → Option ℕ) (faults : K → ℕ) (settled : K → Bool) (old new : K)
     (left now_left : Option (List ℕ)) (words : List (List ℕ)) (outcome : Outcome) (result : Status) → Computes command_entries words (Ok outcome)
     → PutsOutcome written count faults settled old new outcome result
@@ -153,43 +115,6 @@ lines_leave written count settled old new left now_left words status.NoMemory ru
 lines_leave written count settled old new left now_left words status.NoMemory runs (inr l) =
     inr (runs, record { front = l.1.front; piece = l.1.piece; took = l.1.took; is_ended = l.1.is_ended; is_front = l.1.is_front; text = l.1.text; ending = l.1.ending; outcome = runs_outcome words l.1.front l.1.text l.1.ending runs l.1.outcome; appended = l.1.appended })
 
-not_so : (blocks : List Block) (ending : Ending) → ending ≡ batch_ending blocks → (ending ≡ done) ⊎ (ending ≡ some_refused)
-not_so blocks ending is = by (are_done blocks) is
-  where
-    by : (x : Bool) → ending ≡ cond x done some_refused → (ending ≡ done) ⊎ (ending ≡ some_refused)
-    by true e = inl e
-    by false e = inr e
-
-no_syntax : (syntax ≡ done) ⊎ (syntax ≡ some_refused) → ⊥
-no_syntax (inl e) = cc
-no_syntax (inr e) = cc
-
-no_range : (range ≡ done) ⊎ (range ≡ some_refused) → ⊥
-no_range (inl e) = cc
-no_range (inr e) = cc
-
-no_past : (past ≡ done) ⊎ (past ≡ some_refused) → ⊥
-no_past (inl e) = cc
-no_past (inr e) = cc
-
-lines_end : {K : Type 0} (written : K → Option (List ℕ)) (count : K → Option ℕ) (settled : K → Bool) (old new : K)
-    (left now_left : Option (List ℕ)) (result : Status)
-    → Leaves written count settled old new left now_left (Unit {0}) (RunsInput batch_entries) result → IsAccepted batch result
-lines_end written count settled old new left now_left status.Done l = inl refl
-lines_end written count settled old new left now_left status.SomeRefused l = inr (inr (inr (refl, inl refl)))
-lines_end written count settled old new left now_left status.Syntax l = absurd (no_syntax (not_so l.outcome.blocks syntax l.outcome.ends))
-lines_end written count settled old new left now_left status.Range l = absurd (no_range (not_so l.outcome.blocks range l.outcome.ends))
-lines_end written count settled old new left now_left status.Past l = absurd (no_past (not_so l.outcome.blocks past l.outcome.ends))
-lines_end written count settled old new left now_left status.SinkFault l = inr (inr (inl (inr refl)))
-lines_end written count settled old new left now_left status.SourceFault l = inr (inr (inr (refl, inr refl)))
-lines_end written count settled old new left now_left status.NoMemory l = inr (inr (inl (inl refl)))
-
-pub lines_accepted : {K : Type 0} (written : K → Option (List ℕ)) (count : K → Option ℕ) (settled : K → Bool) (old new : K)
-    (left now_left : Option (List ℕ)) (result : Status) (command : Command) → command ≡ batch
-    → Leaves written count settled old new left now_left (Unit {0}) (RunsInput batch_entries) result → IsAccepted command result
-lines_accepted written count settled old new left now_left result command is l =
-    subst (λ c. IsAccepted c result) (sym is) (lines_end written count settled old new left now_left result l)
-
 -- ---- what the blocks of lines say
 
 line_says : (words : List (List ℕ)) (text : List ℕ) → IsLineOutcome batch_entries words text done → SaysLine words text
@@ -231,7 +156,3 @@ lines_print written count settled old new left now_left result leaves (inr is) b
     let P : Status → Type 0 = λ s. Leaves written count settled old new left now_left (Unit {0}) (RunsInput batch_entries) s in
     let l = (subst P is leaves).1 in
     whole_prints written count old new left l.input l.text before some_refused l.is_input l.outcome l.appended told
-
-pub not_through : {A : Type 0} → IsThrough status.NoMemory → A
-not_through (inl is) = cc
-not_through (inr is) = cc

@@ -1,4 +1,5 @@
 -- Lemmas of the crate.
+pub mod CommandKinds
 pub mod Outcomes
 pub mod LinesRead
 pub mod Batches

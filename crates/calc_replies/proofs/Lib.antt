@@ -3,5 +3,6 @@ pub mod Replies
 pub mod Delivered
 pub mod Expansions
 pub mod FewInversions
+pub mod GridLines
 pub mod Listings
 pub mod PositiveLetters

@@ -9,7 +9,7 @@ ghost use Rattle.calc_expressions.specs.Trees.{basis_of, tree_of};
 ghost use Rattle.calc_replies.specs.Computed.{IsReplyTo};
 
 use crate::form::asked_form;
-use crate::outcome::Outcome;
+use crate::outcome::{Outcome, answered};
 use basis_change::to_basis;
 use basis_expand::to_monomial;
 use calc_base::{NoMemory, SumFault};
@@ -31,14 +31,10 @@ pub(crate) fn expanded(
     requires { degree (tree_of formula.now.tree) ≤ degree_limit (basis_of target) }
     ensures { IsReplyTo (expand (basis_of target) one_line (tree_of formula.now.tree)) result }
 {
-    match expansion(alloc, target, formula) {
-        Ok(terms) => Ok(Outcome::Answered {
-            answer: Answer::Expansion { terms },
-            form: asked_form(one_line, target),
-        }),
-        Err(SumFault::Large) => Ok(Outcome::Large),
-        Err(SumFault::NoMemory) => Err(NoMemory),
-    }
+    answered(
+        expansion(alloc, target, formula).map(|terms| Answer::Expansion { terms }),
+        asked_form(one_line, target),
+    )
 }
 
 /// The expansion in the target, in the printed order.

@@ -5,6 +5,7 @@
 mod block;
 mod expanding;
 mod form;
+mod grids;
 mod insertion;
 mod listing;
 mod outcome;

@@ -4,10 +4,12 @@ ghost use Rattle.calc_base.specs.Puts.{Puts};
 ghost use Rattle.sym_model.specs.TableauText.{tableau_line, pair_text};
 ghost use Rattle.calc_replies.specs.Computed.{lines_text};
 
+use crate::grids::put_grid;
 use crate::listing::{Listing, put_listed};
 use crate::outcome::Outcome;
 use calc_base::{Sink, Word, put_if};
 use expansion_printer::{print_letters, print_tableau};
+use growth_diagrams::Grid;
 use skew_shapes::{Standard, Tableau};
 
 /// What a command on tableaux answers, which names no expansion.
@@ -21,6 +23,8 @@ pub enum TableauAnswer {
     Spelled { word: Word },
     /// A tableau of a straight shape.
     Straight { tableau: Tableau },
+    /// The growth grid of a permutation.
+    Grown { grid: Grid },
 }
 
 /// The outcome that this is put.
@@ -39,6 +43,7 @@ pub(crate) fn put_told<K: Sink>(lines: &mut TableauAnswer, sink: &mut K) -> bool
         TableauAnswer::Paired { p, q } => put_pair(p, q.tableau(), sink),
         TableauAnswer::Spelled { word } => print_letters(word.as_slice(), sink).is_ok(),
         TableauAnswer::Straight { tableau } => put_tableau(true, tableau, sink),
+        TableauAnswer::Grown { grid } => put_grid(grid, sink),
     }
 }
 

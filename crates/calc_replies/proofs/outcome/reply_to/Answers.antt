@@ -38,3 +38,12 @@ returns-in-Unrsk c = rw c.in-Unrsk.is c.unrsk.ensures
 
 pub returns-in-Rect : goal.returns-in-Rect
 returns-in-Rect c = rw c.in-Rect.is c.rect.ensures
+
+pub returns-in-Growth : goal.returns-in-Growth
+returns-in-Growth c = rw c.in-Growth.is c.growth.ensures
+
+pub returns-in-Dschubmult : goal.returns-in-Dschubmult
+returns-in-Dschubmult c = rw c.in-Dschubmult.is c.dschubmult.ensures
+
+pub returns-in-Stanley : goal.returns-in-Stanley
+returns-in-Stanley c = rw c.in-Stanley.is c.stanley.ensures
