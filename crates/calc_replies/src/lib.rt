@@ -3,6 +3,7 @@
 #![tactic(auto)]
 
 mod block;
+mod composing;
 mod expanding;
 mod form;
 mod grids;

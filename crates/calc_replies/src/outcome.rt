@@ -8,6 +8,7 @@ ghost use Rattle.sym_model.specs.SyntaxPlace.{IsSyntaxPlace};
 ghost use Rattle.calc_language.specs.Reading.{command_of, IsWithinItsLimits};
 ghost use Rattle.calc_replies.specs.Computed.{reply_of, IsReplyTo, RunsNoOther, IsTaskOf, IsTaskFor, AcceptsTask, RefusesTask, TaskGoesWrong};
 
+use crate::composing::composed;
 use crate::expanding::expanded;
 use crate::form::Form;
 use crate::tableau_answer::TableauAnswer;
@@ -165,6 +166,11 @@ pub fn reply_to(alloc: Global, command: &Command) -> Result<Outcome, NoMemory>
         Command::Unrsk { pair } => insertion::unrsk(alloc, pair),
         Command::Rect { tableau } => insertion::rect(tableau),
         Command::Growth { perm } => grids::growth(alloc, perm),
+        Command::Plethysm {
+            target,
+            outer,
+            inner,
+        } => composed(alloc, *target, outer, inner),
         Command::Dschubmult { left, right } => permutations::dschubmult(alloc, left, right),
         Command::Stanley { rows, perm } => permutations::stanley(alloc, *rows, perm),
         Command::Batch | Command::Work { .. } => unreachable!(),

@@ -47,3 +47,6 @@ returns-in-Dschubmult c = rw c.in-Dschubmult.is c.dschubmult.ensures
 
 pub returns-in-Stanley : goal.returns-in-Stanley
 returns-in-Stanley c = rw c.in-Stanley.is c.stanley.ensures
+
+pub returns-in-Plethysm : goal.returns-in-Plethysm
+returns-in-Plethysm c = rw c.in-Plethysm.is c.composed.ensures

@@ -1,0 +1,53 @@
+-- What the weight of a plethysm is at least.
+use Rattle.std.proofs.Common.{◌≡◌, ℕ, ◌+◌, ◌*◌, ◌^◌, ◌≤◌, arith, subst, sym, refl}
+use Rattle.std.proofs.lemmas.Nat.{mul-le}
+use Rattle.std.proofs.Math.Nat.{mul-le-mul_left, pow-zero, pow-suc}
+use Rattle.monomial_laws.proofs.Growths.{growth-most}
+use Rattle.sym_model.specs.Expansion.{monomials}
+use Rattle.sym_model.specs.Expression.{Tree, degree, denominator}
+use Rattle.sym_model.specs.Plethysm.{plethysm_weight}
+use Rattle.sym_model.specs.Weight.{numerator, growth, weight}
+use Rattle.plethysm_laws.specs.PositiveExpression.{HasNoSigns}
+use Rattle.plethysm_laws.proofs.NonnegativeTerms.{denominator-one}
+use Rattle.calc_expressions.proofs.WeightFacts.{Positive}
+use Rattle.plethysm_laws.proofs.PathWeights.{weight-outer, weight-product}
+
+-- the weight of the outer expression in m
+pub outer-weight : (e : Tree) (K b : ℕ) → 1 ≤ numerator e → 1 ≤ denominator e → 1 ≤ K
+    → weight monomials e ≤ plethysm_weight (numerator e) (denominator e) (degree e) K b
+outer-weight e K b n d k =
+    omega (
+      arith,
+      mul-le-mul_left (numerator e * denominator e) (growth-most monomials (degree e)),
+      weight-outer (numerator e) (denominator e) (degree e) K b n d k,
+    )
+
+-- the weight of the inner expression in m, where it has no fraction and the outer one is no constant
+pub inner-weight : (N D a : ℕ) (e : Tree) → 1 ≤ N → 1 ≤ D → 1 ≤ a → 1 ≤ numerator e → denominator e ≡ 1
+    → weight monomials e ≤ plethysm_weight N D a (numerator e) (degree e)
+inner-weight N D a e n d h k one =
+    let K = numerator e in
+    let b = degree e in
+    let w = weight-product N D a K b n d k 1 h in
+    let first : 1 * b ≡ b = omega arith in
+    let power : (K * (b + 1)) ^ 1 ≡ K * (b + 1) = rw (pow-suc (K * (b + 1)) 0, pow-zero (K * (b + 1))) (omega arith) in
+    let v = subst (λ x. x * growth monomials (1 * b) ≤ plethysm_weight N D a K b) power w in
+    let u = subst (λ x. K * (b + 1) * growth monomials x ≤ plethysm_weight N D a K b) first v in
+    let some = mul-le K 1 K (b + 1) (omega arith) (omega arith) in
+    let wide = mul-le (K * 1) (growth monomials b) (K * (b + 1)) (growth monomials b) some (omega arith) in
+    subst (λ x. K * x * growth monomials b ≤ plethysm_weight N D a K b) (sym one) (omega (arith, wide, u))
+
+-- so an outer expression that is heavy for m makes the plethysm heavy
+pub outer-large : (e f : Tree) → Positive e → Positive f → 2 ^ 127 ≤ weight monomials e
+    → 2 ^ 127 ≤ plethysm_weight (numerator e) (denominator e) (degree e) (numerator f) (degree f)
+outer-large e f p q h = omega (arith, h, outer-weight e (numerator f) (degree f) (omega (arith, p.0)) (omega (arith, p.1)) (omega (arith, q.0)))
+
+-- and so does an inner one, where the outer one is no constant
+pub inner-large : (e f : Tree) → Positive e → Positive f → 1 ≤ degree e → HasNoSigns f → 2 ^ 127 ≤ weight monomials f
+    → 2 ^ 127 ≤ plethysm_weight (numerator e) (denominator e) (degree e) (numerator f) (degree f)
+inner-large e f p q some h heavy =
+    omega (arith, heavy, inner-weight (numerator e) (denominator e) (degree e) f (omega (arith, p.0)) (omega (arith, p.1)) some (omega (arith, q.0)) (denominator-one f h))
+
+-- with an outer constant the weight is the same whatever the inner expression is
+pub constant-weight : (N D K b : ℕ) → plethysm_weight N D 0 1 b ≡ plethysm_weight N D 0 K b
+constant-weight N D K b = rw (pow-zero (1 * (b + 1)), pow-zero (K * (b + 1))) refl

@@ -1,0 +1,12 @@
+use Rattle.std.proofs.lemmas.Cmp.{nat_list_eq_equiv}
+use Rattle.sym_model.specs.Expansion.{basis_polynomial}
+use Rattle.sparse_polys.specs.Labels.{same_partition}
+use Rattle.sparse_polys.proofs.Values.{represents-same_coefficients}
+use Rattle.calc_expressions.specs.Trees.{basis_of}
+use Rattle.calc_replies.proofs.composing.composition.Goals as goal
+
+pub returns-in-Ok-clause-expands : goal.returns-in-Ok-clause-expands
+returns-in-Ok-clause-expands c = λ n.
+    represents-same_coefficients nat_list_eq_equiv same_partition c.in_ok-list.list c.in-Ok.terms c.len.ensures.combination
+    c.in-Ok.ensures.combination c.in-Ok.ensures.same
+    (λ label. basis_polynomial (basis_of c.args.target) label n) _ _ (c.in_ok-list.ensures.expands n)

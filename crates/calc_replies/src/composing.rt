@@ -1,0 +1,122 @@
+//! The answer to `plethysm`.
+ghost use Rattle.std.specs.Prelude.{◌≡◌, ℕ, ◌^◌, ◌≤◌, IfOk, IsErrOf};
+ghost use Rattle.sym_model.specs.Command as commands;
+ghost use Rattle.sym_model.specs.Expansion.{monomials, IsExpansionOf};
+ghost use Rattle.sym_model.specs.Expression.{cleared_value, degree, denominator};
+ghost use Rattle.sym_model.specs.ListWeight.{IsBounded};
+ghost use Rattle.sym_model.specs.Plethysm.{plethysm as plethysm_of, plethysm_weight};
+ghost use Rattle.sym_model.specs.Weight.{numerator};
+ghost use Rattle.basis_expand.specs.LabelSizes.{AreWithin};
+ghost use Rattle.calc_expressions.specs.Trees.{basis_of, tree_of};
+ghost use Rattle.calc_words.specs.WrittenLimits.{KeepsLimits};
+ghost use Rattle.calc_replies.specs.Computed.{IsReplyTo};
+
+use crate::form::Form;
+use crate::outcome::{Outcome, answered};
+use basis_change::is_table;
+use basis_expand::to_monomial;
+use calc_base::{NoMemory, SumFault, Weight};
+use calc_language::{Basis, Formula};
+use coeff_rings::Frac;
+use expansion_printer::Answer;
+use partitions::Partition;
+use sparse_polys::{Lin, Terms};
+use std::alloc::Global;
+
+/// The bound of a list without terms.
+const NOTHING: Weight = Weight { num: 1, den: 1 };
+
+/// The plethysm of two formulas in the target basis.
+pub(crate) fn composed(
+    alloc: Global,
+    target: Basis,
+    outer: &Formula,
+    inner: &Formula,
+) -> Result<Outcome, NoMemory>
+    requires { KeepsLimits (commands.plethysm (basis_of target) (tree_of outer.now.tree) (tree_of inner.now.tree)) }
+    ensures { IsReplyTo (commands.plethysm (basis_of target) (tree_of outer.now.tree) (tree_of inner.now.tree)) result }
+{
+    answered(
+        composition(alloc, target, outer, inner).map(|terms| Answer::Expansion { terms }),
+        Form::Block,
+    )
+}
+
+/// The plethysm in the target, in the printed order.
+fn composition(
+    alloc: Global,
+    target: Basis,
+    outer: &Formula,
+    inner: &Formula,
+) -> Result<Terms<Partition, Frac>, SumFault>
+    requires { KeepsLimits (commands.plethysm (basis_of target) (tree_of outer.now.tree) (tree_of inner.now.tree)) }
+    ensures expands { let f = tree_of outer.now.tree in let g = tree_of inner.now.tree in
+        IfOk result (λ terms. (n : ℕ) → IsExpansionOf (basis_of target) terms n
+        (plethysm_of (cleared_value f) (degree g) n (cleared_value g n)) (denominator f)) }
+    ensures large { let f = tree_of outer.now.tree in let g = tree_of inner.now.tree in IsErrOf result SumFault.Large
+        → 2 ^ 127 ≤ plethysm_weight (numerator f) (denominator f) (degree f) (numerator g) (degree g) }
+{
+    let list = in_target(alloc, target, outer, inner)?;
+    // This tells the proof that no label stands twice in it.
+    list.len();
+    match list.sorted_terms() {
+        Ok(terms) => Ok(terms),
+        Err(NoMemory) => Err(SumFault::NoMemory),
+    }
+}
+
+/// The plethysm in the target, in no order.
+fn in_target(
+    alloc: Global,
+    target: Basis,
+    outer: &Formula,
+    inner: &Formula,
+) -> Result<Lin<Partition, Frac>, SumFault>
+    requires { KeepsLimits (commands.plethysm (basis_of target) (tree_of outer.now.tree) (tree_of inner.now.tree)) }
+    ensures expands { let f = tree_of outer.now.tree in let g = tree_of inner.now.tree in
+        IfOk result (λ list. (n : ℕ) → IsExpansionOf (basis_of target) list n
+        (plethysm_of (cleared_value f) (degree g) n (cleared_value g n)) (denominator f)) }
+    ensures large { let f = tree_of outer.now.tree in let g = tree_of inner.now.tree in IsErrOf result SumFault.Large
+        → 2 ^ 127 ≤ plethysm_weight (numerator f) (denominator f) (degree f) (numerator g) (degree g) }
+{
+    let Some(bound) = outer.weight() else {
+        return Err(SumFault::Large);
+    };
+    let list = to_monomial(alloc, outer)?;
+    if outer.degree() == 0 {
+        // The answer does not depend on the inner expression, which is not expanded.
+        return plethysm::plethysm(alloc, &list, bound, &Lin::new(alloc), NOTHING, target);
+    }
+    substituted(alloc, target, outer, &list, bound, inner)
+}
+
+/// The plethysm of a formula of positive degree, of which this is the expansion in m with its bound.
+fn substituted(
+    alloc: Global,
+    target: Basis,
+    outer: &Formula,
+    list: &Lin<Partition, Frac>,
+    bound: Weight,
+    inner: &Formula,
+) -> Result<Lin<Partition, Frac>, SumFault>
+    requires limits { KeepsLimits (commands.plethysm (basis_of target) (tree_of outer.now.tree) (tree_of inner.now.tree)) }
+    requires some { 1 ≤ degree (tree_of outer.now.tree) }
+    requires value { let f = tree_of outer.now.tree in
+        (n : ℕ) → IsExpansionOf monomials list.now n (cleared_value f n) (denominator f) }
+    requires bounded { IsBounded bound.num bound.den list.now }
+    requires labels { AreWithin (degree (tree_of outer.now.tree)) list.now }
+    requires number { bound.num ≡ numerator (tree_of outer.now.tree) }
+    requires divisor { bound.den ≡ denominator (tree_of outer.now.tree) }
+    ensures expands { let f = tree_of outer.now.tree in let g = tree_of inner.now.tree in
+        IfOk result (λ list. (n : ℕ) → IsExpansionOf (basis_of target) list n
+        (plethysm_of (cleared_value f) (degree g) n (cleared_value g n)) (denominator f)) }
+    ensures large { let f = tree_of outer.now.tree in let g = tree_of inner.now.tree in IsErrOf result SumFault.Large
+        → 2 ^ 127 ≤ plethysm_weight (numerator f) (denominator f) (degree f) (numerator g) (degree g) }
+{
+    let Some(inner_bound) = inner.weight() else {
+        return Err(SumFault::Large);
+    };
+    let monomials = to_monomial(alloc, inner)?;
+    is_table(&monomials);
+    plethysm::plethysm(alloc, list, bound, &monomials, inner_bound, target)
+}
