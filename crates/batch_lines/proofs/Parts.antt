@@ -1,6 +1,6 @@
 -- Parts of a list of bytes, and texts without a line feed.
 use Rattle.std.proofs.Common.{◌≡◌, ℕ, zero, suc, ◌+◌, ◌-◌, ◌<◌, ◌≤◌, List, [], ◌∷◌, ◌++◌, length, take, drop, get_or, refl, sym, ap, ◌∙◌, subst, arith}
-use Rattle.std.specs.Prelude.{slice_range}
+use Rattle.std.specs.Prelude.{Option, Some, None, true, is_some, slice_index, slice_range, MatchOption}
 use Rattle.std.proofs.lemmas.List.{take_more, length-take, drop-take}
 use Rattle.batch_lines.specs.Feeds.{HasNoFeed}
 
@@ -10,6 +10,18 @@ no_feed_append (x ∷ xs) ys h k = (h.0, no_feed_append xs ys h.1 k)
 
 pub no_feed_more : (xs : List ℕ) (i : ℕ) → i < length xs → HasNoFeed (take i xs) → (get_or xs i 0 ≡ 10 → ⊥) → HasNoFeed (take (i + 1) xs)
 no_feed_more xs i h k n = subst HasNoFeed (sym (take_more xs i 0 h)) (no_feed_append (take i xs) (get_or xs i 0 ∷ []) k (n, tt))
+
+some_feed : (bytes : List ℕ) (at : ℕ) → at < length bytes → slice_index bytes at ≡ 10 → HasNoFeed bytes → ⊥
+some_feed [] at h is none = absurd (omega (arith, h))
+some_feed (b ∷ bytes) zero h is none = none.0 is
+some_feed (b ∷ bytes) (suc at) h is none = some_feed bytes at (omega (arith, h)) is none.1
+
+-- where the place of a line feed was found there is one
+pub found_feed : (bytes : List ℕ) (found : Option ℕ)
+    → MatchOption found (HasNoFeed bytes) (λ at. (at < length bytes) × HasNoFeed (take at bytes) × (slice_index bytes at ≡ 10))
+    → is_some found ≡ true → HasNoFeed bytes → ⊥
+found_feed bytes None m some none = cc
+found_feed bytes (Some at) m some none = some_feed bytes at m.0 m.2 none
 
 drop_nothing : (n : ℕ) → ◌≡◌ {A = List ℕ} (drop n []) []
 drop_nothing zero = refl

@@ -1,8 +1,10 @@
 //! A reader of lines.
 ghost use Rattle.std.specs.Prelude.{◌≡◌, ◌≤◌, ℕ, List, [], true, false, length, IfOk, OnErr, vec_len};
 ghost use Rattle.sym_model.specs.BatchLine.{most_bytes};
+ghost use Rattle.batch_lines.specs.Feeds.{HasNoFeed};
 ghost use Rattle.batch_lines.specs.Reading.{Took, IsAtEnd, ReadsNext, CutsLine, CountsLine, most_pending, next_at_feed, next_at_end};
 
+use crate::feed::first_feed;
 use crate::heard::hear;
 use crate::pieces::Pieces;
 use crate::{LineFault, Next};
@@ -49,6 +51,14 @@ impl LineReader {
         ensures { result.now ≡ self.now.line }
     {
         self.line.as_slice()
+    }
+
+    /// Whether a whole line was taken that is still to be read, so that it is read without a call of the source.
+    pub fn has_line(&self) -> bool
+        ensures some { result ≡ true → HasNoFeed self.now.pending → ⊥ }
+        ensures none { result ≡ false → HasNoFeed self.now.pending }
+    {
+        first_feed(self.pieces.front()).is_some()
     }
 
     /// Reads the next line. Bytes behind the last line feed of the source are a line, where there are any.

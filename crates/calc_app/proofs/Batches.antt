@@ -3,7 +3,7 @@ use Rattle.std.proofs.Common.{◌≡◌, ◌⊎◌, ℕ, ◌+◌, ◌≤◌, ◌
 use Rattle.std.specs.Prelude.{IfSome, Ok}
 use Rattle.std.proofs.lemmas.Bool.{lt-ltb}
 use Rattle.std.proofs.lemmas.List.{map-append}
-use Rattle.batch_lines.proofs.Lines.{more_blocks, more_text, more_done}
+use Rattle.batch_lines.proofs.Lines.{long_is, more_blocks, more_text, more_done}
 use Rattle.batch_lines.proofs.NextLines.{took_nothing}
 use Rattle.batch_lines.specs.declared.next.Next.{Next}
 use Rattle.batch_lines.specs.declared.next.Next.TheVariants as next
@@ -41,20 +41,6 @@ use Rattle.calc_app.proofs.Outcomes.{has_outcome, leaves_ending}
 use Rattle.calc_replies.proofs.Replies.{computes_reply}
 
 -- ---- what comes of one line
-
-long_text : (outcome : Outcome) → RefusesLong outcome → HasText outcome
-long_text outcome r = subst HasText (sym r.is) (λ none. subst (IsFaultOf too_long_offence) none r.names)
-
-words_text : (words : List (List ℕ)) (outcome : Outcome) → ComesOfLine (spoken words) (Some outcome) → HasText outcome
-words_text words (Answered answer form) comes = tt
-words_text words (Refused reason) comes = comes.1
-words_text words Large comes = tt
-words_text words (Told lines) comes = tt
-
-pub comes_text : (line : BatchLine) (outcome : Outcome) → ComesOfLine line (Some outcome) → HasText outcome
-comes_text too_long outcome comes = long_text outcome comes
-comes_text passed_over outcome comes = absurd comes
-comes_text (spoken words) outcome comes = words_text words outcome comes
 
 pub line_reply : (line : BatchLine) (command : Command) (outcome : Outcome) → IsLineRead line (Ok (Some command))
     → IsReplyTo (command_of command) (Ok outcome) → ComesOfLine line (Some outcome)
@@ -145,9 +131,6 @@ pub record TookLine (before now : Option (List ℕ)) (allowance less : ℕ) (pen
   pub no_feed : HasNoFeed text
   pub ends : EndsLine ended (pending ++ taken) text behind now
   pub is : ComesOfLine (batch_line text) comes
-
-long_is : (text : List ℕ) → most_bytes < length text → batch_line text ≡ too_long
-long_is text h = ap (λ t. cond t too_long (line_of_words (words_of_line (without_return text)))) (lt-ltb most_bytes (length text) h)
 
 abbrev Comes : Turn → Option Outcome → Type 0
 Comes turn comes = (read : Next) (line text : List ℕ) → IsTurn read line turn → (read ≡ next.Line → line ≡ text)
@@ -382,10 +365,11 @@ ends_cut written count faults settled first sink next_sink left before now sourc
         piece = behind ++ [];
         took = front.took;
         is_ended = front.is_ended;
-        is_short = inl (subst (λ xs. length xs ≤ most_pending) (sym (append-nil behind)) short);
-        puts =
-            inl (subst (λ ls. CutsBlock written count first next_sink (map batch_line ls)) (sym front.are)
-            (cuts_block written count first sink next_sink r.lines t.text r.blocks b r.are_blocks has.are r.appended cut));
+        puts = inl (
+          subst (λ ls. CutsBlock written count first next_sink (map batch_line ls)) (sym front.are)
+              (cuts_block written count first sink next_sink r.lines t.text r.blocks b r.are_blocks has.are r.appended cut),
+          subst (λ xs. length xs ≤ most_pending) (sym (append-nil behind)) short,
+        );
       };
     }
   where
@@ -429,13 +413,6 @@ ends_full written count faults settled first sink left before now source_faults 
     no_end (inl e) = cc
     no_end (inr e) = cc
 
--- memory was refused before the first line
-pub ends_empty : {K : Type 0} (written : K → Option (List ℕ)) (count : K → Option ℕ) (faults : K → ℕ) (settled : K → Bool) (sink : K)
-    (left : Option (List ℕ)) (source_faults : ℕ) → EndsBatch written count faults settled sink sink left left source_faults source_faults status.NoMemory
-ends_empty written count faults settled sink left source_faults =
-    ends_full written count faults settled sink sink left left left source_faults source_faults source_faults [] false (record { is_first = true; is_done = true })
-    (begins written count faults sink left source_faults) refl ([], took_nothing left)
-
 no_front : (front rest : List ℕ) → front ++ rest ≡ [] → front ≡ []
 no_front [] rest h = refl
 no_front (b ∷ front) rest h = cc
@@ -451,9 +428,9 @@ put_nothing written count first sink next_sink text appended cut =
 finish_cut : {K : Type 0} (written : K → Option (List ℕ)) (count : K → Option ℕ) (faults : K → ℕ) (settled : K → Bool) (first sink next_sink : K)
     (left now : Option (List ℕ)) (source_faults faults_now : ℕ) (lines : List (List ℕ)) (piece : List ℕ) (blocks : List Block)
     → AreBlocks batch_entries (map batch_line lines) blocks → Appends written count first sink (batch_text blocks) → faults sink ≡ faults first
-    → Puts written count faults true sink false next_sink [] → Cut left now lines piece → (length piece ≤ most_pending) ⊎ HasNoFeed piece → source_faults ≤ faults_now
+    → Puts written count faults true sink false next_sink [] → Cut left now lines piece → HasNoFeed piece → source_faults ≤ faults_now
     → EndsBatch written count faults settled first next_sink left now source_faults faults_now status.SinkFault
-finish_cut written count faults settled first sink next_sink left now source_faults faults_now lines piece blocks are appended still puts front short later = record {
+finish_cut written count faults settled first sink next_sink left now source_faults faults_now lines piece blocks are appended still puts front no_feed later = record {
   leaves = record {
     front = front.front;
     is_front = front.is_front;
@@ -474,10 +451,11 @@ finish_cut written count faults settled first sink next_sink left now source_fau
     piece = piece;
     took = front.took;
     is_ended = front.is_ended;
-    is_short = short;
-    puts =
-        inr (subst (λ ls. PutsBlocks written count first next_sink (map batch_line ls)) (sym front.are)
-        (record { blocks = blocks; are_blocks = are; appended = put_nothing written count first sink next_sink (batch_text blocks) appended (puts.cut refl refl) }));
+    puts = inr (
+      subst (λ ls. PutsBlocks written count first next_sink (map batch_line ls)) (sym front.are)
+          (record { blocks = blocks; are_blocks = are; appended = put_nothing written count first sink next_sink (batch_text blocks) appended (puts.cut refl refl) }),
+      no_feed,
+    );
   };
 }
   where
@@ -489,6 +467,38 @@ finished_text : {K : Type 0} (written : K → Option (List ℕ)) (count : K → 
     → Appends written count first sink text → Puts written count faults true sink true next_sink [] → Appends written count first next_sink text
 finished_text written count faults first sink next_sink text appended puts =
     subst (Appends written count first next_sink) (append-nil text) (Appends-then appended (puts.whole refl))
+
+-- what was put was handed on
+pub runs_handed : {K : Type 0} (written : K → Option (List ℕ)) (count : K → Option ℕ) (faults : K → ℕ) (first sink next_sink : K)
+    (left now : Option (List ℕ)) (source_faults faults_now : ℕ) (pending : List ℕ) (had : Bool) (progress : Progress)
+    → Runs written count faults first sink left now source_faults faults_now pending had progress
+    → Puts written count faults true sink true next_sink []
+    → Runs written count faults first next_sink left now source_faults faults_now pending had progress
+runs_handed written count faults first sink next_sink left now source_faults faults_now pending had progress r puts = record {
+  lines = r.lines;
+  spelled = r.spelled;
+  is_spelled = r.is_spelled;
+  is_whole = r.is_whole;
+  read = r.read;
+  blocks = r.blocks;
+  are_blocks = r.are_blocks;
+  is_first = r.is_first;
+  is_done = r.is_done;
+  appended = finished_text written count faults first sink next_sink (batch_text r.blocks) r.appended puts;
+  still = puts.still refl ∙ r.still;
+  source_still = r.source_still;
+}
+
+-- what was put could not be handed on, where no further line was there whole
+pub ends_held : {K : Type 0} (written : K → Option (List ℕ)) (count : K → Option ℕ) (faults : K → ℕ) (settled : K → Bool) (first sink next_sink : K)
+    (left now : Option (List ℕ)) (source_faults faults_now : ℕ) (pending : List ℕ) (had : Bool) (progress : Progress)
+    → Runs written count faults first sink left now source_faults faults_now pending had progress
+    → HasNoFeed pending → Puts written count faults true sink false next_sink []
+    → EndsBatch written count faults settled first next_sink left now source_faults faults_now status.SinkFault
+ends_held written count faults settled first sink next_sink left now source_faults faults_now pending had progress r none puts =
+    finish_cut written count faults settled first sink next_sink left now source_faults faults_now r.lines (pending ++ []) r.blocks r.are_blocks r.appended r.still puts
+    (read_cut left now now [] pending r.spelled r.lines had r.read r.is_spelled r.is_whole (took_nothing now))
+    (subst HasNoFeed (sym (append-nil pending)) none) (let s = r.source_still in omega (arith, s))
 
 -- the status of the end goes with the ending of the batch
 end_same : (progress : Progress) (blocks : List Block) → progress.is_done ≡ are_done blocks → end_status progress ≡ status_of (batch_ending blocks)
@@ -551,7 +561,7 @@ ends_last {K = K} written count faults settled first sink next_sink left before 
     by false puts settles same_status =
         subst (EndsBatch written count faults settled first next_sink left now source_faults faults_now) (sym same_status)
         (finish_cut written count faults settled first sink next_sink left now source_faults faults_now r.lines (pending ++ t.taken) r.blocks r.are_blocks r.appended r.still puts
-        (read_cut left before now t.taken pending r.spelled r.lines had r.read r.is_spelled r.is_whole t.took) (inr (subst HasNoFeed (sym t.ends.whole) tt)) (let s = same ∙ r.source_still in omega (arith, s)))
+        (read_cut left before now t.taken pending r.spelled r.lines had r.read r.is_spelled r.is_whole t.took) (subst HasNoFeed (sym t.ends.whole) tt) (let s = same ∙ r.source_still in omega (arith, s)))
 
 -- the source failed, and the sink was finished
 pub ends_source : {K : Type 0} (written : K → Option (List ℕ)) (count : K → Option ℕ) (faults : K → ℕ) (settled : K → Bool) (first sink next_sink : K)
@@ -601,4 +611,4 @@ ends_source written count faults settled first sink next_sink left before now so
     by false puts settles same_status =
         subst (EndsBatch written count faults settled first next_sink left now source_faults faults_now) (sym same_status)
         (finish_cut written count faults settled first sink next_sink left now source_faults faults_now r.lines (pending ++ t.taken) r.blocks r.are_blocks r.appended r.still puts
-        (read_cut left before now t.taken pending r.spelled r.lines false r.read r.is_spelled r.is_whole t.took) (inr t.no_feed) (let s = r.source_still in omega (arith, s, later)))
+        (read_cut left before now t.taken pending r.spelled r.lines false r.read r.is_spelled r.is_whole t.took) t.no_feed (let s = r.source_still in omega (arith, s, later)))

@@ -24,44 +24,6 @@ use Rattle.calc_app.proofs.Outcomes.{leaves_whole, leaves_prefix, answers_say, n
 
 -- ---- an outcome was put
 
-no_fault_status : (outcome : Outcome) → (status_for outcome ≡ status.SinkFault → ⊥) × (status_for outcome ≡ status.SourceFault → ⊥)
-no_fault_status (Answered answer form) = ((λ e. cc), (λ e. cc))
-no_fault_status (Refused (fault.Syntax at)) = ((λ e. cc), (λ e. cc))
-no_fault_status (Refused (fault.Literal at)) = ((λ e. cc), (λ e. cc))
-no_fault_status (Refused (fault.Range at)) = ((λ e. cc), (λ e. cc))
-no_fault_status (Refused (fault.Shape at)) = ((λ e. cc), (λ e. cc))
-no_fault_status (Refused fault.NoMemory) = ((λ e. cc), (λ e. cc))
-no_fault_status Large = ((λ e. cc), (λ e. cc))
-no_fault_status (Told lines) = ((λ e. cc), (λ e. cc))
-
-pub put_sink_fault : {K : Type 0} (written : K → Option (List ℕ)) (count : K → Option ℕ) (faults : K → ℕ) (settled : K → Bool) (old new : K)
-    (outcome : Outcome) (result : Status) → PutsOutcome written count faults settled old new outcome result → result ≡ status.SinkFault
-    → Rose (faults old) (faults new)
-put_sink_fault written count faults settled old new outcome result p e = by p.well p.puts p.is
-  where
-    by : (well : Bool) → Puts written count faults true old well new (text_of outcome) → result ≡ cond well (status_for outcome) status.SinkFault
-        → Rose (faults old) (faults new)
-    by true puts is = absurd ((no_fault_status outcome).0 (sym is ∙ e))
-    by false puts is = puts.rose refl refl
-
-pub put_no_fault : {K : Type 0} (written : K → Option (List ℕ)) (count : K → Option ℕ) (faults : K → ℕ) (settled : K → Bool) (old new : K)
-    (outcome : Outcome) (result : Status) → PutsOutcome written count faults settled old new outcome result → result ≢ status.SinkFault
-    → faults new ≡ faults old
-put_no_fault written count faults settled old new outcome result p n = by p.well p.puts p.is
-  where
-    by : (well : Bool) → Puts written count faults true old well new (text_of outcome) → result ≡ cond well (status_for outcome) status.SinkFault
-        → faults new ≡ faults old
-    by true puts is = puts.still refl
-    by false puts is = absurd (n is)
-
-pub put_no_source : {K : Type 0} (written : K → Option (List ℕ)) (count : K → Option ℕ) (faults : K → ℕ) (settled : K → Bool) (old new : K)
-    (outcome : Outcome) (result : Status) → PutsOutcome written count faults settled old new outcome result → result ≡ status.SourceFault → ⊥
-put_no_source written count faults settled old new outcome result p e = by p.well p.is
-  where
-    by : (well : Bool) → result ≡ cond well (status_for outcome) status.SinkFault → ⊥
-    by true is = (no_fault_status outcome).1 (sym is ∙ e)
-    by false is = let clash : status.SinkFault ≡ status.SourceFault = sym is ∙ e in cc
-
 pub put_leaves : {K : Type 0} (written : K → Option (List ℕ)) (count : K → Option ℕ) (faults : K → ℕ) (settled : K → Bool) (old new : K)
     (left now_left : Option (List ℕ)) (words : List (List ℕ)) (outcome : Outcome) (result : Status) → Computes command_entries words (Ok outcome)
     → PutsOutcome written count faults settled old new outcome result
@@ -231,7 +193,3 @@ lines_print written count settled old new left now_left result leaves (inr is) b
     let P : Status → Type 0 = λ s. Leaves written count settled old new left now_left (Unit {0}) (RunsInput batch_entries) s in
     let l = (subst P is leaves).1 in
     whole_prints written count old new left l.input l.text before some_refused l.is_input l.outcome l.appended told
-
-pub not_through : {A : Type 0} → IsThrough status.NoMemory → A
-not_through (inl is) = cc
-not_through (inr is) = cc

@@ -1,10 +1,10 @@
 -- Which lines were read so far of a source that tells its bytes.
 use Rattle.std.proofs.Common.{◌≡◌, ℕ, Bool, true, false, ◌+◌, ◌<◌, ◌≤◌, List, [], ◌∷◌, ◌++◌, append_assoc, append-nil, length, length-append, refl, sym, ap, ◌∙◌, arith, Option, Some, None, ◌⊎◌, inl, inr}
-use Rattle.batch_lines.proofs.Lines.{line_first, line_last}
+use Rattle.batch_lines.proofs.Lines.{line_first, line_last, told}
 use Rattle.batch_lines.specs.Feeds.{HasNoFeed}
 use Rattle.batch_lines.specs.Reading.{Took, IsAtEnd, EndsAtFeed, EndsAtEnd, TookPart}
 use Rattle.sym_model.specs.BatchLine.{lines_of}
-use Rattle.calc_app.specs.Top.{IsInput, IsFrontOf, IsEmptied, IsWholeLines}
+use Rattle.calc_app.specs.Top.{IsInput, IsFrontOf, IsWholeLines}
 
 -- the text ends where a line does: its lines are these, and whatever follows has its own
 abbrev pub IsEnded : List ℕ → List (List ℕ) → Type 0
@@ -103,9 +103,6 @@ at_end input all rest taken pending text behind lines had r a n e positive =
     by false bytes s = s.0 text ∙ ap (λ ls. lines ++ ls) (line_last text n positive)
     by true bytes s = let l = ap length (sym bytes ∙ s.0) in absurd (omega (arith, l, positive))
 
-told : (all rest taken : List ℕ) → Took (Some all) (Some rest) taken → all ≡ taken ++ rest
-told all rest taken h = h
-
 pub read_more : (left before now : Option (List ℕ)) (taken pending text behind : List ℕ) (lines : List (List ℕ)) (had has : Bool)
     → ReadsTold left before lines pending had → Took before now taken → HasNoFeed text → EndsLine has (pending ++ taken) text behind now
     → ReadsTold left now (lines ++ text ∷ []) behind has
@@ -179,7 +176,7 @@ front_told input rest lines pending had r = by had r.state
 pub record Cut (left now : Option (List ℕ)) (lines : List (List ℕ)) (piece : List ℕ) : Type 0 where
   pub front : List ℕ
   pub took : Took left now (front ++ piece)
-  pub is_ended : IsWholeLines front ⊎ IsEmptied now
+  pub is_ended : IsWholeLines front ⊎ (now ≡ Some [])
   pub is_front : IsFrontOf left front
   pub are : lines_of front ≡ lines
 
@@ -199,9 +196,9 @@ read_cut (Some input) (Some all) (Some rest) taken pending spelled lines had r e
       are = f.0;
     }
   where
-    by : (had : Bool) → all ≡ taken ++ rest → Stands had r.front (pending ++ all) lines → IsWholeLines r.front ⊎ (rest ≡ [])
+    by : (had : Bool) → all ≡ taken ++ rest → Stands had r.front (pending ++ all) lines → IsWholeLines r.front ⊎ (◌≡◌ {A = Option (List ℕ)} (Some rest) (Some []))
     by false bytes s = inl s.1
-    by true bytes s = inr (none_behind taken rest (sym bytes ∙ none_behind pending all s.0))
+    by true bytes s = inr (ap Some (none_behind taken rest (sym bytes ∙ none_behind pending all s.0)))
 read_cut (Some input) (Some all) None taken pending spelled lines had r ended whole took = absurd took
 read_cut (Some input) None now taken pending spelled lines had r ended whole took = absurd r
 read_cut None before now taken pending spelled lines had r ended whole took =

@@ -1,5 +1,5 @@
 -- What is put for what was computed is what is defined for the words.
-use Rattle.std.proofs.Common.{◌≡◌, ℕ, List, ◌++◌, Bool, true, Option, Some, refl, sym, ◌∙◌, ap, subst, inl, inr}
+use Rattle.std.proofs.Common.{◌≡◌, ℕ, List, ◌++◌, Bool, true, Option, Some, refl, sym, ◌∙◌, ap, subst, inl, inr, ◌⊎◌}
 use Rattle.std.specs.Prelude.{codes, None, Ok, []}
 use Rattle.calc_base.specs.declared.status.Status.{Status}
 use Rattle.calc_base.specs.declared.status.Status.TheVariants as status
@@ -17,7 +17,8 @@ use Rattle.sym_model.specs.Answer.{Answer as PlainAnswer, answer as listed, IsPr
 use Rattle.sym_model.specs.PrintedForm.{PrintedForm, printed_form, answer_text_in}
 use Rattle.calc_replies.specs.declared.form.Form.{Form}
 use Rattle.calc_replies.specs.Forms.{plain_form}
-use Rattle.sym_model.specs.Command.{Command, mult, skew, coef, coprod, tab, quantum, fusion, schubert, schubmult, expand, rsk, unrsk, rect, batch, work}
+use Rattle.sym_model.specs.Command.{Command}
+use Rattle.calc_app.proofs.CommandKinds.{NamesExpansion, TellsLines, RunsOthers, kind}
 use Rattle.sym_model.specs.CommandOffence.{Offence}
 use Rattle.sym_model.specs.Ending.{Ending, done, some_refused, syntax, range, past}
 use Rattle.sym_model.specs.ExpressionOffence as offences
@@ -47,61 +48,28 @@ prints command answer form meets asked printable = record {
 
 answers_block : (command : Command) (answer : Answer) (form : Form) → (MustBeLarge command → ⊥) → Meets command (plain_answer answer)
     → plain_form form ≡ printed_form command → IsPrintable (plain_answer answer) → Answers command (answer_text_in (plain_form form) (plain_answer answer)) done
-answers_block (mult variables one_line factors) answer form small meets asked printable = inl (small, prints (mult variables one_line factors) answer form meets asked printable, refl)
-answers_block (skew variables one_line outer inner) answer form small meets asked printable = inl (small, prints (skew variables one_line outer inner) answer form meets asked printable, refl)
-answers_block (coef outer left right) answer form small meets asked printable = inl (small, prints (coef outer left right) answer form meets asked printable, refl)
-answers_block (coprod shape) answer form small meets asked printable = inl (small, prints (coprod shape) answer form meets asked printable, refl)
-answers_block (quantum k columns factors) answer form small meets asked printable = inl (small, prints (quantum k columns factors) answer form meets asked printable, refl)
-answers_block (fusion k level factors) answer form small meets asked printable = inl (small, prints (fusion k level factors) answer form meets asked printable, refl)
-answers_block (schubert w) answer form small meets asked printable = inl (small, prints (schubert w) answer form meets asked printable, refl)
-answers_block (schubmult u v) answer form small meets asked printable = inl (small, prints (schubmult u v) answer form meets asked printable, refl)
-answers_block (expand target one_line e) answer form small meets asked printable = inl (small, prints (expand target one_line e) answer form meets asked printable, refl)
-answers_block (tab outer inner last) answer form small meets asked printable = absurd meets
-answers_block (rsk w) answer form small meets asked printable = absurd meets
-answers_block (unrsk p q) answer form small meets asked printable = absurd meets
-answers_block (rect outer inner rows) answer form small meets asked printable = absurd meets
-answers_block batch answer form small meets asked printable = absurd meets
-answers_block (work lines seed) answer form small meets asked printable = absurd meets
+answers_block command answer form small meets asked printable = by (kind command)
+  where
+    by : NamesExpansion command ⊎ TellsLines command ⊎ RunsOthers command → Answers command (answer_text_in (plain_form form) (plain_answer answer)) done
+    by (inl k) = k.answers _ _ (inl (small, prints command answer form meets asked printable, refl))
+    by (inr (inl k)) = absurd (k.unnamed (plain_answer answer) meets)
+    by (inr (inr k)) = absurd (k.unnamed (plain_answer answer) meets)
 
 answers_large : (command : Command) → MayBeLarge command → Answers command large_line past
-answers_large (mult variables one_line factors) large = inr (large, refl, refl)
-answers_large (skew variables one_line outer inner) large = inr (large, refl, refl)
-answers_large (coef outer left right) large = inr (large, refl, refl)
-answers_large (coprod shape) large = inr (large, refl, refl)
-answers_large (quantum k columns factors) large = inr (large, refl, refl)
-answers_large (fusion k level factors) large = inr (large, refl, refl)
-answers_large (schubert w) large = inr (large, refl, refl)
-answers_large (schubmult u v) large = inr (large, refl, refl)
-answers_large (expand target one_line e) large = inr (large, refl, refl)
-answers_large (tab outer inner last) (inl h) = absurd h.1
-answers_large (tab outer inner last) (inr h) = absurd h.1
-answers_large (rsk w) (inl h) = absurd h.1
-answers_large (rsk w) (inr h) = absurd h.1
-answers_large (unrsk p q) (inl h) = absurd h.1
-answers_large (unrsk p q) (inr h) = absurd h.1
-answers_large (rect outer inner rows) (inl h) = absurd h.1
-answers_large (rect outer inner rows) (inr h) = absurd h.1
-answers_large batch (inl h) = absurd h.1
-answers_large batch (inr h) = absurd h.1
-answers_large (work lines seed) (inl h) = absurd h.1
-answers_large (work lines seed) (inr h) = absurd h.1
+answers_large command large = by (kind command)
+  where
+    by : NamesExpansion command ⊎ TellsLines command ⊎ RunsOthers command → Answers command large_line past
+    by (inl k) = k.answers _ _ (inr (large, refl, refl))
+    by (inr (inl k)) = absurd (k.small large)
+    by (inr (inr k)) = absurd (k.small large)
 
 tells_answer : (command : Command) (text : List ℕ) → Tells command text → Answers command text done
-tells_answer (tab outer inner last) text tells = (tells, refl)
-tells_answer (rsk w) text tells = (tells, refl)
-tells_answer (unrsk p q) text tells = (tells, refl)
-tells_answer (rect outer inner rows) text tells = (tells, refl)
-tells_answer (mult variables one_line factors) text tells = absurd tells
-tells_answer (skew variables one_line outer inner) text tells = absurd tells
-tells_answer (coef outer left right) text tells = absurd tells
-tells_answer (coprod shape) text tells = absurd tells
-tells_answer (quantum k columns factors) text tells = absurd tells
-tells_answer (fusion k level factors) text tells = absurd tells
-tells_answer (schubert w) text tells = absurd tells
-tells_answer (schubmult u v) text tells = absurd tells
-tells_answer (expand target one_line e) text tells = absurd tells
-tells_answer batch text tells = absurd tells
-tells_answer (work lines seed) text tells = absurd tells
+tells_answer command text tells = by (kind command)
+  where
+    by : NamesExpansion command ⊎ TellsLines command ⊎ RunsOthers command → Answers command text done
+    by (inl k) = absurd (k.untold text tells)
+    by (inr (inl k)) = k.answers text tells
+    by (inr (inr k)) = absurd (k.untold text tells)
 
 -- ---- what comes of the words
 
@@ -161,21 +129,12 @@ has_outcome entries words (Told lines) computes block = record {
 -- what comes of a command that runs no other ones comes of it over every input
 answers_alone : (input : List ℕ) (command : Command) (text : List ℕ) (ending : Ending) → Answers command text ending
     → AnswersWith batch_entries input command text ending
-answers_alone input (mult variables one_line factors) text ending answers = answers
-answers_alone input (skew variables one_line outer inner) text ending answers = answers
-answers_alone input (coef outer left right) text ending answers = answers
-answers_alone input (coprod shape) text ending answers = answers
-answers_alone input (quantum k columns factors) text ending answers = answers
-answers_alone input (fusion k level factors) text ending answers = answers
-answers_alone input (schubert w) text ending answers = answers
-answers_alone input (schubmult u v) text ending answers = answers
-answers_alone input (expand target one_line e) text ending answers = answers
-answers_alone input (tab outer inner last) text ending answers = answers
-answers_alone input (rsk w) text ending answers = answers
-answers_alone input (unrsk p q) text ending answers = answers
-answers_alone input (rect outer inner rows) text ending answers = answers
-answers_alone input batch text ending answers = absurd answers
-answers_alone input (work lines seed) text ending answers = absurd answers
+answers_alone input command text ending answers = by (kind command)
+  where
+    by : NamesExpansion command ⊎ TellsLines command ⊎ RunsOthers command → AnswersWith batch_entries input command text ending
+    by (inl k) = k.over input text ending answers
+    by (inr (inl k)) = k.over input text ending answers
+    by (inr (inr k)) = absurd (k.unanswered text ending answers)
 
 alone : (words : List (List ℕ)) (input text : List ℕ) (ending : Ending) → IsLineOutcome command_entries words text ending
     → IsOutcome words input text ending
@@ -272,39 +231,21 @@ expands_say command text (inr refused) = let clash : done ≡ past = refused.2 i
 
 -- the text of a command that was answered says what the command names
 pub answers_say : (command : Command) (text : List ℕ) → Answers command text done → Says command text
-answers_say (mult variables one_line factors) text answers = expands_say (mult variables one_line factors) text answers
-answers_say (skew variables one_line outer inner) text answers = expands_say (skew variables one_line outer inner) text answers
-answers_say (coef outer left right) text answers = expands_say (coef outer left right) text answers
-answers_say (coprod shape) text answers = expands_say (coprod shape) text answers
-answers_say (quantum k columns factors) text answers = expands_say (quantum k columns factors) text answers
-answers_say (fusion k level factors) text answers = expands_say (fusion k level factors) text answers
-answers_say (schubert w) text answers = expands_say (schubert w) text answers
-answers_say (schubmult u v) text answers = expands_say (schubmult u v) text answers
-answers_say (expand target one_line e) text answers = expands_say (expand target one_line e) text answers
-answers_say (tab outer inner last) text answers = answers
-answers_say (rsk w) text answers = answers
-answers_say (unrsk p q) text answers = answers
-answers_say (rect outer inner rows) text answers = answers
-answers_say batch text answers = answers
-answers_say (work lines seed) text answers = answers
+answers_say command text answers = by (kind command)
+  where
+    by : NamesExpansion command ⊎ TellsLines command ⊎ RunsOthers command → Says command text
+    by (inl k) = k.says text (expands_say command text (k.expands text done answers))
+    by (inr (inl k)) = k.says text answers
+    by (inr (inr k)) = absurd (k.unanswered text done answers)
 
 answers_with_say : (told : Option (List ℕ)) (input : List ℕ) (command : Command) (text : List ℕ) → IsInput told input
     → AnswersWith batch_entries input command text done → SaysOver told command text
-answers_with_say told input (mult variables one_line factors) text is_input answers = answers_say (mult variables one_line factors) text answers
-answers_with_say told input (skew variables one_line outer inner) text is_input answers = answers_say (skew variables one_line outer inner) text answers
-answers_with_say told input (coef outer left right) text is_input answers = answers_say (coef outer left right) text answers
-answers_with_say told input (coprod shape) text is_input answers = answers_say (coprod shape) text answers
-answers_with_say told input (quantum k columns factors) text is_input answers = answers_say (quantum k columns factors) text answers
-answers_with_say told input (fusion k level factors) text is_input answers = answers_say (fusion k level factors) text answers
-answers_with_say told input (schubert w) text is_input answers = answers_say (schubert w) text answers
-answers_with_say told input (schubmult u v) text is_input answers = answers_say (schubmult u v) text answers
-answers_with_say told input (expand target one_line e) text is_input answers = answers_say (expand target one_line e) text answers
-answers_with_say told input (tab outer inner last) text is_input answers = answers
-answers_with_say told input (rsk w) text is_input answers = answers
-answers_with_say told input (unrsk p q) text is_input answers = answers
-answers_with_say told input (rect outer inner rows) text is_input answers = answers
-answers_with_say told input batch text is_input answers = (input, is_input, answers)
-answers_with_say told input (work lines seed) text is_input answers = answers.0
+answers_with_say told input command text is_input answers = by (kind command)
+  where
+    by : NamesExpansion command ⊎ TellsLines command ⊎ RunsOthers command → SaysOver told command text
+    by (inl k) = k.says_over told text (answers_say command text (k.alone input text done answers))
+    by (inr (inl k)) = k.says_over told text (answers_say command text (k.alone input text done answers))
+    by (inr (inr k)) = k.says_over told input text is_input answers
 
 pub not_done : (kind : offences.OffenceKind) → done ≡ ending_of kind → ⊥
 not_done offences.literal is = cc

@@ -31,12 +31,6 @@ use Rattle.calc_app.proofs.Outcomes.{told_input, no_front}
 
 -- ---- one line
 
-pub kept_text : (old new : Growing) (text : List ℕ) → Appends growing_bytes growing_length old new text → old.bytes ≡ [] → new.bytes ≡ text
-kept_text old new text appends none =
-    let e : ◌≡◌ {A = Option (List ℕ)} (Some new.bytes) (Some (old.bytes ++ text)) = appends.bytes in
-    let h : new.bytes ≡ old.bytes ++ text = cc in
-    h ∙ ap (λ t. t ++ text) none
-
 pub add_some : (line : BatchLine) (outcome : Outcome) (result : Result (Unit {0}) NoMemory) (old new : Sums) → ComesOfLine line (Some outcome)
     → IfOk result (λ _. new ≡ sums_with old (text_of outcome)) → IfOk result (λ _. AreSmall new) → IfOk result (λ _. HasBlock outcome)
     → IfOk result (λ _. AddsLine line old new)

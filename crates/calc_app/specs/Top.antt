@@ -9,7 +9,7 @@ use Rattle.batch_lines.specs.Feeds.{HasNoFeed}
 use Rattle.batch_lines.specs.Reading.{Took, most_pending}
 use Rattle.sym_model.specs.BatchLine.{BatchLine, too_long, passed_over, spoken, batch_line, lines_of}
 use Rattle.sym_model.specs.BatchOutcome.{Block, AreBlocks, batch_text, RunsInput, RunsWorkload, IsOutcomeOf}
-use Rattle.sym_model.specs.Command.{Command, tab, rsk, unrsk, rect, batch, work}
+use Rattle.sym_model.specs.Command.{Command, tab, rsk, unrsk, rect, growth, batch, work}
 use Rattle.sym_model.specs.Ending.{Ending, done, some_refused, syntax, range, past}
 use Rattle.sym_model.specs.Entry.{SpellsWithoutOffence}
 use Rattle.calc_language.specs.BuiltCommands.{command_entries, batch_entries}
@@ -75,13 +75,13 @@ pub record PutsPrefix {S : Type 0} (written : S → Option (List ℕ)) (count : 
   pub appended : AppendsPrefix written count old new text
 
 -- A text that is defined over the first lines of the input was appended whole. Those lines and a piece behind them were read,
--- and each of them ends in what was read.
+-- and each of them ends in what was read: at a line feed, or where the source tells that nothing is left.
 pub record PutsFront {S : Type 0} (written : S → Option (List ℕ)) (count : S → Option ℕ)
     (old new : S) (left now_left : Option (List ℕ)) (Defined : List ℕ → List ℕ → Ending → Type 0) : Type 0 where
   pub front : List ℕ
   pub piece : List ℕ
   pub took : Took left now_left (front ++ piece)
-  pub is_ended : IsWholeLines front ⊎ IsEmptied now_left
+  pub is_ended : IsWholeLines front ⊎ (now_left ≡ Some [])
   pub is_front : IsFrontOf left front
   pub text : List ℕ
   pub ending : Ending
@@ -123,13 +123,14 @@ Leaves written count settled old new left now_left Runs Defined NoMemory =
 
 -- ---- the headline
 
--- what the text of a command that runs no lines says: of `tab`, `rsk`, `unrsk` and `rect` it is what is defined for them; of
--- the others it reads back as a canonical list of terms, which is what the command names
+-- what the text of a command that runs no lines says: of `tab`, `rsk`, `unrsk`, `rect` and `growth` it is what is defined for
+-- them; of the others it reads back as a canonical list of terms, which is what the command names
 abbrev pub Says : Command → List ℕ → Type 0
 Says (tab outer inner last) text = Answers (tab outer inner last) text done
 Says (rsk w) text = Answers (rsk w) text done
 Says (unrsk p q) text = Answers (unrsk p q) text done
 Says (rect outer inner rows) text = Answers (rect outer inner rows) text done
+Says (growth w) text = Answers (growth w) text done
 Says batch text = ⊥
 Says (work lines seed) text = ⊥
 Says command text = ReadsBack command text
@@ -196,16 +197,16 @@ pub record PutsBlocks {S : Type 0} (written : S → Option (List ℕ)) (count : 
   pub are_blocks : AreBlocks batch_entries lines blocks
   pub appended : Appends written count old new (batch_text blocks)
 
--- What a fault of the sink leaves of a batch. These lines were read and no unfinished one; behind them at most 4,096 bytes were
--- taken, or bytes in which no line ends. The blocks of all lines but the last were put whole, and of its own a prefix; or those
--- of all, where the sink failed at the end.
+-- What a fault of the sink leaves of a batch. These lines were read and no unfinished one. The blocks of all lines but the last
+-- were put whole, and of its own a prefix, and at most 4,096 bytes were taken behind them; or those of all, where the sink failed
+-- at the end, and then no line ends in what was taken behind them.
 pub record CutsLines {S : Type 0} (written : S → Option (List ℕ)) (count : S → Option ℕ) (old new : S) (left now_left : Option (List ℕ)) : Type 0 where
   pub front : List ℕ
   pub piece : List ℕ
   pub took : Took left now_left (front ++ piece)
-  pub is_ended : IsWholeLines front ⊎ IsEmptied now_left
-  pub is_short : (length piece ≤ most_pending) ⊎ HasNoFeed piece
-  pub puts : CutsBlock written count old new (map batch_line (lines_of front)) ⊎ PutsBlocks written count old new (map batch_line (lines_of front))
+  pub is_ended : IsWholeLines front ⊎ (now_left ≡ Some [])
+  pub puts : (CutsBlock written count old new (map batch_line (lines_of front)) × (length piece ≤ most_pending))
+      ⊎ (PutsBlocks written count old new (map batch_line (lines_of front)) × HasNoFeed piece)
 
 -- ---- what comes of words
 

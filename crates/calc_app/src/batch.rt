@@ -1,7 +1,8 @@
 //! The lines of a batch, run one after another.
 
-ghost use Rattle.std.specs.Prelude.{◌≡◌, ◌≤◌, ◌++◌, ℕ, List, [], length, Some, true, IfOk};
+ghost use Rattle.std.specs.Prelude.{◌≡◌, ◌≤◌, ◌++◌, ℕ, List, [], length, Some, true, false, IfOk};
 ghost use Rattle.lru.specs.LruCache.{lru_cache};
+ghost use Rattle.batch_lines.specs.Feeds.{HasNoFeed};
 ghost use Rattle.batch_lines.specs.Reading.{IsAtEnd, ReadsNext, Took, most_pending};
 ghost use Rattle.calc_base.specs.Puts.{Puts};
 ghost use Rattle.sym_model.specs.BatchLine.{batch_line, too_long};
@@ -11,7 +12,7 @@ ghost use Rattle.calc_language.specs.Reading.{IsWithinItsLimits, command_of};
 ghost use Rattle.calc_replies.specs.Computed.{IsReplyTo, RunsNoOther, text_of, HasText, HasBlock, status_for};
 
 use batch_lines::{LineFault, LineReader, Next, Progress, at_end, finished, put_separator};
-use calc_base::{NoMemory, Place, Sink, Source, Status, WordsFault};
+use calc_base::{NoMemory, Place, Sink, Source, Status, WordsFault, finish_if};
 use calc_language::{Command, read_line};
 use calc_replies::{Outcome, put_text, reply_by, status_if_put, tell_block};
 use schubert_transition::Memo;
@@ -36,8 +37,9 @@ enum Turn {
 
 /// Runs the lines of the source and puts their blocks, with the line `--` between two of them.
 ///
-/// A block is put when its line is read, and nothing of it is kept but Schubert polynomials for later lines. A fault of the source
-/// ends the run after the lines that were wholly read, and the sink is finished. Want of memory ends the run.
+/// A block is put when its line is read, and nothing of it is kept but Schubert polynomials for later lines. Where no further line
+/// is there whole, the sink hands on what was put before the source is called. A fault of the source ends the run after the lines
+/// that were wholly read, and the sink is finished. Want of memory ends the run.
 pub(crate) fn batch<S: Source, K: Sink>(alloc: Global, source: &mut S, sink: &mut K) -> Status
     ensures { EndsBatch K.written K.length K.faults K.settled sink.old sink.new (S.left source.old) (S.left source.new)
         (S.faults source.old) (S.faults source.new) result }
@@ -57,6 +59,9 @@ pub(crate) fn batch<S: Source, K: Sink>(alloc: Global, source: &mut S, sink: &mu
             Ok(Turn::Passed) => {}
             Ok(Turn::Block { outcome }) => {
                 if !put_block(&mut progress, outcome, sink) {
+                    return Status::SinkFault;
+                }
+                if !hand_on(&reader, sink) {
                     return Status::SinkFault;
                 }
             }
@@ -161,6 +166,15 @@ fn put_block<K: Sink>(progress: &mut Progress, outcome: Outcome, sink: &mut K) -
     let is_first = progress.is_first;
     progress.count(status_if_put(&outcome));
     put_behind(is_first, &mut outcome, sink)
+}
+
+/// Hands on what was put, where no further line is there whole: who sends a line and waits for its block gets it. It answers
+/// whether all went well.
+fn hand_on<K: Sink>(reader: &LineReader, sink: &mut K) -> bool
+    ensures goes { Puts K.written K.length K.faults true sink.old result sink.new [] }
+    ensures none { result ≡ false → HasNoFeed reader.now.pending }
+{
+    reader.has_line() || finish_if(true, sink)
 }
 
 /// Puts the line `--`, but not in front of the first block, and then the block, and answers whether all went well.

@@ -35,9 +35,9 @@ use std::alloc::Global;
 /// the answer is `NoMemory`, and nothing was put; of a batch the blocks of the lines before stand.
 ///
 /// `batch` runs each line of the source as a command, and puts its block, a refusal too, as soon as the line is read, with the
-/// line `--` between two blocks. It ends with `SomeRefused` where a line was refused, and with `SourceFault` after the lines
-/// that were wholly read where a call of the source failed. Other commands do not touch the source. `work` runs generated
-/// lines in this way, and puts sums over their blocks.
+/// line `--` between two blocks; where no further line was taken whole, `finish` is called before the source is. It ends with
+/// `SomeRefused` where a line was refused, and with `SourceFault` after the lines that were wholly read where a call of the source
+/// failed. Other commands do not touch the source. `work` runs generated lines in this way, and puts sums over their blocks.
 pub fn run<S: Source, K: Sink>(
     alloc: Global,
     words: &[String],

@@ -6,12 +6,8 @@ use Rattle.calc_base.specs.declared.words.WordsFault.{WordsFault}
 use Rattle.calc_base.specs.declared.words.WordsFault.TheVariants as fault
 use Rattle.sym_model.specs.Command.{Command, batch}
 use Rattle.sym_model.specs.CommandOffence.{Offence}
-use Rattle.sym_model.specs.BatchLine.{BatchLine, too_long, passed_over, spoken}
 use Rattle.sym_model.specs.Entry.{Entry, SpellsWithoutOffence}
-use Rattle.sym_model.specs.Form.{Written, EachOf}
-use Rattle.calc_language.specs.BuiltCommands.{command_entries, batch_entries}
-use Rattle.calc_commands.specs.declared.command.Command.{Command as Read}
-use Rattle.calc_language.specs.Lines.{IsLineRead}
+use Rattle.calc_language.specs.BuiltCommands.{command_entries}
 use Rattle.sym_model.specs.Outcome.{MayBeLarge}
 use Rattle.calc_language.specs.Reading.{IsFaultOf, command_of}
 use Rattle.calc_replies.specs.declared.outcome.Outcome.{Outcome}
@@ -59,27 +55,6 @@ accepts_task command (Ok (Workload lines seed)) other task same = sym same ∙ t
 accepts_task command (Ok (Put outcome)) other task same =
     (accepts_reply command (Ok outcome) other task same, λ is. no_reply outcome (subst (λ c. IsReplyTo c (Ok outcome)) (same ∙ is) task))
 accepts_task command (Err e) other task same = tt
-
--- a command of a line runs no other ones
-some_alone : (entries : List Entry) (words : List (List ℕ)) (command : Command) → EachOf (λ e. (x : Written e.form) → RunsNoOther (e.says x)) entries
-    → SpellsWithoutOffence entries words command → RunsNoOther command
-some_alone [] words command each spelled = absurd spelled
-some_alone (e ∷ entries) words command each (inl h) = subst RunsNoOther (sym h.says_it) (each.0 h.has.written)
-some_alone (e ∷ entries) words command each (inr h) = some_alone entries words command each.1 h
-
-each_alone : EachOf (λ e. (x : Written e.form) → RunsNoOther (e.says x)) batch_entries
-each_alone = (
-  (λ x. tt),
-  ((λ x. tt), ((λ x. tt), ((λ x. tt), ((λ x. tt), ((λ x. tt), ((λ x. tt), ((λ x. tt), ((λ x. tt), ((λ x. tt), ((λ x. tt), ((λ x. tt), ((λ x. tt), tt)))))))))))),
-)
-
-pub line_alone : (words : List (List ℕ)) (command : Command) → SpellsWithoutOffence batch_entries words command → RunsNoOther command
-line_alone words command spelled = some_alone batch_entries words command each_alone spelled
-
-pub read_alone : (line : BatchLine) (command : Read) → IsLineRead line (Ok (Some command)) → RunsNoOther (command_of command)
-read_alone too_long command read = absurd read
-read_alone passed_over command read = absurd read
-read_alone (spoken words) command read = line_alone words (command_of command) read
 
 -- a refusal that is no want of memory
 pub refused_by : (offence : Offence) (reason : WordsFault) → reason ≢ fault.NoMemory

@@ -1,6 +1,8 @@
 -- What is computed for the words of a command, and what is put for that (this project's own).
 use Rattle.std.specs.Prelude.{◌≡◌, ◌≢◌, ℕ, List, Option, Some, None, Result, Ok, Err, codes}
 use Rattle.calc_base.specs.declared.faults.NoMemory.{NoMemory}
+use Rattle.calc_base.specs.declared.faults.SumFault.{SumFault}
+use Rattle.calc_base.specs.declared.faults.SumFault.TheVariants as sums
 use Rattle.calc_base.specs.declared.status.Status.{Status}
 use Rattle.calc_base.specs.declared.status.Status.TheVariants as status
 use Rattle.calc_base.specs.declared.words.WordsFault.{WordsFault}
@@ -8,27 +10,27 @@ use Rattle.calc_base.specs.declared.words.WordsFault.TheVariants as fault
 use Rattle.calc_language.specs.Reading.{IsFaultOf, command_of}
 use Rattle.calc_commands.specs.declared.command.Command.{Command}
 use Rattle.calc_words.specs.Reading.{IsRead as IsReadBy}
+use Rattle.expansion_printer.specs.declared.answer.Answer.{Answer}
 use Rattle.expansion_printer.specs.Answers.{plain_answer}
 use Rattle.expansion_printer.specs.Refusal.{refusal_text}
 use Rattle.sym_model.specs.Answer.{IsPrintable}
 use Rattle.sym_model.specs.PrintedForm.{printed_form, answer_text_in}
-use Rattle.sym_model.specs.Command.{Command as PlainCommand, rsk, unrsk, rect, tab, batch, work}
+use Rattle.sym_model.specs.Command.{Command as PlainCommand, rsk, unrsk, rect, growth, tab, batch, work}
 use Rattle.sym_model.specs.CommandOffence.{Offence}
 use Rattle.sym_model.specs.Entry.{Entry, SpellsWithoutOffence}
 use Rattle.sym_model.specs.Insertion.{insertion_pair}
 use Rattle.sym_model.specs.Outcome.{MustBeLarge, MayBeLarge, readings_after, PrintsWord, PrintsRectified}
-use Rattle.sym_model.specs.TableauText.{tableau_line, pair_text, word_line, readings_text}
+use Rattle.sym_model.specs.TableauText.{tableau_line, pair_text, word_line, readings_text, grid_text}
 use Rattle.sym_model.specs.RefusalText.{large_line}
 use Rattle.sym_model.specs.Target.{Meets}
 use Rattle.calc_replies.specs.Forms.{plain_form}
+use Rattle.calc_replies.specs.declared.form.Form.{Form}
 use Rattle.calc_replies.specs.declared.tableau_answer.TableauAnswer.{TableauAnswer}
 use Rattle.calc_replies.specs.declared.tableau_answer.TableauAnswer.TheVariants.{Listed, Paired, Spelled, Straight}
 use Rattle.calc_replies.specs.declared.listing.Listing.{Listing}
 use Rattle.calc_language.specs.BuiltCommands.{command_entries}
 use Rattle.calc_replies.specs.declared.outcome.Task.{Task}
 use Rattle.calc_replies.specs.declared.outcome.Task.TheVariants.{Lines, Workload, Put}
-use Rattle.calc_replies.specs.declared.outcome.Kind.{Kind}
-use Rattle.calc_replies.specs.declared.outcome.Kind.TheVariants as kinds
 use Rattle.calc_replies.specs.declared.outcome.Outcome.{Outcome}
 use Rattle.calc_replies.specs.declared.outcome.Outcome.TheVariants.{Answered, Refused, Large, Told}
 
@@ -50,7 +52,14 @@ Tells (tab outer inner last) text = text ≡ readings_text outer inner (readings
 Tells (rsk w) text = text ≡ pair_text (insertion_pair w).0 (insertion_pair w).1
 Tells (unrsk p q) text = PrintsWord p q text
 Tells (rect outer inner rows) text = PrintsRectified (record { outer = outer; inner = inner; rows = rows }) text
+Tells (growth w) text = text ≡ grid_text w
 Tells _ text = ⊥
+
+-- what comes of a command that names an expansion, by what was computed for it
+abbrev pub reply_of : Result Answer SumFault → Form → Result Outcome NoMemory
+reply_of (Ok answer) form = Ok (Answered answer form)
+reply_of (Err sums.Large) form = Ok Large
+reply_of (Err sums.NoMemory) form = Err (record {})
 
 -- what comes of a command: an answer that is what it names, in the form that it asks for, where it need not be refused as too
 -- large, or that it can be refused so; want of memory says nothing
@@ -111,12 +120,6 @@ abbrev pub RunsNoOther : PlainCommand → Type 0
 RunsNoOther batch = ⊥
 RunsNoOther (work lines seed) = ⊥
 RunsNoOther command = Unit {0}
-
--- whether a command runs others
-abbrev pub IsKind : PlainCommand → Kind → Type 0
-IsKind command kinds.Lines = command ≡ batch
-IsKind command (kinds.Workload lines seed) = command ≡ work lines seed
-IsKind command kinds.Alone = RunsNoOther command
 
 -- what is to be done for a command: lines are to be run for `batch` and `work`, and for the others what comes of them is to be put
 abbrev pub IsTaskOf : PlainCommand → Result Task NoMemory → Type 0

@@ -6,13 +6,13 @@ ghost use Rattle.sym_model.specs.Entry.{SpellsWithoutOffence, HasFirstOffence};
 ghost use Rattle.calc_language.specs.BuiltCommands.{command_entries};
 ghost use Rattle.sym_model.specs.SyntaxPlace.{IsSyntaxPlace};
 ghost use Rattle.calc_language.specs.Reading.{command_of, IsWithinItsLimits};
-ghost use Rattle.calc_replies.specs.Computed.{IsReplyTo, RunsNoOther, IsKind, IsTaskOf, IsTaskFor, AcceptsTask, RefusesTask, TaskGoesWrong};
+ghost use Rattle.calc_replies.specs.Computed.{reply_of, IsReplyTo, RunsNoOther, IsTaskOf, IsTaskFor, AcceptsTask, RefusesTask, TaskGoesWrong};
 
 use crate::expanding::expanded;
 use crate::form::Form;
 use crate::tableau_answer::TableauAnswer;
 use crate::{insertion, listing, permutations, products, reductions};
-use calc_base::{NoMemory, WordsFault};
+use calc_base::{NoMemory, SumFault, WordsFault};
 use calc_language::{Command, read_words};
 use expansion_printer::Answer;
 use schubert_transition::Memo;
@@ -64,6 +64,17 @@ pub(crate) fn as_block(answer: Answer) -> Outcome
     }
 }
 
+/// What comes of a command that names an expansion: its answer, which is printed in the form, or that this is too large.
+pub(crate) fn answered(answer: Result<Answer, SumFault>, form: Form) -> Result<Outcome, NoMemory>
+    ensures { result ≡ reply_of answer form }
+{
+    match answer {
+        Ok(answer) => Ok(Outcome::Answered { answer, form }),
+        Err(SumFault::Large) => Ok(Outcome::Large),
+        Err(SumFault::NoMemory) => Err(NoMemory),
+    }
+}
+
 /// What is to be done for the words: the whole answer is there, or why there is none, or lines are to be run.
 pub fn task_of(alloc: Global, words: &[String]) -> Result<Task, NoMemory>
     ensures computes { IsTaskFor (map string_bytes words.now) result }
@@ -93,38 +104,16 @@ fn task_for(alloc: Global, command: &Command) -> Result<Task, NoMemory>
     requires { IsWithinItsLimits command.now }
     ensures { IsTaskOf (command_of command.now) result }
 {
-    match kind_of(command) {
-        Kind::Lines => Ok(Task::Lines),
-        Kind::Workload { lines, seed } => Ok(Task::Workload { lines, seed }),
-        Kind::Alone => match reply_to(alloc, command) {
-            Ok(outcome) => Ok(Task::Put { outcome }),
-            Err(NoMemory) => Err(NoMemory),
-        },
-    }
-}
-
-/// Whether a command runs others.
-#[derive(Clone, Copy)]
-enum Kind {
-    /// It runs the lines of the input.
-    Lines,
-    /// It runs so many lines of the generator.
-    Workload { lines: u16, seed: u32 },
-    /// It runs no other command.
-    Alone,
-}
-
-/// Whether the command runs others.
-fn kind_of(command: &Command) -> Kind
-    ensures { IsKind (command_of command.now) result }
-{
     match command {
-        Command::Batch => Kind::Lines,
-        Command::Work { lines, seed } => Kind::Workload {
+        Command::Batch => Ok(Task::Lines),
+        Command::Work { lines, seed } => Ok(Task::Workload {
             lines: *lines,
             seed: *seed,
-        },
-        _ => Kind::Alone,
+        }),
+        _ => {
+            let outcome = reply_to(alloc, command)?;
+            Ok(Task::Put { outcome })
+        }
     }
 }
 

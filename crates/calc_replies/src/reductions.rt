@@ -3,8 +3,9 @@ ghost use Rattle.sym_model.specs.Command as commands;
 ghost use Rattle.calc_words.specs.WrittenLimits.{KeepsLimits};
 ghost use Rattle.calc_replies.specs.Computed.{IsReplyTo};
 
-use crate::outcome::{Outcome, as_block};
-use calc_base::{NoMemory, SumFault};
+use crate::form::Form;
+use crate::outcome::{Outcome, answered};
+use calc_base::NoMemory;
 use expansion_printer::Answer;
 use partitions::Factors;
 use std::alloc::Global;
@@ -19,11 +20,10 @@ pub(crate) fn quantum(
     requires { KeepsLimits (commands.quantum rows cols factors.now) }
     ensures { IsReplyTo (commands.quantum rows cols factors.now) result }
 {
-    match rim_hooks::quantum(alloc, factors, rows, cols) {
-        Ok(terms) => Ok(as_block(Answer::Powers { terms })),
-        Err(SumFault::Large) => Ok(Outcome::Large),
-        Err(SumFault::NoMemory) => Err(NoMemory),
-    }
+    answered(
+        rim_hooks::quantum(alloc, factors, rows, cols).map(|terms| Answer::Powers { terms }),
+        Form::Block,
+    )
 }
 
 /// The fusion product of shapes, with so many rows, at a level.
@@ -36,9 +36,8 @@ pub(crate) fn fusion(
     requires { KeepsLimits (commands.fusion rows level factors.now) }
     ensures { IsReplyTo (commands.fusion rows level factors.now) result }
 {
-    match rim_hooks::fusion(alloc, factors, rows, level) {
-        Ok(terms) => Ok(as_block(Answer::Product { terms })),
-        Err(SumFault::Large) => Ok(Outcome::Large),
-        Err(SumFault::NoMemory) => Err(NoMemory),
-    }
+    answered(
+        rim_hooks::fusion(alloc, factors, rows, level).map(|terms| Answer::Product { terms }),
+        Form::Block,
+    )
 }

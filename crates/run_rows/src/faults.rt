@@ -7,7 +7,7 @@ use std::alloc::{AllocError, Global};
 /// Two lines of a batch.
 const LINES: &str = "schubert 1\nschubert 1\n";
 
-/// Two lines of a batch: the text of the first one is put in 14 pieces, and the second one has more tableaux than could be listed.
+/// Two lines of a batch: the block of the first one is put in one piece, and the second one has more tableaux than could be listed.
 const LONG_LINES: &str =
     "mult 1 - 1\ntab 30 29 28 27 26 25 24 23 22 21 20 19 18 17 16 15 14 13 12 11 10 9 8 7 6 5 4 3 2 1 / 29 28 27 26 25 24 23 22 21 20 19 18 17 16 15 14 13 12 11 10 9 8 7 6 5 4 3 2 1\n";
 
@@ -56,10 +56,13 @@ fn calls_of_the_source(rt: &(impl Print + Alloc<A = Global>), words: &[String]) 
     Ok(())
 }
 
-/// Runs a batch over a sink that fails at the line `--` in front of the second block: of that block nothing is listed.
+/// Runs a batch over a sink that fails where the first block is handed on, and over one that fails at the line `--` in front of the
+/// second block: of that block nothing is listed.
 fn between_two_blocks(rt: &(impl Print + Alloc<A = Global>), words: &[String]) -> Result<()> {
+    print!(rt; "a sink that fails behind the first block: ")?;
+    has_fault(rt, words, LONG_LINES, (&[], &[1]))?;
     print!(rt; "a sink that fails at the line --: ")?;
-    has_fault(rt, words, LONG_LINES, (&[], &[14]))?;
+    has_fault(rt, words, LONG_LINES, (&[], &[2]))?;
     Ok(())
 }
 

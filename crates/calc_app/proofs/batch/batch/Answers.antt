@@ -1,14 +1,14 @@
-use Rattle.std.proofs.Common.{◌≡◌, Bool, true, false, ◌++◌, refl, sym, ap, subst, rules, tests, Err}
+use Rattle.std.proofs.Common.{◌≡◌, Bool, true, false, ◌++◌, [], refl, sym, ap, subst, rules, tests, Err}
 use Rattle.batch_lines.specs.Reading.{Reading}
 use Rattle.batch_lines.specs.declared.next.LineFault.{LineFault}
 use Rattle.calc_base.specs.Puts.{Puts}
 use Rattle.batch_lines.specs.declared.progress.Progress.{Progress}
 use Rattle.calc_app.specs.declared.batch.Turn.{Turn}
-use Rattle.batch_lines.specs.Ends.{separator}
+use Rattle.batch_lines.specs.Ends.{separator, progress_after}
 use Rattle.calc_app.specs.Batch.{TakesTurn, CutsTurn, CountsTurn}
-use Rattle.calc_replies.specs.Computed.{text_of}
+use Rattle.calc_replies.specs.Computed.{text_of, status_for}
 use Rattle.calc_app.proofs.LinesRead.{fewer_left, read_end}
-use Rattle.calc_app.proofs.Batches.{Runs, begins, passed_took, block_took, last_took, runs_passed, runs_block, ends_cut, ends_full, ends_last, ends_source}
+use Rattle.calc_app.proofs.Batches.{Runs, begins, passed_took, block_took, last_took, runs_passed, runs_block, runs_handed, ends_cut, ends_held, ends_full, ends_last, ends_source}
 use Rattle.calc_app.proofs.batch.batch.Goals as goal
 
 pub loop-outcome-init : goal.loop-outcome-init
@@ -56,14 +56,35 @@ loop-outcome-preserved g c =
     let well : c.put_block.result ≡ true = search (rules, tests) in
     let goes = subst (λ (w : Bool). Puts g.K.Sink.written g.K.Sink.length g.K.Sink.faults true c.loop-outcome.sink w c.put_block.new.sink (separator c.loop-outcome.progress.is_first ++ text_of c.in-Ok-Block.outcome))
     well c.put_block.ensures.goes in
-    subst (λ (p : Progress). Runs g.K.Sink.written g.K.Sink.length g.K.Sink.faults c.args.sink.now c.put_block.new.sink (g.S.Source.left c.args.source.now) (g.S.Source.left c.next_turn.new.source) (g.S.Source.faults c.args.source.now) (g.S.Source.faults c.next_turn.new.source) c.next_turn.new.reader.pending c.next_turn.new.reader.has_ended p)
+    let handed : c.hand_on.result ≡ true = search (rules, tests) in
+    subst (λ (p : Progress). Runs g.K.Sink.written g.K.Sink.length g.K.Sink.faults c.args.sink.now c.hand_on.new.sink (g.S.Source.left c.args.source.now) (g.S.Source.left c.next_turn.new.source) (g.S.Source.faults c.args.source.now) (g.S.Source.faults c.next_turn.new.source) c.next_turn.new.reader.pending c.next_turn.new.reader.has_ended p)
     (sym c.put_block.ensures.counts)
+    (runs_handed g.K.Sink.written g.K.Sink.length g.K.Sink.faults c.args.sink.now c.put_block.new.sink c.hand_on.new.sink (g.S.Source.left c.args.source.now) (g.S.Source.left c.next_turn.new.source)
+    (g.S.Source.faults c.args.source.now) (g.S.Source.faults c.next_turn.new.source) c.next_turn.new.reader.pending c.next_turn.new.reader.has_ended (progress_after c.loop-outcome.progress (status_for c.in-Ok-Block.outcome))
     (runs_block g.K.Sink.written g.K.Sink.length g.K.Sink.faults c.args.sink.now c.loop-outcome.sink c.put_block.new.sink (g.S.Source.left c.args.source.now) (g.S.Source.left c.loop-outcome.source) (g.S.Source.left c.next_turn.new.source)
     (g.S.Source.faults c.args.source.now) (g.S.Source.faults c.loop-outcome.source) (g.S.Source.faults c.next_turn.new.source) (g.S.Source.allowance c.loop-outcome.source) (g.S.Source.allowance c.next_turn.new.source) c.loop-outcome.reader.pending c.next_turn.new.reader.pending c.loop-outcome.reader.has_ended c.next_turn.new.reader.has_ended c.loop-outcome.progress c.in-Ok-Block.outcome
     c.loop-outcome.invariant
     (block_took (g.S.Source.left c.loop-outcome.source) (g.S.Source.left c.next_turn.new.source) (g.S.Source.allowance c.loop-outcome.source) (g.S.Source.allowance c.next_turn.new.source) c.loop-outcome.reader.pending c.next_turn.new.reader.pending c.next_turn.new.reader.has_ended c.in-Ok-Block.outcome
     (subst (λ (t : Turn). TakesTurn (g.S.Source.left c.loop-outcome.source) (g.S.Source.left c.next_turn.new.source) (g.S.Source.allowance c.loop-outcome.source) (g.S.Source.allowance c.next_turn.new.source) c.loop-outcome.reader.pending c.next_turn.new.reader.pending c.next_turn.new.reader.has_ended t) c.in-Ok-Block.field-0-is c.in-Ok-Block.ensures.takes))
     c.put_block.ensures.printable c.in-Ok-Block.ensures.counts (goes.whole refl) (goes.still refl))
+    (subst (λ (w : Bool). Puts g.K.Sink.written g.K.Sink.length g.K.Sink.faults true c.put_block.new.sink w c.hand_on.new.sink []) handed c.hand_on.ensures.goes))
+
+pub returns-then-not-hand_on : goal.returns-then-not-hand_on
+returns-then-not-hand_on g c =
+    let well : c.put_block.result ≡ true = search (rules, tests) in
+    let goes = subst (λ (w : Bool). Puts g.K.Sink.written g.K.Sink.length g.K.Sink.faults true c.loop-outcome.sink w c.put_block.new.sink (separator c.loop-outcome.progress.is_first ++ text_of c.in-Ok-Block.outcome))
+    well c.put_block.ensures.goes in
+    let kept : c.hand_on.result ≡ false = search (rules, tests) in
+    ends_held g.K.Sink.written g.K.Sink.length g.K.Sink.faults g.K.Sink.settled c.args.sink.now c.put_block.new.sink c.hand_on.new.sink (g.S.Source.left c.args.source.now) (g.S.Source.left c.next_turn.new.source)
+    (g.S.Source.faults c.args.source.now) (g.S.Source.faults c.next_turn.new.source) c.next_turn.new.reader.pending c.next_turn.new.reader.has_ended (progress_after c.loop-outcome.progress (status_for c.in-Ok-Block.outcome))
+    (runs_block g.K.Sink.written g.K.Sink.length g.K.Sink.faults c.args.sink.now c.loop-outcome.sink c.put_block.new.sink (g.S.Source.left c.args.source.now) (g.S.Source.left c.loop-outcome.source) (g.S.Source.left c.next_turn.new.source)
+    (g.S.Source.faults c.args.source.now) (g.S.Source.faults c.loop-outcome.source) (g.S.Source.faults c.next_turn.new.source) (g.S.Source.allowance c.loop-outcome.source) (g.S.Source.allowance c.next_turn.new.source) c.loop-outcome.reader.pending c.next_turn.new.reader.pending c.loop-outcome.reader.has_ended c.next_turn.new.reader.has_ended c.loop-outcome.progress c.in-Ok-Block.outcome
+    c.loop-outcome.invariant
+    (block_took (g.S.Source.left c.loop-outcome.source) (g.S.Source.left c.next_turn.new.source) (g.S.Source.allowance c.loop-outcome.source) (g.S.Source.allowance c.next_turn.new.source) c.loop-outcome.reader.pending c.next_turn.new.reader.pending c.next_turn.new.reader.has_ended c.in-Ok-Block.outcome
+    (subst (λ (t : Turn). TakesTurn (g.S.Source.left c.loop-outcome.source) (g.S.Source.left c.next_turn.new.source) (g.S.Source.allowance c.loop-outcome.source) (g.S.Source.allowance c.next_turn.new.source) c.loop-outcome.reader.pending c.next_turn.new.reader.pending c.next_turn.new.reader.has_ended t) c.in-Ok-Block.field-0-is c.in-Ok-Block.ensures.takes))
+    c.put_block.ensures.printable c.in-Ok-Block.ensures.counts (goes.whole refl) (goes.still refl))
+    (c.hand_on.ensures.none kept)
+    (subst (λ (w : Bool). Puts g.K.Sink.written g.K.Sink.length g.K.Sink.faults true c.put_block.new.sink w c.hand_on.new.sink []) kept c.hand_on.ensures.goes)
 
 pub returns-in-Ok-Last : goal.returns-in-Ok-Last
 returns-in-Ok-Last g c =

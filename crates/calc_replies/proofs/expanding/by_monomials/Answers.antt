@@ -1,4 +1,5 @@
 use Rattle.std.proofs.Common.{rules, tests, arith, ◌≡◌, ℕ, sym, subst}
+use Rattle.std.proofs.lemmas.Result.{IfOk-weaker}
 use Rattle.sym_model.specs.Expansion.{IsExpansionOf}
 use Rattle.sym_model.specs.Expression.{cleared_value, denominator}
 use Rattle.calc_base.specs.declared.words.Basis.{Basis as Letter}
@@ -6,7 +7,7 @@ use Rattle.calc_base.specs.declared.words.Basis.TheVariants as letters
 use Rattle.calc_expressions.specs.Trees.{basis_of, tree_of}
 use Rattle.calc_expressions.proofs.WeightFacts.{positive}
 use Rattle.calc_expressions.proofs.GrowthFacts.{wide-weight}
-use Rattle.calc_replies.proofs.Expansions.{heavy_for_m, if_ok}
+use Rattle.calc_replies.proofs.Expansions.{heavy_for_m}
 use Rattle.calc_replies.proofs.expanding.by_monomials.Goals as goal
 
 pub returns-in-Err-clause-large : goal.returns-in-Err-clause-large
@@ -33,4 +34,4 @@ to_basis-requires-clause-positive c =
 
 pub returns-clause-expands : goal.returns-clause-expands
 returns-clause-expands c =
-    if_ok c.to_basis.result (λ list h n. h n _ _ (c.in-Ok.ensures.value n)) c.to_basis.ensures.value
+    IfOk-weaker c.to_basis.result _ _ (λ list h n. h n _ _ (c.in-Ok.ensures.value n)) c.to_basis.ensures.value

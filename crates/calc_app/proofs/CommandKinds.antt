@@ -1,0 +1,60 @@
+-- What a command does: it names an expansion, it tells lines, or it runs other commands.
+use Rattle.std.proofs.Common.{ℕ, List, Option, inl, inr, ◌⊎◌, refl}
+use Rattle.std.specs.Prelude.{ℤ}
+use Rattle.sym_model.specs.Answer.{Answer as PlainAnswer}
+use Rattle.sym_model.specs.BatchOutcome.{AnswersWith}
+use Rattle.sym_model.specs.Command.{Command, tab, rsk, unrsk, rect, growth, batch, work}
+use Rattle.sym_model.specs.Ending.{Ending, done}
+use Rattle.sym_model.specs.Headline.{ReadsBack}
+use Rattle.sym_model.specs.LargeAnswer.{IsDefinedCoefficient, HasWeight}
+use Rattle.sym_model.specs.Outcome.{Answers, Expands, MayBeLarge}
+use Rattle.sym_model.specs.Target.{Meets}
+use Rattle.calc_language.specs.BuiltCommands.{batch_entries}
+use Rattle.calc_replies.specs.Computed.{Tells}
+use Rattle.calc_app.specs.Top.{IsInput, Says, SaysOver}
+
+-- it names an expansion
+pub record NamesExpansion (command : Command) : Type 0 where
+  pub answers : (text : List ℕ) (ending : Ending) → Expands command text ending → Answers command text ending
+  pub expands : (text : List ℕ) (ending : Ending) → Answers command text ending → Expands command text ending
+  pub over : (input text : List ℕ) (ending : Ending) → Answers command text ending → AnswersWith batch_entries input command text ending
+  pub alone : (input text : List ℕ) (ending : Ending) → AnswersWith batch_entries input command text ending → Answers command text ending
+  pub untold : (text : List ℕ) → Tells command text → ⊥
+  pub says : (text : List ℕ) → ReadsBack command text → Says command text
+  pub says_over : (left : Option (List ℕ)) (text : List ℕ) → Says command text → SaysOver left command text
+
+-- it tells lines
+pub record TellsLines (command : Command) : Type 0 where
+  pub answers : (text : List ℕ) → Tells command text → Answers command text done
+  pub over : (input text : List ℕ) (ending : Ending) → Answers command text ending → AnswersWith batch_entries input command text ending
+  pub alone : (input text : List ℕ) (ending : Ending) → AnswersWith batch_entries input command text ending → Answers command text ending
+  pub unnamed : (answer : PlainAnswer) → Meets command answer → ⊥
+  pub small : MayBeLarge command → ⊥
+  pub says : (text : List ℕ) → Answers command text done → Says command text
+  pub says_over : (left : Option (List ℕ)) (text : List ℕ) → Says command text → SaysOver left command text
+
+-- it runs other commands
+pub record RunsOthers (command : Command) : Type 0 where
+  pub unanswered : (text : List ℕ) (ending : Ending) → Answers command text ending → ⊥
+  pub unnamed : (answer : PlainAnswer) → Meets command answer → ⊥
+  pub small : MayBeLarge command → ⊥
+  pub untold : (text : List ℕ) → Tells command text → ⊥
+  pub says_over : (left : Option (List ℕ)) (input text : List ℕ) → IsInput left input
+      → AnswersWith batch_entries input command text done → SaysOver left command text
+
+-- a command with no defined coefficient and no weight is never too large
+not_large : (command : Command) → ((c : ℤ) → IsDefinedCoefficient command c → ⊥) → ((weight : ℕ) → HasWeight command weight → ⊥)
+    → MayBeLarge command → ⊥
+not_large command h k (inl large) = h large.0 large.1
+not_large command h k (inr heavy) = k heavy.0 heavy.1
+
+-- every command is one of the three
+pub kind : (command : Command) → NamesExpansion command ⊎ TellsLines command ⊎ RunsOthers command
+kind (tab outer inner last) = inr (inl (record { answers = λ t h. (h, refl); over = λ i t e h. h; alone = λ i t e h. h; unnamed = λ a h. h; small = not_large (tab outer inner last) (λ c h. h) (λ w h. h); says = λ t h. h; says_over = λ l t h. h }))
+kind (rsk w) = inr (inl (record { answers = λ t h. (h, refl); over = λ i t e h. h; alone = λ i t e h. h; unnamed = λ a h. h; small = not_large (rsk w) (λ c h. h) (λ w h. h); says = λ t h. h; says_over = λ l t h. h }))
+kind (unrsk p q) = inr (inl (record { answers = λ t h. (h, refl); over = λ i t e h. h; alone = λ i t e h. h; unnamed = λ a h. h; small = not_large (unrsk p q) (λ c h. h) (λ w h. h); says = λ t h. h; says_over = λ l t h. h }))
+kind (rect outer inner rows) = inr (inl (record { answers = λ t h. (h, refl); over = λ i t e h. h; alone = λ i t e h. h; unnamed = λ a h. h; small = not_large (rect outer inner rows) (λ c h. h) (λ w h. h); says = λ t h. h; says_over = λ l t h. h }))
+kind (growth w) = inr (inl (record { answers = λ t h. (h, refl); over = λ i t e h. h; alone = λ i t e h. h; unnamed = λ a h. h; small = not_large (growth w) (λ c h. h) (λ w h. h); says = λ t h. h; says_over = λ l t h. h }))
+kind batch = inr (inr (record { unanswered = λ t e h. h; unnamed = λ a h. h; small = not_large batch (λ c h. h) (λ w h. h); untold = λ t h. h; says_over = λ l i t is h. (i, is, h) }))
+kind (work lines seed) = inr (inr (record { unanswered = λ t e h. h; unnamed = λ a h. h; small = not_large (work lines seed) (λ c h. h) (λ w h. h); untold = λ t h. h; says_over = λ l i t is h. h.0 }))
+kind command = inl (record { answers = λ t e h. h; expands = λ t e h. h; over = λ i t e h. h; alone = λ i t e h. h; untold = λ t h. h; says = λ t h. h; says_over = λ l t h. h })
