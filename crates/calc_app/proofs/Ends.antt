@@ -115,6 +115,43 @@ lines_leave written count settled old new left now_left words status.NoMemory ru
 lines_leave written count settled old new left now_left words status.NoMemory runs (inr l) =
     inr (runs, record { front = l.1.front; piece = l.1.piece; took = l.1.took; is_ended = l.1.is_ended; is_front = l.1.is_front; text = l.1.text; ending = l.1.ending; outcome = runs_outcome words l.1.front l.1.text l.1.ending runs l.1.outcome; appended = l.1.appended })
 
+not_so : (blocks : List Block) (ending : Ending) → ending ≡ batch_ending blocks → (ending ≡ done) ⊎ (ending ≡ some_refused)
+not_so blocks ending is = by (are_done blocks) is
+  where
+    by : (x : Bool) → ending ≡ cond x done some_refused → (ending ≡ done) ⊎ (ending ≡ some_refused)
+    by true e = inl e
+    by false e = inr e
+
+no_syntax : (syntax ≡ done) ⊎ (syntax ≡ some_refused) → ⊥
+no_syntax (inl e) = cc
+no_syntax (inr e) = cc
+
+no_range : (range ≡ done) ⊎ (range ≡ some_refused) → ⊥
+no_range (inl e) = cc
+no_range (inr e) = cc
+
+no_past : (past ≡ done) ⊎ (past ≡ some_refused) → ⊥
+no_past (inl e) = cc
+no_past (inr e) = cc
+
+lines_end : {K : Type 0} (written : K → Option (List ℕ)) (count : K → Option ℕ) (settled : K → Bool) (old new : K)
+    (left now_left : Option (List ℕ)) (result : Status)
+    → Leaves written count settled old new left now_left (Unit {0}) (RunsInput batch_entries) result → IsAccepted batch result
+lines_end written count settled old new left now_left status.Done l = inl refl
+lines_end written count settled old new left now_left status.SomeRefused l = inr (inr (inr (refl, inl refl)))
+lines_end written count settled old new left now_left status.Syntax l = absurd (no_syntax (not_so l.outcome.blocks syntax l.outcome.ends))
+lines_end written count settled old new left now_left status.Range l = absurd (no_range (not_so l.outcome.blocks range l.outcome.ends))
+lines_end written count settled old new left now_left status.Past l = absurd (no_past (not_so l.outcome.blocks past l.outcome.ends))
+lines_end written count settled old new left now_left status.SinkFault l = inr (inr (inl (inr refl)))
+lines_end written count settled old new left now_left status.SourceFault l = inr (inr (inr (refl, inr refl)))
+lines_end written count settled old new left now_left status.NoMemory l = inr (inr (inl (inl refl)))
+
+pub lines_accepted : {K : Type 0} (written : K → Option (List ℕ)) (count : K → Option ℕ) (settled : K → Bool) (old new : K)
+    (left now_left : Option (List ℕ)) (result : Status) (command : Command) → command ≡ batch
+    → Leaves written count settled old new left now_left (Unit {0}) (RunsInput batch_entries) result → IsAccepted command result
+lines_accepted written count settled old new left now_left result command is l =
+    subst (λ c. IsAccepted c result) (sym is) (lines_end written count settled old new left now_left result l)
+
 -- ---- what the blocks of lines say
 
 line_says : (words : List (List ℕ)) (text : List ℕ) → IsLineOutcome batch_entries words text done → SaysLine words text

@@ -1,6 +1,7 @@
 -- Lemmas of the crate.
 pub mod CommandKinds
 pub mod Outcomes
+pub mod LinesAlone
 pub mod LinesRead
 pub mod Batches
 pub mod Ends

@@ -11,8 +11,7 @@ ghost use Rattle.calc_expressions.specs.Trees.{basis_of, tree_of};
 ghost use Rattle.calc_words.specs.WrittenLimits.{KeepsLimits};
 ghost use Rattle.calc_replies.specs.Computed.{IsReplyTo};
 
-use crate::form::Form;
-use crate::outcome::{Outcome, answered};
+use crate::outcome::{Outcome, as_block};
 use basis_change::is_table;
 use basis_expand::to_monomial;
 use calc_base::{NoMemory, SumFault, Weight};
@@ -36,10 +35,11 @@ pub(crate) fn composed(
     requires { KeepsLimits (commands.plethysm (basis_of target) (tree_of outer.now.tree) (tree_of inner.now.tree)) }
     ensures { IsReplyTo (commands.plethysm (basis_of target) (tree_of outer.now.tree) (tree_of inner.now.tree)) result }
 {
-    answered(
-        composition(alloc, target, outer, inner).map(|terms| Answer::Expansion { terms }),
-        Form::Block,
-    )
+    match composition(alloc, target, outer, inner) {
+        Ok(terms) => Ok(as_block(Answer::Expansion { terms })),
+        Err(SumFault::Large) => Ok(Outcome::Large),
+        Err(SumFault::NoMemory) => Err(NoMemory),
+    }
 }
 
 /// The plethysm in the target, in the printed order.

@@ -9,7 +9,7 @@ ghost use Rattle.calc_expressions.specs.Trees.{basis_of, tree_of};
 ghost use Rattle.calc_replies.specs.Computed.{IsReplyTo};
 
 use crate::form::asked_form;
-use crate::outcome::{Outcome, answered};
+use crate::outcome::Outcome;
 use basis_change::to_basis;
 use basis_expand::to_monomial;
 use calc_base::{NoMemory, SumFault};
@@ -31,10 +31,14 @@ pub(crate) fn expanded(
     requires { degree (tree_of formula.now.tree) ≤ degree_limit (basis_of target) }
     ensures { IsReplyTo (expand (basis_of target) one_line (tree_of formula.now.tree)) result }
 {
-    answered(
-        expansion(alloc, target, formula).map(|terms| Answer::Expansion { terms }),
-        asked_form(one_line, target),
-    )
+    match expansion(alloc, target, formula) {
+        Ok(terms) => Ok(Outcome::Answered {
+            answer: Answer::Expansion { terms },
+            form: asked_form(one_line, target),
+        }),
+        Err(SumFault::Large) => Ok(Outcome::Large),
+        Err(SumFault::NoMemory) => Err(NoMemory),
+    }
 }
 
 /// The expansion in the target, in the printed order.

@@ -55,6 +55,16 @@ pub enum Task {
     Put { outcome: Outcome },
 }
 
+/// The outcome that this answer is printed as a block.
+pub(crate) fn as_block(answer: Answer) -> Outcome
+    ensures { result ≡ Outcome.Answered answer Form.Block }
+{
+    Outcome::Answered {
+        answer,
+        form: Form::Block,
+    }
+}
+
 /// What comes of a command that names an expansion: its answer, which is printed in the form, or that this is too large.
 pub(crate) fn answered(answer: Result<Answer, SumFault>, form: Form) -> Result<Outcome, NoMemory>
     ensures { result ≡ reply_of answer form }

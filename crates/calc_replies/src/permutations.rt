@@ -3,9 +3,8 @@ ghost use Rattle.sym_model.specs.Command as commands;
 ghost use Rattle.calc_words.specs.WrittenLimits.{KeepsLimits};
 ghost use Rattle.calc_replies.specs.Computed.{IsReplyTo};
 
-use crate::form::Form;
-use crate::outcome::{Outcome, answered};
-use calc_base::NoMemory;
+use crate::outcome::{Outcome, as_block};
+use calc_base::{NoMemory, SumFault};
 use expansion_printer::Answer;
 use perm_codes::Perm;
 use schubert_transition::{Memo, schubert_terms};
@@ -15,20 +14,22 @@ use std::alloc::Global;
 pub(crate) fn schubert(alloc: Global, perm: &Perm) -> Result<Outcome, NoMemory>
     ensures { IsReplyTo (commands.schubert perm.now) result }
 {
-    answered(
-        schubert_terms(alloc, perm).map(|terms| Answer::Polynomial { terms }),
-        Form::Block,
-    )
+    match schubert_terms(alloc, perm) {
+        Ok(terms) => Ok(as_block(Answer::Polynomial { terms })),
+        Err(SumFault::Large) => Ok(Outcome::Large),
+        Err(SumFault::NoMemory) => Err(NoMemory),
+    }
 }
 
 /// The Schubert polynomial of a permutation, which may be kept already.
 pub(crate) fn schubert_by(memo: &mut Memo, perm: &Perm) -> Result<Outcome, NoMemory>
     ensures { IsReplyTo (commands.schubert perm.now) result }
 {
-    answered(
-        memo.schubert_terms(perm).map(|terms| Answer::Polynomial { terms }),
-        Form::Block,
-    )
+    match memo.schubert_terms(perm) {
+        Ok(terms) => Ok(as_block(Answer::Polynomial { terms })),
+        Err(SumFault::Large) => Ok(Outcome::Large),
+        Err(SumFault::NoMemory) => Err(NoMemory),
+    }
 }
 
 /// The product of two Schubert polynomials.
@@ -36,10 +37,11 @@ pub(crate) fn schubmult(alloc: Global, left: &Perm, right: &Perm) -> Result<Outc
     requires { KeepsLimits (commands.schubmult left.now right.now) }
     ensures { IsReplyTo (commands.schubmult left.now right.now) result }
 {
-    answered(
-        monk_product::schubmult(alloc, left, right).map(|terms| Answer::Permutations { terms }),
-        Form::Block,
-    )
+    match monk_product::schubmult(alloc, left, right) {
+        Ok(terms) => Ok(as_block(Answer::Permutations { terms })),
+        Err(SumFault::Large) => Ok(Outcome::Large),
+        Err(SumFault::NoMemory) => Err(NoMemory),
+    }
 }
 
 /// The product of two double Schubert polynomials.
@@ -47,10 +49,11 @@ pub(crate) fn dschubmult(alloc: Global, left: &Perm, right: &Perm) -> Result<Out
     requires { KeepsLimits (commands.dschubmult left.now right.now) }
     ensures { IsReplyTo (commands.dschubmult left.now right.now) result }
 {
-    answered(
-        double_schubert::dschubmult(alloc, left, right).map(|terms| Answer::Shifts { terms }),
-        Form::Block,
-    )
+    match double_schubert::dschubmult(alloc, left, right) {
+        Ok(terms) => Ok(as_block(Answer::Shifts { terms })),
+        Err(SumFault::Large) => Ok(Outcome::Large),
+        Err(SumFault::NoMemory) => Err(NoMemory),
+    }
 }
 
 /// The Stanley polynomial of a permutation, in so many variables.
@@ -58,8 +61,9 @@ pub(crate) fn stanley(alloc: Global, rows: u16, perm: &Perm) -> Result<Outcome, 
     requires { KeepsLimits (commands.stanley rows perm.now) }
     ensures { IsReplyTo (commands.stanley rows perm.now) result }
 {
-    answered(
-        stanley_expand::stanley(alloc, perm, rows).map(|terms| Answer::Product { terms }),
-        Form::Block,
-    )
+    match stanley_expand::stanley(alloc, perm, rows) {
+        Ok(terms) => Ok(as_block(Answer::Product { terms })),
+        Err(SumFault::Large) => Ok(Outcome::Large),
+        Err(SumFault::NoMemory) => Err(NoMemory),
+    }
 }

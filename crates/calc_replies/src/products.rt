@@ -4,8 +4,8 @@ ghost use Rattle.calc_words.specs.WrittenLimits.{KeepsLimits};
 ghost use Rattle.calc_replies.specs.Computed.{IsReplyTo};
 
 use crate::form::{Form, asked_form};
-use crate::outcome::{Outcome, answered};
-use calc_base::{Basis, NoMemory};
+use crate::outcome::{Outcome, answered, as_block};
+use calc_base::{Basis, NoMemory, SumFault};
 use expansion_printer::Answer;
 use lr_product::mult_all;
 use partitions::{Factors, Partition};
@@ -64,8 +64,9 @@ pub(crate) fn coef(
 pub(crate) fn coprod(alloc: Global, shape: &Partition) -> Result<Outcome, NoMemory>
     ensures { IsReplyTo (commands.coprod shape.now) result }
 {
-    answered(
-        lr_coproduct::coprod(alloc, shape).map(|terms| Answer::Pairs { terms }),
-        Form::Block,
-    )
+    match lr_coproduct::coprod(alloc, shape) {
+        Ok(terms) => Ok(as_block(Answer::Pairs { terms })),
+        Err(SumFault::Large) => Ok(Outcome::Large),
+        Err(SumFault::NoMemory) => Err(NoMemory),
+    }
 }

@@ -1,7 +1,7 @@
 use Rattle.std.proofs.Common.{map, refl, subst}
 use Rattle.std.specs.Prelude.{string_bytes}
 use Rattle.calc_app.proofs.Outcomes.{headline}
-use Rattle.calc_app.proofs.Ends.{put_leaves, put_accepted, put_offended, put_misspelt, lines_leave, lines_print}
+use Rattle.calc_app.proofs.Ends.{put_leaves, put_accepted, put_offended, put_misspelt, lines_leave, lines_accepted, lines_print}
 use Rattle.calc_replies.specs.declared.outcome.Task.{Task}
 use Rattle.calc_replies.specs.Computed.{IsTaskFor, AcceptsTask, RefusesTask, TaskGoesWrong}
 use Rattle.std.proofs.Common.{Ok}
@@ -24,6 +24,22 @@ returns-in-Ok-Lines-clause-offended g c = λ offence first. absurd (subst (λ (t
 
 pub returns-in-Ok-Lines-clause-no_command : goal.returns-in-Ok-Lines-clause-no_command
 returns-in-Ok-Lines-clause-no_command g c = λ word byte place. absurd (subst (λ (t : Task). TaskGoesWrong word byte (Ok t)) c.in-Ok-Lines.field-0-is (c.in-Ok-Lines.ensures.goes_wrong word byte place))
+
+pub returns-in-Ok-Lines-clause-accepted : goal.returns-in-Ok-Lines-clause-accepted
+returns-in-Ok-Lines-clause-accepted g c = λ command spelled.
+    lines_accepted g.K.Sink.written g.K.Sink.length g.K.Sink.settled c.args.sink.now c.batch.new.sink
+    (g.S.Source.left c.args.source.now) (g.S.Source.left c.batch.new.source) c.batch.result command
+    (subst (λ (t : Task). AcceptsTask command (Ok t)) c.in-Ok-Lines.field-0-is (c.in-Ok-Lines.ensures.accepts command spelled)) c.batch.ensures.leaves
+
+pub returns-in-Ok-Lines-clause-untouched : goal.returns-in-Ok-Lines-clause-untouched
+returns-in-Ok-Lines-clause-untouched g c = λ runs_none.
+    absurd (runs_none (subst (λ (t : Task). IsTaskFor (map string_bytes c.args.words.now) (Ok t)) c.in-Ok-Lines.field-0-is c.in-Ok-Lines.ensures.computes))
+
+pub returns-in-Ok-Put-clause-lines : goal.returns-in-Ok-Put-clause-lines
+returns-in-Ok-Put-clause-lines g c = λ runs. absurd ((subst (λ (t : Task). AcceptsTask batch (Ok t)) c.in-Ok-Put.field-0-is (c.in-Ok-Put.ensures.accepts batch runs)).1 refl)
+
+pub returns-in-Ok-Put-clause-all_read : goal.returns-in-Ok-Put-clause-all_read
+returns-in-Ok-Put-clause-all_read g c = λ runs. absurd ((subst (λ (t : Task). AcceptsTask batch (Ok t)) c.in-Ok-Put.field-0-is (c.in-Ok-Put.ensures.accepts batch runs)).1 refl)
 
 pub returns-in-Ok-Put-clause-headline : goal.returns-in-Ok-Put-clause-headline
 returns-in-Ok-Put-clause-headline g c =

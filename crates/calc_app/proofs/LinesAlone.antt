@@ -1,0 +1,29 @@
+-- A command of a line runs no other ones.
+use Rattle.std.proofs.Common.{ℕ, List, [], ◌∷◌, sym, subst, inl, inr}
+use Rattle.std.specs.Prelude.{Ok, Some}
+use Rattle.calc_commands.specs.Commands.{command_of}
+use Rattle.calc_commands.specs.declared.command.Command.{Command as Read}
+use Rattle.calc_language.specs.BuiltCommands.{batch_entries}
+use Rattle.calc_language.specs.Lines.{IsLineRead}
+use Rattle.calc_replies.specs.Computed.{RunsNoOther}
+use Rattle.sym_model.specs.BatchLine.{BatchLine, too_long, passed_over, spoken}
+use Rattle.sym_model.specs.Command.{Command}
+use Rattle.sym_model.specs.Entry.{Entry, SpellsWithoutOffence}
+use Rattle.sym_model.specs.Form.{Written, EachOf}
+
+some_alone : (entries : List Entry) (words : List (List ℕ)) (command : Command) → EachOf (λ e. (x : Written e.form) → RunsNoOther (e.says x)) entries
+    → SpellsWithoutOffence entries words command → RunsNoOther command
+some_alone [] words command each spelled = absurd spelled
+some_alone (e ∷ entries) words command each (inl h) = subst RunsNoOther (sym h.says_it) (each.0 h.has.written)
+some_alone (e ∷ entries) words command each (inr h) = some_alone entries words command each.1 h
+
+each_alone : EachOf (λ e. (x : Written e.form) → RunsNoOther (e.says x)) batch_entries
+each_alone = (
+  (λ x. tt),
+  ((λ x. tt), ((λ x. tt), ((λ x. tt), ((λ x. tt), ((λ x. tt), ((λ x. tt), ((λ x. tt), ((λ x. tt), ((λ x. tt), ((λ x. tt), ((λ x. tt), ((λ x. tt), tt)))))))))))),
+)
+
+pub read_alone : (line : BatchLine) (command : Read) → IsLineRead line (Ok (Some command)) → RunsNoOther (command_of command)
+read_alone too_long command read = absurd read
+read_alone passed_over command read = absurd read
+read_alone (spoken words) command read = some_alone batch_entries words (command_of command) each_alone read
