@@ -20,7 +20,7 @@ some_alone (e ∷ entries) words command each (inr h) = some_alone entries words
 each_alone : EachOf (λ e. (x : Written e.form) → RunsNoOther (e.says x)) batch_entries
 each_alone = (
   (λ x. tt),
-  ((λ x. tt), ((λ x. tt), ((λ x. tt), ((λ x. tt), ((λ x. tt), ((λ x. tt), ((λ x. tt), ((λ x. tt), ((λ x. tt), ((λ x. tt), ((λ x. tt), ((λ x. tt), tt)))))))))))),
+  ((λ x. tt), ((λ x. tt), ((λ x. tt), ((λ x. tt), ((λ x. tt), ((λ x. tt), ((λ x. tt), ((λ x. tt), ((λ x. tt), ((λ x. tt), ((λ x. tt), ((λ x. tt), ((λ x. tt), ((λ x. tt), ((λ x. tt), ((λ x. tt), tt)))))))))))))))),
 )
 
 pub read_alone : (line : BatchLine) (command : Read) → IsLineRead line (Ok (Some command)) → RunsNoOther (command_of command)
