@@ -21,6 +21,7 @@ mod products;
 mod reductions;
 mod scalar_rows;
 mod shapes;
+mod stanley_rows;
 mod strips;
 mod table_rows;
 mod texts;
@@ -44,6 +45,7 @@ fn main(rt: HostRuntime) -> anyhow::Result<()> {
     hooks::print(&rt)?;
     strips::print(&rt)?;
     kept::print(&rt)?;
+    stanley_rows::print(&rt)?;
     factors::print(&rt)?;
     plain::print(&rt)
 }

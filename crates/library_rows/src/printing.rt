@@ -83,7 +83,8 @@ pub fn sum(rt: &impl Print, what: &str, list: Lin<Partition, Int>) -> Result<()>
     shapes(rt, what, &sorted)
 }
 
-fn shapes(rt: &impl Print, what: &str, list: &Terms<Partition, Int>) -> Result<()> {
+/// Prints terms with whole numbers.
+pub fn shapes(rt: &impl Print, what: &str, list: &Terms<Partition, Int>) -> Result<()> {
     start(rt, what)?;
     for (shape, c) in list.iter() {
         term(rt, &c.get(), shape.parts())?;
