@@ -2,9 +2,12 @@
 
 Each script is called with the path of the program, prints a line for each mismatch, and ends with status 0 where there is none,
 1 where there is one, and 77 where what it compares with can't be had."""
+import os
 import re
 import subprocess
+import tempfile
 from collections import Counter
+from fractions import Fraction
 
 SECONDS = 120
 
@@ -20,6 +23,16 @@ def run(*words, given="", check=False):
     return subprocess.run(words, input=given, capture_output=True, text=True, check=check, timeout=SECONDS)
 
 
+def symmetrica(requests):
+    """Symmetrica's answers, by the driver beside this file; none where that can't be built."""
+    source = os.path.join(os.path.dirname(os.path.abspath(__file__)), "symmetrica.c")
+    with tempfile.TemporaryDirectory() as folder:
+        driver = os.path.join(folder, "symmetrica")
+        if run("cc", "-O1", "-w", "-o", driver, source, "-lsymmetrica").returncode:
+            return None
+        return printed(driver, given="".join(request + "\n" for request in requests)).split("--\n")
+
+
 def numbers(label):
     """The numbers of a label, without zeros."""
     return tuple(int(a) for a in re.findall(r"\d+", label) if a != "0")
@@ -31,7 +44,7 @@ def terms(text, label=numbers):
     for line in text.splitlines():
         if line.strip() not in ("", "0"):
             coefficient, rest = line.split("  ", 1)
-            found[label(rest)] += int(coefficient)
+            found[label(rest)] += Fraction(coefficient)
     return found
 
 

@@ -1,5 +1,6 @@
-/* Answers of Symmetrica, one request a line on standard input: `schubert 1 3 2` prints the Schubert polynomial, a line for
-   each monomial: its coefficient, two spaces and its exponents. A line `--` ends each answer. */
+/* Answers of Symmetrica, one request a line on standard input. `schubert 1 3 2` prints the Schubert polynomial, a line for
+   each monomial: its coefficient, two spaces and its exponents. `plethysm s 2h2,1+1m1 3p1` prints the plethysm of the two sums
+   in the basis s, a line for each partition. A line `--` ends each answer. */
 #include <stdio.h>
 #include <stdlib.h>
 #include <string.h>
@@ -22,11 +23,9 @@ static void print_terms(OP sum, int whole_words)
         OP c = whole_words ? S_PO_K(z) : S_S_K(z);
         if (nullp(c))
             continue;
-        /* its own printing breaks long lines */
-        if (S_O_K(c) == INTEGER)
-            printf("%ld", (long)S_I_I(c));
-        else
-            fprint(stdout, c);
+        /* its own printing breaks what it takes for long lines */
+        zeilenposition = 0;
+        fprint(stdout, c);
         fputs("  ", stdout);
         INT n = whole_words ? S_V_LI(label) : S_PA_LI(label);
         for (INT i = 0; i < n; i++)
@@ -45,20 +44,85 @@ static void schubert(int n, const int *letters)
     freeall(f);
 }
 
+/* An atom, in m. */
+static OP atom(char letter, int n, const int *parts)
+{
+    OP v = vector_of(n, parts), label = callocobject(), f = callocobject(), g = callocobject();
+    b_ks_pa(VECTOR, v, label);
+    switch (letter) {
+    case 'm': m_pa_mon(label, g); break;
+    case 's': m_pa_s(label, f); t_SCHUR_MONOMIAL(f, g); break;
+    case 'h': m_pa_h(label, f); t_HOMSYM_MONOMIAL(f, g); break;
+    case 'e': m_pa_e(label, f); t_ELMSYM_MONOMIAL(f, g); break;
+    case 'p': m_pa_ps(label, f); t_POWSYM_MONOMIAL(f, g); break;
+    }
+    return g;
+}
+
+/* A sum of atoms with coefficients, in m. */
+static OP sum_of(char *text)
+{
+    OP sum = callocobject();
+    init(MONOMIAL, sum);
+    for (char *word = strtok(text, "+"); word != NULL; word = strtok(NULL, "+")) {
+        int parts[16], n = 0;
+        OP c = callocobject(), term = callocobject(), more = callocobject();
+        M_I_I((INT)strtol(word, &word, 10), c);
+        char letter = *word++;
+        while (*word) {
+            parts[n++] = strtol(word, &word, 10);
+            if (*word == ',')
+                word++;
+        }
+        /* Symmetrica's partitions rise */
+        for (int i = 0; i < n / 2; i++) {
+            int a = parts[i];
+            parts[i] = parts[n - 1 - i];
+            parts[n - 1 - i] = a;
+        }
+        mult(c, atom(letter, n, parts), term);
+        add(sum, term, more);
+        sum = more;
+    }
+    return sum;
+}
+
+static void plethysm_in(char target, char *outer, char *inner)
+{
+    OP f = sum_of(outer), g = sum_of(inner), in_m = callocobject(), answer = callocobject();
+    if (nullp(f))
+        return;
+    plet_monomial_monomial(f, g, in_m);
+    switch (target) {
+    case 'm': copy(in_m, answer); break;
+    case 's': t_MONOMIAL_SCHUR(in_m, answer); break;
+    case 'h': t_MONOMIAL_HOMSYM(in_m, answer); break;
+    case 'e': t_MONOMIAL_ELMSYM(in_m, answer); break;
+    case 'p': t_MONOMIAL_POWSYM(in_m, answer); break;
+    }
+    print_terms(answer, 0);
+    freeall(in_m);
+    freeall(answer);
+}
+
 int main(void)
 {
     static char line[1 << 16];
     anfang();
     while (fgets(line, sizeof line, stdin)) {
         int numbers[64], n = 0;
-        char *word = strtok(line, " \n");
-        char *name = word;
+        char *words[64];
+        char *name = strtok(line, " \n");
         if (name == NULL)
             continue;
-        while ((word = strtok(NULL, " \n")) != NULL)
-            numbers[n++] = atoi(word);
-        if (strcmp(name, "schubert") == 0)
+        while ((words[n] = strtok(NULL, " \n")) != NULL)
+            n++;
+        if (strcmp(name, "schubert") == 0) {
+            for (int i = 0; i < n; i++)
+                numbers[i] = atoi(words[i]);
             schubert(n, numbers);
+        } else if (strcmp(name, "plethysm") == 0)
+            plethysm_in(*words[0], words[1], words[2]);
         puts("--");
         fflush(stdout);
     }

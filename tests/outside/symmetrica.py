@@ -2,13 +2,11 @@
 """Compares Schubert polynomials with Symmetrica (Debian's libsymmetrica2-dev): `symmetrica.py PROGRAM`.
 
 It builds the driver beside it and asks both for 200 permutations of up to 9 letters, made with a fixed seed."""
-import os
 import random
 import re
 import sys
-import tempfile
 
-from common import Differences, printed, random_permutation, run, terms
+from common import Differences, printed, random_permutation, symmetrica, terms
 
 
 def exponents(label):
@@ -21,14 +19,10 @@ def exponents(label):
 
 def main():
     calc, rng, differences = sys.argv[1], random.Random(8), Differences()
-    source = os.path.join(os.path.dirname(os.path.abspath(__file__)), "symmetrica.c")
     permutations = [random_permutation(rng, 9) for _ in range(200)]
-    asked = "".join("schubert " + " ".join(map(str, w)) + "\n" for w in permutations)
-    with tempfile.TemporaryDirectory() as folder:
-        driver = os.path.join(folder, "symmetrica")
-        if run("cc", "-O1", "-w", "-o", driver, source, "-lsymmetrica").returncode:
-            return 77
-        answers = printed(driver, given=asked).split("--\n")
+    answers = symmetrica(["schubert " + " ".join(map(str, w)) for w in permutations])
+    if answers is None:
+        return 77
     for w, answer in zip(permutations, answers):
         ours = terms(printed(calc, "schubert", *w), exponents)
         differences.compare(f"schubert {w}", ours, terms(answer, exponents))

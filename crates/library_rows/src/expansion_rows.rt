@@ -1,22 +1,29 @@
-//! Rows of expansions of expressions and of their products.
-ghost use Rattle.std.specs.Prelude.{◌≤◌, IfOk};
+//! Rows of expansions of expressions, of their products and of a plethysm.
+ghost use Rattle.std.specs.Prelude.{◌≡◌, ◌≤◌, [], ◌∷◌, IfOk};
+ghost use Rattle.sym_model.specs.Expansion.{completes};
+ghost use Rattle.sym_model.specs.Expression.{atom};
+ghost use Rattle.calc_expressions.specs.Trees.{tree_of};
 ghost use Rattle.sparse_polys.specs.MonomialProducts.{greatest_size};
 
 use crate::printing::{expansion, sum};
 use anyhow::Result;
+use basis_change::is_table;
 use basis_expand::to_monomial;
-use calc_expressions::{Basis, Expr, Formula};
-use coeff_rings::Int;
+use calc_base::SumFault;
+use calc_expressions::{Basis, Expr, Formula, Weight};
+use coeff_rings::{Frac, Int};
 use direct_schurs::to_schur;
 use partitions::Partition;
+use plethysm::plethysm;
 use row_texts::said;
 use sparse_polys::{Lin, times_in_m};
 use std::alloc::Global;
 
-/// Prints the rows of expansions in m and in s, and of a product in m.
+/// Prints the rows of expansions in m and in s, of a plethysm, and of a product in m.
 pub fn print(rt: &(impl Print + Alloc<A = Global>)) -> Result<()> {
     in_monomials(rt, formula(rt.alloc(), Basis::S, &[2, 1])?)?;
     in_schurs(rt, formula(rt.alloc(), Basis::P, &[3])?)?;
+    plethysm_row(rt)?;
     sum(rt, "m_1 m_1", square(rt.alloc())?)
 }
 
@@ -38,6 +45,26 @@ fn in_schurs(rt: &(impl Print + Alloc<A = Global>), formula: Option<Formula>) ->
         Some(formula) => expansion(rt, "p_3 in s", to_schur(rt.alloc(), &formula)?),
         None => said(rt, "p_3 in s", &"no formula"),
     }
+}
+
+/// Prints h_2[h_2] in s.
+fn plethysm_row(rt: &(impl Print + Alloc<A = Global>)) -> Result<()> {
+    let label = Partition::from_parts(rt.alloc(), &[2])?;
+    let basis = Basis::H;
+    match Formula::from_tree(Expr::Atom { basis, label }) {
+        Ok(formula) => expansion(rt, "h_2 of h_2 in s", composed(rt.alloc(), &formula)?),
+        Err(_) => said(rt, "h_2 of h_2 in s", &"no formula"),
+    }
+}
+
+/// F[F] in s, for F = h_2.
+fn composed(alloc: Global, formula: &Formula) -> Result<Lin<Partition, Frac>, SumFault>
+    requires { tree_of formula.now.tree ≡ atom completes (2 ∷ []) }
+{
+    let list = to_monomial(alloc, formula)?;
+    let bound = Weight { num: 1, den: 1 };
+    is_table(&list);
+    plethysm(alloc, &list, bound, &list, bound, Basis::S)
 }
 
 /// m_1.
