@@ -2,6 +2,7 @@
 //! What it prints is compared with `stdout`, whose lines were written from the definitions and from outside values.
 #![tactic(auto)]
 
+mod double_rows;
 mod expansion_rows;
 mod expressions;
 mod factors;
@@ -42,6 +43,7 @@ fn main(rt: HostRuntime) -> anyhow::Result<()> {
     expansion_rows::print(&rt)?;
     texts::print(&rt)?;
     products::print(&rt)?;
+    double_rows::print(&rt)?;
     hooks::print(&rt)?;
     strips::print(&rt)?;
     kept::print(&rt)?;
