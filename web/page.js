@@ -6,10 +6,12 @@ const COMMANDS = [
   ["Products of Schur functions, in at most so many variables, on one line", ["mult 2 1 - 2 1", "mult -r 2 2 1 - 2 1", "mult -m 1 - 1 - 1"]],
   ["Skew Schur functions, a coefficient, coproducts", ["skew 3 2 1 / 2 1", "coef 3 2 1 - 2 1 - 2 1", "coprod 2 1"]],
   ["Quantum and fusion products", ["quantum 2 2 1 - 2 1", "fusion 3 2 2 1 - 2 1"]],
-  ["Schubert polynomials and their products", ["schubert 2 1 4 3", "schubmult 1 3 2 - 1 3 2"]],
+  ["Schubert polynomials and their products, single and double", ["schubert 2 1 4 3", "schubmult 1 3 2 - 1 3 2", "dschubmult 2 1 - 2 1"]],
+  ["Stanley polynomials in so many variables", ["stanley -r 2 2 1 4 3"]],
   ["An expression in the basis m, e, h, p or s", ["expand p s[2,1]", "expand s h[2]*p[1]", "expand -m s 1/2*p[1,1]-1/2*p[2]"]],
   ["Lattice tableaux, insertion and its inverse, slides", ["tab 3 2 1 / 2 1", "rsk 3 1 2", "unrsk 1 2 / 3 - 1 3 / 2", "rect 2 2 / 1 - 1 / 1 2"]],
-  /*MORE COMMANDS*/
+  ["Plethysm", ["plethysm s h[2] h[2]"]],
+  ["Growth grids", ["growth 3 1 2"]],
 ];
 
 // ---- answers as values
