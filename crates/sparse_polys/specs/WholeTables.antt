@@ -1,5 +1,5 @@
 -- Tables with whole coefficients, seen through sums over their terms (this project's own).
-use Rattle.std.specs.Prelude.{◌≡◌, ℕ, ◌+◌, ◌≤◌, ℤ, ◌+ℤ◌, ◌*ℤ◌, nat_abs, [], ◌∷◌}
+use Rattle.std.specs.Prelude.{ℕ, ◌+◌, ℤ, ◌*ℤ◌, nat_abs, [], ◌∷◌}
 use Rattle.sym_model.specs.Sum.{total, Among}
 use Rattle.sym_model.specs.Expansion.{Fraction, Terms}
 
