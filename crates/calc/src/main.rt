@@ -5,7 +5,7 @@
 use calc_app::run;
 use calc_base::{Status, StdIn, StdOut};
 use std::alloc::Global;
-use std::io::{BufWriter, ErrorKind, LineWriter};
+use std::io::{BufWriter, ErrorKind};
 use std::process::ExitCode;
 use std::rt::Env;
 use std::{env, io};
@@ -24,19 +24,13 @@ fn main(rt: HostRuntime) -> ExitCode {
     }
 }
 
-/// Runs the words. The text is written in large pieces, but for a batch, of which each line is written when it is whole: who
-/// sends a line and waits for its block gets it.
+/// Runs the words. The text is written in large pieces; `run` finishes the output where a batch has no further line to run, so that
+/// who sends a line and waits for its block gets it.
 fn status_of(rt: &HostRuntime, words: &[String]) -> Status {
-    let mut source = StdIn::new(rt.stdin());
-    if words.len() == 1 && words[0].as_str() == "batch" {
-        let Ok(writer) = LineWriter::new(rt.alloc(), rt.stdout()) else {
-            return Status::NoMemory;
-        };
-        return run(rt.alloc(), words, &mut source, &mut StdOut::new(writer));
-    }
     let Ok(writer) = BufWriter::new(rt.alloc(), rt.stdout()) else {
         return Status::NoMemory;
     };
+    let mut source = StdIn::new(rt.stdin());
     run(rt.alloc(), words, &mut source, &mut StdOut::new(writer))
 }
 
