@@ -4,7 +4,7 @@ from __future__ import annotations
 import subprocess
 from typing import Any, Callable, Iterable, Iterator, NamedTuple, Optional, Sequence, Union
 
-from ._answers import Expansion, Number, Numbers, Pair, Tableau, number, numbers, rows, spoken
+from ._answers import Expansion, Numbers, Pair, Tableau, numbers, rows, spoken
 from ._refusals import Refusal
 from ._ways import Pipe, found
 
@@ -144,6 +144,22 @@ class Calculator:
         """
         return Expansion.of(self.text("schubmult", left, "-", right), "permutations")
 
+    def dschubmult(self, left: Shape, right: Shape) -> Expansion:
+        """The product of two double Schubert polynomials: a permutation and the exponents of a monomial in y.
+
+        >>> Calculator().dschubmult([1], [2, 1])
+        {((2, 1), ()): 1}
+        """
+        return Expansion.of(self.text("dschubmult", left, "-", right), "shifts")
+
+    def stanley(self, rows: int, perm: Shape) -> Expansion:
+        """The Stanley polynomial of a permutation in so many variables, in Schur functions of at most so many rows.
+
+        >>> Calculator().stanley(2, [2, 1, 4, 3])
+        {(2,): 1, (1, 1): 1}
+        """
+        return Expansion.of(self.text("stanley", "-r", rows, perm), "symmetric")
+
     # ---- changes of basis
 
     def expand(self, target: str, expression: str) -> Expansion:
@@ -153,6 +169,14 @@ class Calculator:
         {(3,): Fraction(-1, 3), (1, 1, 1): Fraction(1, 3)}
         """
         return Expansion.of(self._checked(f"expand {target} {expression}"), "symmetric", target)
+
+    def plethysm(self, target: str, outer: str, inner: str) -> Expansion:
+        """The plethysm of two expressions in a basis: the variables of the first replaced by the monomials of the second.
+
+        >>> Calculator().plethysm("s", "h[2]", "h[2]")
+        {(4,): 1, (2, 2): 1}
+        """
+        return Expansion.of(self._checked(f"plethysm {target} {outer} {inner}"), "symmetric", target)
 
     # ---- tableaux
 
@@ -205,6 +229,14 @@ class Calculator:
         ((1, 1), (2,))
         """
         return rows(self.text("rect", outer, "/", inner, "-", spoken(tableau)).rstrip("\n"))
+
+    def growth(self, perm: Shape) -> "tuple[tuple[Numbers, ...], ...]":
+        """The growth grid of a permutation of n letters: the shapes at (i, 0) to (i, n), for i = 0 to n.
+
+        >>> Calculator().growth([1])
+        (((), ()), ((), (1,)))
+        """
+        return tuple(tuple(map(numbers, line.split(" "))) for line in self.text("growth", perm).splitlines())
 
     # ---- many commands
 

@@ -24,13 +24,13 @@ fn main(rt: HostRuntime) -> ExitCode {
     }
 }
 
-/// Runs the words. The text is written in large pieces, and that of a batch at the latest where it waits for further lines: who
-/// sends a line and waits for its block gets it.
+/// Runs the words. The text is written in large pieces; `run` finishes the output where a batch has no further line to run, so that
+/// who sends a line and waits for its block gets it.
 fn status_of(rt: &HostRuntime, words: &[String]) -> Status {
-    let mut source = StdIn::new(rt.stdin());
     let Ok(writer) = BufWriter::new(rt.alloc(), rt.stdout()) else {
         return Status::NoMemory;
     };
+    let mut source = StdIn::new(rt.stdin());
     run(rt.alloc(), words, &mut source, &mut StdOut::new(writer))
 }
 

@@ -122,15 +122,7 @@ module _ {R : Type 0} {is_held : R → Type 0} {value : R → Fraction} {checked
       let right : r.right ≡ b = same_value r.right b r.right_value in
       let none = r.refused in
       cc
-
   -- where the next product has an answer, no product so far is refused
-  pub products-next : {L : Type 0} (done : List (L × R)) (k : L) (a c s : R) → checked a c ≡ Some s → ((t : L × Fraction) → Among t (terms_of value done) → IsRefused is_held value checked t.1 (value c) → ⊥) → (t : L × Fraction) → Among t (terms_of value (done ++ (k, a) ∷ [])) → IsRefused is_held value checked t.1 (value c) → ⊥
-  products-next {L} [] k a c s e before t (inl here) r =
-      answered a c s e (subst (λ (u : L × Fraction). IsRefused is_held value checked u.1 (value c)) here r)
-  products-next [] k a c s e before t (inr none) r = absurd none
-  products-next (x ∷ done) k a c s e before t (inl here) r = before t (inl here) r
-  products-next (x ∷ done) k a c s e before t (inr m) r =
-      products-next done k a c s e (λ u n. before u (inr n)) t m r
 
 -- the next pair stands among the terms
 pub among-next : {L R : Type 0} (value : R → Fraction) (done : List (L × R)) (k : L) (a : R) (rest : List (L × R)) → Among (k, value a) (terms_of value (done ++ (k, a) ∷ rest))

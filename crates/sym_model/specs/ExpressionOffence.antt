@@ -145,8 +145,3 @@ first_of (o ∷ os) = earlier (Some o) (first_of os)
 -- the first offence comes before the second one: at a lower byte, or at the same byte by its kind
 abbrev pub ComesBefore : WordOffence → WordOffence → Type 0
 ComesBefore o p = (o.0 < p.0) ⊎ ((o.0 ≡ p.0) × (rank o.1 < rank p.1))
-
--- the word spells an expression that is to be expanded into the target, and offends first by this, or by nothing
-abbrev pub OffendsFirst : Basis → List ℕ → Option WordOffence → Type 0
-OffendsFirst target word first =
-    (phrase : Phrase) × SpellsPhrase word phrase × (first_of (offences target phrase) ≡ first)

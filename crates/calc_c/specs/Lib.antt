@@ -1,0 +1,2 @@
+-- What the contracts of the C library cite.
+pub mod Calls
