@@ -4,7 +4,6 @@ use Rattle.std.proofs.lemmas.Bool.{and_parts, le-leb, eq-eqb, true≢false}
 use Rattle.std.proofs.lemmas.List.{length-map}
 use Rattle.sym_model.specs.Sum.{select, Among}
 use Rattle.sym_model.specs.Partition.{IsCell, Falls, part, rows, after, cells}
-use Rattle.sym_model.specs.Polynomial.{same}
 use Rattle.sym_model.specs.Schur.{words, row_lengths, fillings_of, semistandard, contains, tableaux, letters_of}
 use Rattle.sym_model.specs.GoodTableau.{column_reading, is_among, is_good, good_tableaux}
 use Rattle.sym_model.specs.Tableau.{are_letters}

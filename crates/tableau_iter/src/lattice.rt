@@ -1,5 +1,7 @@
 //! Good tableaux, one at a time.
-ghost use Rattle.std.specs.Prelude.{◌≡◌, ℕ, ◌+◌, ◌<◌, ◌≤◌, [], ◌∷◌, false, true, length, IfOk, IfSome, IsErrOf, IsSome, None, OnOk};
+ghost use Rattle.std.specs.Prelude.{◌≡◌, ◌++◌, ◌↔◌, ℕ, ◌+◌, ◌<◌, ◌≤◌, [], ◌∷◌, IsTrue, false, true, length, IfOk, IfSome, IsErrOf, IsSome, None, OnOk};
+ghost use Rattle.std.specs.Option.{option_to_list};
+ghost use Rattle.std.specs.Bool.{OnFalse};
 ghost use Rattle.sym_model.specs.GoodTableau.{good_readings, is_among};
 ghost use Rattle.sym_model.specs.TableauList.{later_than};
 ghost use Rattle.sym_model.specs.Partition.{cells, size};
@@ -109,7 +111,13 @@ impl Lister for Lattice {
 
     ghost item = { λ l. l.item };
 
-    fn advance(&mut self) -> bool {
+    fn advance(&mut self) -> bool
+        ensures next { self.old.rest ≡ option_to_list self.new.item ++ self.new.rest }
+        ensures found { IsTrue result ↔ IsSome self.new.item }
+        ensures ended { OnFalse result (self.old.rest ≡ []) }
+        ensures start { self.new.start ≡ self.old.start }
+        ensures letters { self.new.letters ≡ self.old.letters }
+    {
         self.walker.advance()
     }
 

@@ -1,5 +1,6 @@
 //! The words whose letters all fit in a board, as a lister.
-ghost use Rattle.std.specs.Prelude.{◌≡◌, ℕ, [], ◌∷◌, length, IfSome, IsSome};
+ghost use Rattle.std.specs.Prelude.{◌≡◌, ◌++◌, ◌↔◌, ℕ, [], ◌∷◌, length, IfSome, IsSome, IsTrue};
+ghost use Rattle.std.specs.Option.{option_to_list};
 ghost use Rattle.std.specs.Bool.{OnTrue, OnFalse};
 ghost use Rattle.sym_model.specs.Polynomial.{join};
 ghost use Rattle.sym_model.specs.Schur.{content};
@@ -53,7 +54,13 @@ impl Lister for Walker {
 
     ghost item = { λ w. w.item };
 
-    fn advance(&mut self) -> bool {
+    fn advance(&mut self) -> bool
+        ensures next { self.old.rest ≡ option_to_list self.new.item ++ self.new.rest }
+        ensures found { IsTrue result ↔ IsSome self.new.item }
+        ensures ended { OnFalse result (self.old.rest ≡ []) }
+        ensures start { self.new.start ≡ self.old.start }
+        ensures letters { self.new.letters ≡ self.old.letters }
+    {
         if !step(&mut self.board, self.stage) {
             self.stage = Stage::Ended;
             return false;
