@@ -113,19 +113,6 @@ pair_double_monk m q k w φ o e n =
 pub pair_doubles : (m : ℕ) (ws : List (List ℕ)) (φ : List ℕ → ℤ) → pair (doubles m ws) φ ≡ total (paired m φ) ws
 pair_doubles m ws φ = pair_each (λ (w : List ℕ). double_schubert w m) ws φ
 
--- (x_r - y_w(r))·S_w is the sum over the covers above less that over the covers below
-pub double_monk : (m r : ℕ) (w : List ℕ) → IsOneLine w → 1 ≤ r → max (length w) r < m
-    → Same (times (difference_in r (letter w r) m) (double_schubert w m)) (plus (doubles m (covers_up r w)) (negate (doubles m (covers_down r w))))
-double_monk m zero w o h n = λ α. absurd (omega arith)
-double_monk m (suc q) w o h n =
-    same_from_pair (times (difference_in (suc q) (letter w (suc q)) m) (double_schubert w m)) (plus (doubles m (covers_up (suc q) w)) (negate (doubles m (covers_down (suc q) w)))) (λ φ.
-    let a = pair_double_monk m q (max (length w) (suc q) - length w) w φ o refl (omega arith) in
-    let b = pair_plus (doubles m (covers_up (suc q) w)) (negate (doubles m (covers_down (suc q) w))) φ in
-    let c = pair_negate (doubles m (covers_down (suc q) w)) φ in
-    let d = pair_doubles m (covers_up (suc q) w) φ in
-    let e = pair_doubles m (covers_down (suc q) w) φ in
-    omega (arith, ints))
-
 -- ---- the transition rule
 
 abbrev pub DoubleRule : ℕ → List ℕ → ℕ → List ℕ → Type 0

@@ -33,10 +33,6 @@ use Rattle.monk_product.proofs.EntrySums.{power_positive}
 use native.Mathlib.Nat.{mul-le-mul_left}
 use lib.IntN.{+ℤ_idr, +ℤ_idl}
 
--- the greatest number of letters, and that with the inversions
-abbrev pub letters_of : List ℕ → List ℕ → ℕ
-letters_of w other = max (length w) (length other)
-
 abbrev pub base_of : List ℕ → List ℕ → ℕ
 base_of w other = max (length w) (length other) + inversions w
 

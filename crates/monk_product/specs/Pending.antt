@@ -4,7 +4,7 @@ use Rattle.sym_model.specs.Sum.{total, Among}
 use Rattle.sym_model.specs.Partition.{size}
 use Rattle.schubert_transition.specs.TermLists.{over}
 use Rattle.schubert_transition.specs.Transitions.{acted}
-pub use Rattle.schubert_transition.specs.Todo.{weigh}
+use Rattle.schubert_transition.specs.Todo.{weigh}
 use Rattle.monk_product.specs.declared.pending.Pending.{Pending}
 use Rattle.monk_product.specs.Monk.{mass, AreShort}
 

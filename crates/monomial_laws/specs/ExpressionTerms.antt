@@ -63,10 +63,3 @@ HasDenominators (negation e) = HasDenominators e
 HasDenominators (sum e f) = HasDenominators e × HasDenominators f
 HasDenominators (difference e f) = HasDenominators e × HasDenominators f
 HasDenominators (product e f) = HasDenominators e × HasDenominators f
-
--- the list is bounded by N and D: the denominator of each coefficient c divides D, and |c|·D ≤ N·d!/Π λ_i! for its label λ of
--- size d
-abbrev pub AreBounded : ℕ → ℕ → Terms (List ℕ) → Type 0
-AreBounded N D terms =
-    (t : List ℕ × Fraction) → Among t terms
-    → (t.1.1 ∣ D) × (nat_abs t.1.0 * D * factorials t.0 ≤ N * factorial (size t.0) * t.1.1)

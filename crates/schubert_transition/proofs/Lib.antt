@@ -1,5 +1,4 @@
 pub mod Ranks
-pub mod Members
 pub mod Monomials
 pub mod Acted
 pub mod TermSums

@@ -2,7 +2,7 @@
 --     weights_less    so many lower permutations weigh less than the one that they come of
 use Rattle.std.proofs.Common.{◌≡◌, ℕ, zero, suc, ◌+◌, ◌-◌, ◌*◌, ◌^◌, ◌<◌, ◌≤◌, List, refl, sym, ap, ◌∙◌, arith}
 use Rattle.schubert_transition.specs.Transitions.{rank, weight}
-pub use Rattle.schubert_laws.proofs.Ranks.{letter_within, rank_lower}
+pub use Rattle.schubert_laws.proofs.Ranks.{rank_lower}
 use native.Mathlib.Nat.{mul-le-mul_left, pow-suc}
 
 pow_positive : (k : ℕ) → 1 ≤ 256 ^ k

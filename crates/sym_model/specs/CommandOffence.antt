@@ -142,10 +142,6 @@ permutation_rule_within most count before a =
     ++ when (nat_lt most a || (length before == most)) range
     ++ when (is_outside count a || stands_in a before) shape
 
--- a number of a permutation of so many letters: one past 16, the 17th, and as above
-abbrev pub permutation_rule : ℕ → Rule
-permutation_rule count = permutation_rule_within most_permuted count
-
 -- a letter of a word: 0, one past 65,535, the 257th
 abbrev pub letter_rule : Rule
 letter_rule before a =

@@ -5,7 +5,7 @@ use Rattle.sym_model.specs.Expansion.{Fraction, Terms}
 use Rattle.sym_model.specs.Kind.{LabelRules, label_rules, expansion}
 use Rattle.sym_model.specs.Canonical.{is_canonical_by, is_printable}
 use Rattle.sym_model.specs.NumberText.{cut_at, fraction_of}
-pub use Rattle.sym_model.specs.NumberText.{fraction_text, numbers_text, label_text, split_at, without_last, value_from, decimal_value}
+pub use Rattle.sym_model.specs.NumberText.{fraction_text, numbers_text, label_text, split_at, value_from, decimal_value}
 
 -- the line of a term: its coefficient and the text of its label
 abbrev pub line_by : {Label : Type 0} → LabelRules Label → Label × Fraction → List ℕ

@@ -47,8 +47,7 @@ plethysm-requires-clause-sizes c =
     let a = degree (tree_of c.args.outer.now.tree) in
     let b = degree (tree_of c.args.inner.now.tree) in
     let x = greatest-within a c.args.list.now c.requires.labels in
-    let y = greatest-within b c.in_ok-monomials.monomials c.in_ok-monomials.ensures.labels in
-    (
+    let y = greatest-within b c.in_ok-monomials.monomials c.in_ok-monomials.ensures.labels in (
       omega (arith, x, c.requires.limits.0),
       omega (arith, y, c.requires.limits.1),
       omega (arith, mul-le (greatest_size c.args.list.now) (greatest_size c.in_ok-monomials.monomials) a b x y, c.requires.limits.2),
