@@ -19,7 +19,8 @@ enum calc_status {
     CALC_SYNTAX = 2,       /* the words are no command; the text is `! Syntax W:B` */
     CALC_RANGE = 3,        /* a limit is passed, or a list is none that may stand there: `! Range W:B` or `! Shape W:B` */
     CALC_PAST = 4,         /* a number is past 2^127 - 1, or the answer is: `! Literal W:B` or `! Large` */
-    CALC_NO_MEMORY = 7     /* memory was refused; the text is a front of the answer or nothing */
+    CALC_NO_TEXT = 5,      /* memory was refused for the text, which is a front of the answer */
+    CALC_NO_MEMORY = 7     /* memory was refused for the answer; of a batch the text has the answers of its first lines */
 };
 
 /* Runs the command that the words of the line name.

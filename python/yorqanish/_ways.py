@@ -9,8 +9,8 @@ import subprocess
 import threading
 from typing import Iterator, Optional, Protocol
 
-# The statuses of a command, as the program's exit codes.
-DONE, SOME_REFUSED, NO_MEMORY = 0, 1, 7
+# The statuses by which a command says that memory was refused: for the text, which the library alone does, or for the answer.
+NO_TEXT, NO_MEMORY = 5, 7
 
 
 class NoCalculator(RuntimeError):
@@ -59,7 +59,7 @@ class Library:
 
     def block(self, line: str) -> str:
         status, text = self.run(line.encode())
-        if status == NO_MEMORY:
+        if status in (NO_TEXT, NO_MEMORY):
             raise MemoryError("calc was refused memory")
         return text.decode()
 

@@ -4,7 +4,7 @@
 ghost use Rattle.std.specs.Prelude.{◌≡◌, ◌<◌, ◌≤◌, ℕ, [], Some, codes, length, take, map, string_bytes};
 ghost use Rattle.calc_app.specs.Top.{PrintsAnswerTo, PrintsLines, RunsLines, IsThrough};
 ghost use Rattle.calc_base.specs.Status.{code_of};
-ghost use Rattle.calc_c.specs.Calls.{IsRefusedIn};
+ghost use Rattle.calc_c.specs.Calls.{IsRefusedIn, IsRefusedAs};
 ghost use Rattle.calc_language.specs.BuiltCommands.{command_entries};
 ghost use Rattle.calc_words.specs.LineBytes.{seen};
 ghost use Rattle.sym_model.specs.BatchLine.{words_of_line};
@@ -27,7 +27,8 @@ const PIECE: usize = 4096;
 /// program ends with it.
 ///
 /// The words stand between spaces and tabs. `needed` becomes the length of the text. Where the buffer has room for it, the text
-/// is at its front; where it has not, the buffer is as it was, and the call is to be made again with more room.
+/// is at its front; where it has not, the buffer is as it was, and the call is to be made again with more room. Code 5 says that
+/// memory was refused for the text, and 7 that it was refused for the answer.
 #[unsafe(no_mangle)]
 pub extern "C" fn calc_run(
     alloc: Global,
@@ -44,9 +45,9 @@ pub extern "C" fn calc_run(
 
     // Words with a first offence, and words that are no command, are refused by their own line.
     ensures offended { (offence : Offence) → HasFirstOffence command_entries (map seen (words_of_line line.now)) (Some offence)
-        → IsRefusedIn (ending_of offence.2) (offence_line offence) needed.new out.new result }
+        → IsRefusedAs (ending_of offence.2) (offence_line offence) needed.new out.new result }
     ensures no_command { (word byte : ℕ) → IsSyntaxPlace command_entries (map seen (words_of_line line.now)) word byte
-        → IsRefusedIn syntax (refusal_line (codes "Syntax") word byte) needed.new out.new result }
+        → IsRefusedAs syntax (refusal_line (codes "Syntax") word byte) needed.new out.new result }
 
     ensures untouched { length out.new < needed.new → out.new ≡ out.old }
 {
@@ -71,9 +72,9 @@ fn run_words(
     ensures lines { RunsLines (map string_bytes words.now) → IsThrough result → needed.new ≤ length out.new
         → PrintsLines [] (Some input.now) (Some (take needed.new out.new)) }
     ensures offended { (offence : Offence) → HasFirstOffence command_entries (map string_bytes words.now) (Some offence)
-        → IsRefusedIn (ending_of offence.2) (offence_line offence) needed.new out.new (code_of result) }
+        → IsRefusedIn (ending_of offence.2) (offence_line offence) needed.new out.new result }
     ensures no_command { (word byte : ℕ) → IsSyntaxPlace command_entries (map string_bytes words.now) word byte
-        → IsRefusedIn syntax (refusal_line (codes "Syntax") word byte) needed.new out.new (code_of result) }
+        → IsRefusedIn syntax (refusal_line (codes "Syntax") word byte) needed.new out.new result }
     ensures untouched { length out.new < needed.new → out.new ≡ out.old }
 {
     let Ok(mut source) = MemSource::new(alloc, input, PIECE, &[]) else {
@@ -82,11 +83,7 @@ fn run_words(
     let mut sink = GrowingSink::new(alloc);
     let status = run(alloc, words, &mut source, &mut sink);
     *needed = put_front(out, sink.bytes());
-    match status {
-        // The sink fails only where memory is refused.
-        Status::SinkFault => Status::NoMemory,
-        _ => status,
-    }
+    status
 }
 
 /// Copies the text to the front of the buffer, where it has room, and answers the text's length.
