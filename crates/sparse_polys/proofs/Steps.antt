@@ -122,7 +122,6 @@ module _ {R : Type 0} {is_held : R → Type 0} {value : R → Fraction} {checked
       let right : r.right ≡ b = same_value r.right b r.right_value in
       let none = r.refused in
       cc
-  -- where the next product has an answer, no product so far is refused
 
 -- the next pair stands among the terms
 pub among-next : {L R : Type 0} (value : R → Fraction) (done : List (L × R)) (k : L) (a : R) (rest : List (L × R)) → Among (k, value a) (terms_of value (done ++ (k, a) ∷ rest))
