@@ -3,6 +3,8 @@
 
 const encoder = new TextEncoder();
 const decoder = new TextDecoder();
+/** That the module had no room left for a line or its text, as the program says with its status 7. */
+const refused = new Error("no memory");
 let module, exports, needed;
 
 /** A fresh instance: nothing of an earlier call is left in it. */
@@ -14,7 +16,7 @@ function start() {
 /** The bytes in the memory of the module, and where. */
 function put(bytes) {
   const at = exports.room(BigInt(bytes.length + 1));
-  if (at === 0n) throw new Error("no memory");
+  if (at === 0n) throw refused;
   new Uint8Array(exports.memory.buffer, Number(at), bytes.length).set(bytes);
   return at;
 }
@@ -25,7 +27,7 @@ function run(line, input) {
   const at = put(words), from = put(given);
   for (let room = 1 << 16; ; ) {
     const out = exports.room(BigInt(room));
-    if (out === 0n) return { status: 7, text: "" };
+    if (out === 0n) throw refused;
     const status = exports.calc_run(at, BigInt(words.length), from, BigInt(given.length), out, BigInt(room), needed) & 255;
     const length = Number(new DataView(exports.memory.buffer).getBigUint64(Number(needed), true));
     const text = length <= room ? decoder.decode(new Uint8Array(exports.memory.buffer, Number(out), length)) : "";
@@ -53,7 +55,7 @@ onmessage = async ({ data }) => {
     answer = run(data.line, data.input || "");
   } catch (error) {
     // A trap, as where no stack is left, leaves the instance in no known state: it is thrown away whole.
-    answer = { status: -1, text: `${error.message}\n` };
+    answer = error === refused ? { status: 7, text: "" } : { status: -1, text: `${error.message}\n` };
     start();
   }
   postMessage({ ...answer, line: data.line, time: performance.now() - began });

@@ -1,6 +1,7 @@
 /* Answers of Symmetrica, one request a line on standard input. `schubert 1 3 2` prints the Schubert polynomial, a line for
    each monomial: its coefficient, two spaces and its exponents. `plethysm s 2h2,1+1m1 3p1` prints the plethysm of the two sums
-   in the basis s, a line for each partition. A line `--` ends each answer. */
+   in the basis s, a line for each partition. `change h e 3,1,1` prints h of the partition in the basis e in this way, and `table h e 15`
+   changes all partitions of 15, one by one, and prints how many terms there are in all. A line `--` ends each answer. */
 #include <stdio.h>
 #include <stdlib.h>
 #include <string.h>
@@ -105,6 +106,72 @@ static void plethysm_in(char target, char *outer, char *inner)
     freeall(answer);
 }
 
+static const char BASES_IN_ORDER[] = "mehps";
+
+/* The changes of an element of one basis into another, by the places of their letters. */
+static INT (*const CHANGE_OF[5][5])() = {
+    {NULL, t_MONOMIAL_ELMSYM, t_MONOMIAL_HOMSYM, t_MONOMIAL_POWSYM, t_MONOMIAL_SCHUR},
+    {t_ELMSYM_MONOMIAL, NULL, t_ELMSYM_HOMSYM, t_ELMSYM_POWSYM, t_ELMSYM_SCHUR},
+    {t_HOMSYM_MONOMIAL, t_HOMSYM_ELMSYM, NULL, t_HOMSYM_POWSYM, t_HOMSYM_SCHUR},
+    {t_POWSYM_MONOMIAL, t_POWSYM_ELMSYM, t_POWSYM_HOMSYM, NULL, t_POWSYM_SCHUR},
+    {t_SCHUR_MONOMIAL, t_SCHUR_ELMSYM, t_SCHUR_HOMSYM, t_SCHUR_POWSYM, NULL},
+};
+
+/* An element of a basis in another one. */
+static OP changed(char from, char target, OP label)
+{
+    OP one = callocobject(), f = callocobject();
+    switch (from) {
+    case 'm': m_pa_mon(label, one); break;
+    case 'e': m_pa_e(label, one); break;
+    case 'h': m_pa_h(label, one); break;
+    case 'p': m_pa_ps(label, one); break;
+    case 's': m_pa_s(label, one); break;
+    }
+    CHANGE_OF[strchr(BASES_IN_ORDER, from) - BASES_IN_ORDER][strchr(BASES_IN_ORDER, target) - BASES_IN_ORDER](one, f);
+    freeall(one);
+    return f;
+}
+
+/* The partition that is written with its parts falling. */
+static OP label_of(char *text)
+{
+    int parts[64], n = 0;
+    for (char *word = strtok(text, ","); word != NULL; word = strtok(NULL, ","))
+        parts[n++] = atoi(word);
+    for (int i = 0; i < n / 2; i++) {
+        int a = parts[i];
+        parts[i] = parts[n - 1 - i];
+        parts[n - 1 - i] = a;
+    }
+    OP label = callocobject();
+    b_ks_pa(VECTOR, vector_of(n, parts), label);
+    return label;
+}
+
+static void change(char from, char target, char *parts)
+{
+    OP label = label_of(parts), f = changed(from, target, label);
+    print_terms(f, 0);
+    freeall(label);
+    freeall(f);
+}
+
+static void table(char from, char target, int size)
+{
+    OP parts = callocobject(), of = callocobject();
+    long terms = 0;
+    M_I_I((INT)size, of);
+    makevectorofpart(of, parts);
+    for (INT i = 0; i < S_V_LI(parts); i++) {
+        OP f = changed(from, target, S_V_I(parts, i));
+        for (OP z = f; z != NULL; z = S_S_N(z))
+            terms++;
+        freeall(f);
+    }
+    printf("%ld\n", terms);
+}
+
 int main(void)
 {
     static char line[1 << 16];
@@ -123,6 +190,10 @@ int main(void)
             schubert(n, numbers);
         } else if (strcmp(name, "plethysm") == 0)
             plethysm_in(*words[0], words[1], words[2]);
+        else if (strcmp(name, "change") == 0)
+            change(*words[0], *words[1], words[2]);
+        else if (strcmp(name, "table") == 0)
+            table(*words[0], *words[1], atoi(words[2]));
         puts("--");
         fflush(stdout);
     }
