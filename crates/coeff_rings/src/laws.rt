@@ -1,7 +1,7 @@
 //! Laws of the fractions that scalars stand for, each carried by the contract of a function.
-ghost use Rattle.std.specs.Prelude.{◌≡◌, ℕ, ℤ, pos, negsuc, ◌<◌, ◌*ℤ◌};
+ghost use Rattle.std.specs.Prelude.{◌≡◌, ℕ, ℤ, pos, ◌<◌, ◌*ℤ◌};
 ghost use Rattle.sym_model.specs.Expansion.{Fraction};
-ghost use Rattle.coeff_rings.specs.Fractions.{InLowestTerms, lowest_terms, fraction_sum, fraction_difference, fraction_product, fraction_quotient};
+ghost use Rattle.coeff_rings.specs.Fractions.{InLowestTerms, lowest_terms};
 ghost use Rattle.coeff_rings.specs.Laws.{SumLaws, RingLaws, FieldLaws};
 
 /// Each quotient of a whole number by a positive one is one fraction in lowest terms.
@@ -18,12 +18,4 @@ pub fn field_law()
     ensures sums { SumLaws InLowestTerms (λ r. r) }
     ensures products { RingLaws InLowestTerms (λ r. r) }
     ensures quotients { FieldLaws InLowestTerms (λ r. r) }
-{}
-
-/// 1/6 and 1/3 add up to 1/2, 1/6 less 1/3 is -1/6, -4/9 times 3/8 is -1/6, and -1/3 over -2/9 is 3/2.
-pub fn fraction_examples()
-    ensures sum { fraction_sum (pos 1, 6) (pos 1, 3) ≡ (pos 1, 2) }
-    ensures difference { fraction_difference (pos 1, 6) (pos 1, 3) ≡ (negsuc 0, 6) }
-    ensures product { fraction_product (negsuc 3, 9) (pos 3, 8) ≡ (negsuc 0, 6) }
-    ensures quotient { fraction_quotient (negsuc 0, 3) (negsuc 1, 9) ≡ (pos 3, 2) }
 {}

@@ -13,5 +13,5 @@ pub use count::Count;
 pub use digits::Digits;
 pub use frac::Frac;
 pub use int::Int;
-pub use laws::{field_law, fraction_examples, lowest_terms_law};
+pub use laws::{field_law, lowest_terms_law};
 pub use scalar::{Field, Ring, Scalar};

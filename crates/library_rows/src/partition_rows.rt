@@ -160,6 +160,6 @@ fn arrangements(rt: &(impl Print + Alloc<A = Global>)) -> Result<()> {
     if shape.rows() > 3 {
         return Ok(());
     }
-    let mut list = Arrangements::new(&shape, 3)?;
+    let mut list = Arrangements::new(rt.alloc(), &shape, 3)?;
     listed(rt, "(2,1) in 3 places", &mut list)
 }

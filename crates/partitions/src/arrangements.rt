@@ -34,13 +34,13 @@ impl Model for Arrangements {
 impl Arrangements {
     /// The arrangements of the parts of `shape` in so many places, none of them current. There are at least as many
     /// places as parts, and at most 512.
-    pub fn new(shape: &Partition, places: u16) -> Result<Arrangements, NoMemory>
+    pub fn new(alloc: Global, shape: &Partition, places: u16) -> Result<Arrangements, NoMemory>
         requires rows { rows shape.now ≤ places }
         requires few { places ≤ 512 }
         ensures rest { IfOk result (λ l. ⟦<Arrangements as Lister>⟧.rest l ≡ arrangements shape.now places) }
         ensures item { IfOk result (λ l. ⟦<Arrangements as Lister>⟧.item l ≡ None) }
     {
-        let mut numbers = Vec::from_slice(shape.allocator(), shape.parts())?;
+        let mut numbers = Vec::from_slice(alloc, shape.parts())?;
         numbers.resize(usize::from(places), 0)?;
         Ok(Arrangements {
             numbers,

@@ -108,11 +108,6 @@ impl Partition {
         self.parts.as_slice()
     }
 
-    /// The allocator that this partition's parts would be kept with.
-    pub(crate) fn allocator(&self) -> Global {
-        *self.parts.allocator()
-    }
-
     /// The size: the sum of the parts, which is the number of cells.
     pub fn size(&self) -> u16
         ensures value { result ≡ size self.now }

@@ -1,34 +1,31 @@
 -- Expansions of products of Schur polynomials with one factor more, by the classical products of the labels.
-use Rattle.std.proofs.Common.{◌≡◌, ℕ, ◌+◌, ◌≤◌, ◌<◌, inl, inr, List, [], ◌∷◌, ◌++◌, map, refl, sym, ◌∙◌, ap, ap₂, subst, arith, ℤ, pos, ◌*ℤ◌, Option, Some, None}
+use Rattle.std.proofs.Common.{◌≡◌, ℕ, ◌+◌, ◌≤◌, ◌<◌, inl, inr, List, [], ◌∷◌, ◌++◌, refl, sym, ◌∙◌, ap, ap₂, subst, arith, pos, Option, Some, None}
 use Rattle.sym_model.specs.Sum.{each, Among}
-use Rattle.sym_model.specs.Polynomial.{Poly, Term, Same, nothing, coefficient, scale, times, pair}
+use Rattle.sym_model.specs.Polynomial.{Poly, Term, Same, nothing, coefficient, scale, times}
 use Rattle.sym_model.specs.Partition.{IsPartition, rows}
 use Rattle.sym_model.specs.Schur.{schur}
 use Rattle.sym_model.specs.GoodTableau.{product_count}
 use Rattle.sym_model.specs.Expansion.{Fraction, Terms}
 use Rattle.sym_model.specs.WholeTerms.{WholeTerms, AreWhole, as_fractions, numerators}
-use Rattle.sym_model.specs.Kind.{product}
-use Rattle.sym_model.specs.Answer.{answer}
-use Rattle.sym_model.specs.Command.{mult}
-use Rattle.sym_model.specs.Target.{Meets, schur_product, ExpandsInSchurs, classical_product}
+use Rattle.sym_model.specs.Target.{schur_product, ExpandsInSchurs, classical_product}
 use Rattle.sym_model.proofs.Sums.{Among_from_map}
-use Rattle.sym_model.proofs.Polynomials.{pair_times, pair_zero, pair_exchange, same_from_pair, Same_refl, Same_trans, times_respects}
+use Rattle.sym_model.proofs.Polynomials.{pair_times, pair_zero, same_from_pair, Same_refl, Same_trans, times_respects}
 use Rattle.alternant_laws.specs.GoodSums.{ListsCounts}
 use Rattle.alternant_laws.proofs.ClassicalProducts.{classical_product-coefficient, classical_product-term}
 use Rattle.alternant_laws.proofs.CountedTerms.{product_coefficients, product_counts_stable, mult_meets}
 use Rattle.alternant_laws.proofs.SchurProducts.{schur_few_variables}
-use Rattle.product_laws.specs.FactorSteps.{ArePartitions, multiplied, products_of}
+use Rattle.product_laws.specs.FactorSteps.{multiplied, products_of}
 use Rattle.product_laws.proofs.Expansions.{every_step, limited_step}
 use Rattle.product_laws.specs.CountedProducts.{IsShownIn}
 use Rattle.product_laws.proofs.Growing.{two_rows}
 
 -- ---- lists of whole numbers written as fractions
 
-numerators-as_fractions : (terms : WholeTerms) → numerators (as_fractions terms) ≡ terms
+pub numerators-as_fractions : (terms : WholeTerms) → numerators (as_fractions terms) ≡ terms
 numerators-as_fractions [] = refl
 numerators-as_fractions (t ∷ terms) = ap (λ l. t ∷ l) (numerators-as_fractions terms)
 
-AreWhole-as_fractions : (terms : WholeTerms) → AreWhole (as_fractions terms)
+pub AreWhole-as_fractions : (terms : WholeTerms) → AreWhole (as_fractions terms)
 AreWhole-as_fractions [] = tt
 AreWhole-as_fractions (t ∷ terms) = (refl, AreWhole-as_fractions terms)
 
@@ -38,7 +35,7 @@ each_same f g (x ∷ xs) e = ap₂ ◌++◌ (e x) (each_same f g xs e)
 
 -- ---- two factors
 
-two_listed : (k m : ℕ) (left right : List ℕ) → IsPartition left → IsPartition right → m ≤ k
+pub two_listed : (k m : ℕ) (left right : List ℕ) → IsPartition left → IsPartition right → m ≤ k
     → ((t : Term) → Among t (classical_product k (left ∷ right ∷ [])) → rows t.0 ≤ m)
     → ListsCounts m (product_count m left right) (as_fractions (classical_product k (left ∷ right ∷ [])))
 two_listed k m left right p q h few = record {

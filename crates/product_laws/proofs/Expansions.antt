@@ -16,7 +16,7 @@ use Rattle.sym_model.proofs.WholeTerms.{denominators_of_whole, value_of_whole, r
 use Rattle.product_laws.specs.FactorSteps.{products_of}
 use Rattle.product_laws.proofs.ManyFactors.{product-last}
 
-whole_value : (terms : Terms (List ℕ)) (n : ℕ) (f : Poly) → AreWhole terms → IsExpansionOf schurs terms n f 1 → Same (combined (λ label. schur label n) (numerators terms)) f
+pub whole_value : (terms : Terms (List ℕ)) (n : ℕ) (f : Poly) → AreWhole terms → IsExpansionOf schurs terms n f 1 → Same (combined (λ label. schur label n) (numerators terms)) f
 whole_value terms n f w e α =
     ap (λ g. coefficient g α) (sym (value_of_whole schurs terms n w))
     ∙ sym (coefficient_scale (pos 1) (value schurs terms n) α ∙ one-product (coefficient (value schurs terms n) α))

@@ -5,9 +5,8 @@ use Rattle.std.specs.Prelude.{◌≤ℤ◌, nat_abs, nat_le, nat_lt}
 use Rattle.std.proofs.lemmas.Bool.{cases_lt}
 use Rattle.std.proofs.lemmas.Int.{ints}
 use Rattle.sym_model.specs.Sum.{select, Among}
-use Rattle.sym_model.specs.Polynomial.{Term, same, coefficient, scale, times}
+use Rattle.sym_model.specs.Polynomial.{Term, same, coefficient, scale}
 use Rattle.sym_model.specs.Partition.{IsPartition, size, rows}
-use Rattle.sym_model.specs.Schur.{schur}
 use Rattle.sym_model.specs.Alternant.{schur_coefficient}
 use Rattle.sym_model.specs.PartitionList.{partitions_of}
 use Rattle.sym_model.specs.WholeTerms.{WholeTerms}

@@ -3,11 +3,16 @@ pub mod ManyFactors
 pub mod Fusion
 pub mod Quantum
 pub mod RimHookSteps
+pub mod GatheredLists
+pub mod LeadingSteps
+pub mod FusionSteps
+pub mod QuantumSteps
 pub mod Expansions
 pub mod CountLists
 pub mod SomeLabel
 pub mod Growing
 pub mod Expanding
+pub mod TwoLists
 pub mod ExponentLists
 pub mod StripShapes
 pub mod StaircaseProducts

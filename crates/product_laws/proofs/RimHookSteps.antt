@@ -24,19 +24,28 @@ each_shape : (k : ℕ) (terms : WholeTerms) → ((t : List ℕ × ℤ) → Among
 each_shape k [] p = tt
 each_shape k (t ∷ terms) p = (p t (inl refl), each_shape k terms (λ u m. p u (inr m)))
 
+-- the labels of the classical product are partitions with few rows
+pub classical_labels : (k : ℕ) (factors : List (List ℕ)) → EachLabel (λ shape. IsPartition shape × (rows shape ≤ k)) (classical_product k factors)
+classical_labels k factors =
+    each_shape k (classical_product k factors) (λ t m. let c = classical_product-term k factors t m in (c.partition, c.few))
+
+-- and their reductions are those by remainders
+pub classical_only : (k n : ℕ) (factors : List (List ℕ)) (reductions : List Reduction) → 1 ≤ n → AreReductions k n (classical_product k factors) reductions
+    → reductions ≡ reductions_of k n (classical_product k factors)
+classical_only k n factors reductions h =
+    are_only k n (classical_product k factors) reductions h (λ t m. (classical_product-term k factors t m).partition)
+
 pub rim_hook_step : (k n : ℕ) (front : List (List ℕ)) (next : List ℕ) (terms after : Terms (ℕ × List ℕ)) → 1 ≤ n → ArePartitions front → IsPartition next
     → IsRimHookReduction k n (classical_product k front) terms
     → ((label : ℕ × List ℕ) → coefficient_by same_power (numerators after) label ≡ coefficient_by same_power (quantized k n next (numerators terms)) label)
     → IsRimHookReduction k n (classical_product k (front ++ (next ∷ []))) after
 rim_hook_step k n front next terms after h p q r e = record {
   reductions = reductions_of k n (classical_product k (front ++ (next ∷ [])));
-  reduce =
-      are_reductions k n (classical_product k (front ++ (next ∷ []))) h
-      (each_shape k (classical_product k (front ++ (next ∷ []))) (λ t m. let c = classical_product-term k (front ++ (next ∷ [])) t m in (c.partition, c.few)));
+  reduce = are_reductions k n (classical_product k (front ++ (next ∷ []))) h (classical_labels k (front ++ (next ∷ [])));
   sums = λ label.
       e label
       ∙ quantum_step k n front next (numerators terms) h p q (λ l.
       r.sums l
       ∙ ap (λ (list : List Reduction). coefficient_by same_power (reduced_terms (classical_product k front) list) l)
-      (are_only k n (classical_product k front) r.reductions h (λ t m. (classical_product-term k front t m).partition) r.reduce)) label;
+      (classical_only k n front r.reductions h r.reduce)) label;
 }

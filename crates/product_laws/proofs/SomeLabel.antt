@@ -1,10 +1,10 @@
 -- The product of two Schur polynomials of partitions with at most k rows is not 0 in k variables, so some label is there: at
 -- ones each of the two is the number of its tableaux.
-use Rattle.std.proofs.Common.{◌≡◌, ℕ, suc, ◌+◌, ◌*◌, ◌≤◌, inl, inr, cond, List, [], ◌∷◌, length, map, refl, sym, ◌∙◌, ap, subst, arith, ℤ, pos, ◌*ℤ◌}
+use Rattle.std.proofs.Common.{◌≡◌, ℕ, suc, ◌≤◌, inl, inr, cond, List, [], ◌∷◌, length, map, refl, sym, ◌∙◌, ap, subst, arith, ℤ, pos, ◌*ℤ◌}
 use Rattle.std.proofs.lemmas.Int.{ints}
 use Rattle.std.proofs.Math.Nat.{mul-suc}
 use Rattle.sym_model.specs.Sum.{Among}
-use Rattle.sym_model.specs.Polynomial.{Poly, Term, In, Same, nothing, join, times, pair}
+use Rattle.sym_model.specs.Polynomial.{Poly, Term, Same, nothing, join, times, pair}
 use Rattle.sym_model.specs.Partition.{IsPartition, rows}
 use Rattle.sym_model.specs.Schur.{schur, tableaux, content, letters_of}
 use Rattle.sym_model.specs.Alternant.{alternant, staircase, schur_coefficient}
@@ -12,7 +12,7 @@ use Rattle.sym_model.specs.WholeTerms.{WholeTerms}
 use Rattle.sym_model.specs.Target.{classical_product}
 use Rattle.sym_model.proofs.Ring.{product-one}
 use Rattle.sym_model.proofs.Exponents.{same_refl}
-use Rattle.sym_model.proofs.Polynomials.{at_only, coefficient_pair, pair_factor, pair_times, pair_zero, pair_determined, same_from_pair, Same_sym, Same_trans, In_times}
+use Rattle.sym_model.proofs.Polynomials.{at_only, coefficient_pair, pair_factor, pair_times, pair_zero, pair_determined, same_from_pair, In_times}
 use Rattle.alternant_laws.proofs.Staircase.{staircase_cancels}
 use Rattle.alternant_laws.proofs.GoodAlternants.{In-skew_schur}
 use Rattle.alternant_laws.proofs.CountedTerms.{schur_coefficient_of_schur}

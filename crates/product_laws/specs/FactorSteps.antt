@@ -16,6 +16,10 @@ ArePartitions factors = (parts : List ℕ) → Among parts factors → IsPartiti
 abbrev pub multiplied : ℕ → List ℕ → WholeTerms → WholeTerms
 multiplied k next terms = each (λ (t : List ℕ × ℤ). scale t.1 (classical_product k (t.0 ∷ next ∷ []))) terms
 
+-- in place of each two labels, one of each list, their classical product
+abbrev pub list_product : ℕ → WholeTerms → WholeTerms → WholeTerms
+list_product k left right = each (λ (t : List ℕ × ℤ). scale t.1 (multiplied k t.0 left)) right
+
 -- in place of each label its classical product with one more factor, reflected into the alcove
 abbrev pub fused : ℕ → ℕ → List ℕ → WholeTerms → WholeTerms
 fused k n next terms = each (λ (t : List ℕ × ℤ). scale t.1 (reflected_terms k n (classical_product k (t.0 ∷ next ∷ [])))) terms

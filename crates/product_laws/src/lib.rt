@@ -11,8 +11,8 @@ mod reductions;
 mod strip_products;
 
 pub use positive_products::positive_products_law;
-pub use products::several_products_law;
-pub use reductions::reductions_law;
+pub use products::{several_products_law, two_lists_law};
+pub use reductions::{reductions_in_steps_law, reductions_law};
 pub use strip_products::{
     list_growth_law, list_product_law, murnaghan_nakayama_law, pieri_law, strip_count_law,
 };

@@ -9,7 +9,7 @@ ghost use Rattle.row_insertion.specs.RowLists.{rows_in, straight, with_row};
 
 use calc_base::NoMemory;
 use partitions::Partition;
-use skew_shapes::{Filled, Skew, Standard, Tableau};
+use skew_shapes::{Filled, Skew, Standard, Tableau, filling_with_reading};
 use std::alloc::Global;
 
 /// The straight tableau with these rows.
@@ -18,7 +18,7 @@ pub(crate) fn tableau_of(alloc: Global, rows: &[Vec<u16>]) -> Result<Tableau, No
     requires few { size (shape_of (rows_in rows.now)) ≤ 512 }
     ensures { IfOk result (λ t. t ≡ straight (rows_in rows.now)) }
 {
-    let mut filled = Filled::with_reading(alloc, straight_shape(alloc, rows)?, &[])?;
+    let mut filled = filling_with_reading(alloc, straight_shape(alloc, rows)?, &[])?;
     for at in 0..filled.shape().outer().rows() {
         put_row(&mut filled, at + 1, &rows[usize::from(at)]);
     }

@@ -15,8 +15,8 @@ use calc_base::NoMemory;
 use std::alloc::Global;
 use std::marker::Model;
 
-/// A skew shape with a number in each of its cells, with no rule among these numbers. None of its calls takes memory:
-/// its places are those of the tableau that it was made from.
+/// A skew shape with a number in each of its cells, with no rule among these numbers. Its places are taken when it is
+/// made, one for each cell of its outer partition, and no public call of it takes memory.
 #[derive(Debug, Drop)]
 pub struct Filled {
     shape: Skew,
@@ -37,27 +37,6 @@ impl Model for Filled {
 }
 
 impl Filled {
-    /// The filling of a shape with this column reading: letters past the last cell are left out, and cells past the last
-    /// letter have the number 0.
-    pub fn with_reading(alloc: Global, shape: Skew, reading: &[u16]) -> Result<Filled, NoMemory>
-        ensures { IfOk result (λ f. f ≡ filled_with shape.0 shape.1 reading.now) }
-    {
-        let starts = row_starts(alloc, shape.outer().parts())?;
-        let mut numbers = vec![in alloc; 0u16; usize::from(shape.outer().size())]?;
-        put_columns(
-            &mut numbers,
-            &starts,
-            shape.outer().parts(),
-            shape.inner().parts(),
-            reading,
-        );
-        Ok(Filled {
-            shape,
-            starts,
-            numbers,
-        })
-    }
-
     /// An equal filling.
     pub(crate) fn copy(&self) -> Result<Filled, NoMemory>
         ensures { IfOk result (λ f. f ≡ self.now) }
@@ -209,4 +188,25 @@ impl Filled {
             without_first(self.row(row + 1), usize::from(shift)),
         )
     }
+}
+
+/// The filling of a shape with this column reading: letters past the last cell are left out, and cells past the last
+/// letter have the number 0.
+pub fn filling_with_reading(alloc: Global, shape: Skew, reading: &[u16]) -> Result<Filled, NoMemory>
+    ensures { IfOk result (λ f. f ≡ filled_with shape.0 shape.1 reading.now) }
+{
+    let starts = row_starts(alloc, shape.outer().parts())?;
+    let mut numbers = vec![in alloc; 0u16; usize::from(shape.outer().size())]?;
+    put_columns(
+        &mut numbers,
+        &starts,
+        shape.outer().parts(),
+        shape.inner().parts(),
+        reading,
+    );
+    Ok(Filled {
+        shape,
+        starts,
+        numbers,
+    })
 }

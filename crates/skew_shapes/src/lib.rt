@@ -17,7 +17,7 @@ mod vertical_strips;
 
 pub use calc_base::Word;
 pub use fault::TableauFault;
-pub use filled::Filled;
+pub use filled::{Filled, filling_with_reading};
 pub use hooks_added::HooksAdded;
 pub use hooks_removed::HooksRemoved;
 pub use horizontal_strips::HorizontalStrips;

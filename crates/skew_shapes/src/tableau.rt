@@ -1,10 +1,10 @@
 //! The type of a semistandard tableau.
-ghost use Rattle.std.specs.Prelude.{◌≡◌, ◌≢◌, ◌≤◌, ◌↔◌, false, length, IfOk, OnOk, IsErrOf};
+ghost use Rattle.std.specs.Prelude.{◌≡◌, ◌≢◌, ◌≤◌, ◌↔◌, false, length, IfOk, OnOk, IsErrOf, ◌⊎◌};
 ghost use Rattle.sym_model.specs.GoodTableau.{column_reading};
 ghost use Rattle.sym_model.specs.Partition.{cells, rows};
 ghost use Rattle.skew_shapes.specs.CellFillings.{IsTableauWithin, entry_at, filled_with, is_tableau, row_of};
 
-use crate::{Filled, Skew, TableauFault, Word};
+use crate::{Filled, Skew, TableauFault, Word, filling_with_reading};
 use calc_base::NoMemory;
 use std::alloc::Global;
 use std::marker::Model;
@@ -31,8 +31,8 @@ impl Tableau {
     /// The tableau of a shape with this column reading: the columns from the rightmost to the leftmost, each from top to
     /// bottom.
     ///
-    /// It is refused as `Length` where the number of entries is not that of the cells, else as `Order` where the filling
-    /// is not semistandard with entries at least 1.
+    /// It is refused as `Length` exactly where the number of entries is not that of the cells, else, where there is memory
+    /// for the filling, as `Order` exactly where that is not semistandard with entries at least 1.
     pub fn from_reading(
         alloc: Global,
         shape: Skew,
@@ -43,11 +43,13 @@ impl Tableau {
         ensures length { IsErrOf result TableauFault.Length ↔ (length reading.now ≢ length (cells shape.0 shape.1)) }
         ensures order_only_there { IsErrOf result TableauFault.Order
             → (length reading.now ≡ length (cells shape.0 shape.1)) × (is_tableau (filled_with shape.0 shape.1 reading.now) ≡ false) }
+        ensures order { (length reading.now ≡ length (cells shape.0 shape.1)) → is_tableau (filled_with shape.0 shape.1 reading.now) ≡ false
+            → IsErrOf result TableauFault.Order ⊎ IsErrOf result TableauFault.NoMemory }
     {
         if reading.len() != usize::from(shape.cells()) {
             return Err(TableauFault::Length);
         }
-        let filled = match Filled::with_reading(alloc, shape, reading) {
+        let filled = match filling_with_reading(alloc, shape, reading) {
             Ok(filled) => filled,
             Err(NoMemory) => return Err(TableauFault::NoMemory),
         };

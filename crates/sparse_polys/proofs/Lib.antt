@@ -19,6 +19,7 @@ pub mod ListSteps
 pub mod NewTerms
 pub mod PartLists
 pub mod StateWays
+pub mod StatesLeft
 pub mod StepWays
 pub mod SearchWays
 pub mod Accumulating

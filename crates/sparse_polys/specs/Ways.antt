@@ -1,8 +1,9 @@
 -- What is left of two labels while a partition is put together part by part, with the number of ways that led there
 -- (this project's own).
-use Rattle.std.specs.Prelude.{◌≡◌, ℕ, Bool, ◌&&◌, not, nat_le, slice_index, drop, ◌+◌, ◌-◌, ◌*◌, ◌^◌, ◌<◌, true, cond, min, List, [], ◌∷◌, All}
+use Rattle.std.specs.Prelude.{◌≡◌, ℕ, Bool, ◌&&◌, not, nat_le, slice_index, drop, ◌+◌, ◌-◌, ◌*◌, ◌^◌, ◌<◌, true, cond, min, List, [], ◌∷◌, map, All}
 use Rattle.sym_model.specs.Partition.{IsPartition, size}
 use Rattle.sym_model.specs.Bases.{has}
+use Rattle.sym_model.specs.Sum.{Once}
 use Rattle.sym_model.specs.RaisedPart.{without_one}
 use Rattle.monomial_laws.specs.MonomialProduct.{arrangements}
 use Rattle.sparse_polys.specs.declared.states.State.{State}
@@ -10,6 +11,10 @@ use Rattle.sparse_polys.specs.declared.states.State.{State}
 -- a number that is counted up to 2^128 - 1
 abbrev pub capped : ℕ → ℕ
 capped n = min n (2 ^ 128 - 1)
+
+-- what of the left and of the right label a state leaves
+abbrev pub labels_left : State → List ℕ × List ℕ
+labels_left s = (s.left.items, s.right.items)
 
 -- in how many ways the states go on to the parts ν
 abbrev pub ways : List State → List ℕ → ℕ
@@ -25,6 +30,10 @@ pub record IsRest (left : ℕ) (one other : List ℕ) : Type 0 where
 -- each state is left of the same size
 abbrev pub AreStates : ℕ → List State → Type 0
 AreStates left states = All (λ (s : State). IsRest left s.left.items s.right.items) states
+
+-- no two states leave the same of both labels
+abbrev pub LeaveOnce : List State → Type 0
+LeaveOnce states = Once (map labels_left states)
 
 -- in how many ways ν is made of what is left when a is taken from one label and b from the other, b being one of its
 -- parts or 0

@@ -2,7 +2,7 @@
 ghost use Rattle.std.specs.Prelude.{◌≡◌, ℕ, ◌+◌, ◌*◌, ◌^◌, ◌<◌, ◌≤◌, ◌∷◌, [], true, false, List, length, IfOk, OnOk};
 ghost use Rattle.sym_model.specs.Bases.{has};
 ghost use Rattle.monomial_laws.specs.MonomialProduct.{arrangements, AreBelow};
-ghost use Rattle.sparse_polys.specs.Ways.{capped, ways, taken, is_choice_at, IsRest, AreStates, HasPartAbove};
+ghost use Rattle.sparse_polys.specs.Ways.{capped, ways, taken, is_choice_at, IsRest, AreStates, LeaveOnce, HasPartAbove};
 
 use crate::parts::{has_part, without_part};
 use crate::states::{State, add_state};
@@ -42,6 +42,7 @@ fn take_both(
     ensures states { OnOk result ((size : ℕ) → IsRest (a + b + size) state.now.left.items state.now.right.items
         → has a (0 ∷ state.now.left.items) ≡ true
         → AreStates size next.old.items → AreStates size next.new.items) }
+    ensures once { OnOk result (LeaveOnce next.old.items → LeaveOnce next.new.items) }
 {
     if !can_give(state.right.as_slice(), b) {
         return Ok(());
@@ -79,6 +80,7 @@ fn take_part(
         + state.now.count * arrangements state.now.left.items state.now.right.items (part ∷ ν))) }
     ensures states { OnOk result ((size : ℕ) → IsRest (part + size) state.now.left.items state.now.right.items
         → AreStates size next.old.items → AreStates size next.new.items) }
+    ensures once { OnOk result (LeaveOnce next.old.items → LeaveOnce next.new.items) }
 {
     take_both(alloc, state, 0, part, next)?;
     let parts = state.left.as_slice();
@@ -90,11 +92,12 @@ fn take_part(
     Ok(())
 }
 
-/// Takes the part from all states in all ways.
+/// Takes the part from all states in all ways. No two of the states that it gives leave the same.
 pub(crate) fn step(alloc: Global, states: &[State], part: u16) -> Result<Vec<State>, AllocError>
     ensures ways { IfOk result (λ next. (ν : List ℕ) (size : ℕ) → AreBelow (part + 1) ν → AreStates size states.now
         → capped (ways next.items ν) ≡ capped (ways states.now (part ∷ ν))) }
     ensures states { IfOk result (λ next. (size : ℕ) → AreStates (part + size) states.now → AreStates size next.items) }
+    ensures once { IfOk result (λ next. LeaveOnce next.items) }
 {
     let mut next = Vec::new(alloc);
     for state in states {

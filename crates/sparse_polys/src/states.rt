@@ -1,7 +1,8 @@
 //! What is left of two labels, and in how many ways it came to be left.
-ghost use Rattle.std.specs.Prelude.{◌≡◌, ℕ, ◌+◌, ◌*◌, ◌<◌, List, length, IfOk, OnOk, IfSome, IsTrue, slice_get};
+ghost use Rattle.std.specs.Prelude.{◌≡◌, ℕ, ◌+◌, ◌*◌, ◌<◌, ◌↔◌, List, length, map, IfOk, OnOk, IfSome, IsTrue, MatchOption, slice_get};
+ghost use Rattle.sym_model.specs.Sum.{Among};
 ghost use Rattle.monomial_laws.specs.MonomialProduct.{arrangements};
-ghost use Rattle.sparse_polys.specs.Ways.{capped, ways, IsRest, AreStates};
+ghost use Rattle.sparse_polys.specs.Ways.{capped, labels_left, ways, IsRest, AreStates, LeaveOnce};
 
 use std::alloc::AllocError;
 
@@ -15,15 +16,15 @@ pub(crate) struct State {
 
 /// Whether this is left.
 fn is_left(state: &State, left: &[u16], right: &[u16]) -> bool
-    ensures { IsTrue result → (state.now.left.items ≡ left.now) × (state.now.right.items ≡ right.now) }
+    ensures { IsTrue result ↔ (labels_left state.now ≡ (left.now, right.now)) }
 {
     state.left.as_slice() == left && state.right.as_slice() == right
 }
 
-/// The place of the state with what is left.
+/// The place of the state with what is left; None exactly where no state leaves that.
 fn place_of(states: &[State], left: &[u16], right: &[u16]) -> Option<usize>
-    ensures { IfSome result (λ i. (i < length states.now) × IfSome (slice_get states.now i)
-        (λ s. (s.left.items ≡ left.now) × (s.right.items ≡ right.now))) }
+    ensures { MatchOption result (Among (left.now, right.now) (map labels_left states.now) → ⊥)
+        (λ i. (i < length states.now) × IfSome (slice_get states.now i) (λ s. labels_left s ≡ (left.now, right.now))) }
 {
     for (i, state) in states.iter().enumerate() {
         if is_left(state, left, right) {
@@ -33,7 +34,7 @@ fn place_of(states: &[State], left: &[u16], right: &[u16]) -> Option<usize>
     None
 }
 
-/// Adds ways to what is left, at its state where it has one.
+/// Adds ways to what is left, at its state where it has one, so that no two states leave the same.
 pub(crate) fn add_state(
     states: &mut Vec<State>,
     left: Vec<u16>,
@@ -44,6 +45,7 @@ pub(crate) fn add_state(
         ≡ capped (ways states.old.items ν + count * arrangements left.items right.items ν)) }
     ensures states { OnOk result ((size : ℕ) → AreStates size states.old.items
         → IsRest size left.items right.items → AreStates size states.new.items) }
+    ensures once { OnOk result (LeaveOnce states.old.items → LeaveOnce states.new.items) }
 {
     if let Some(i) = place_of(states.as_slice(), left.as_slice(), right.as_slice()) {
         let state = &mut states[i];

@@ -1,11 +1,12 @@
-//! Worked examples of the definitions of `sym_model`, which the check computes: a definition that says
-//! something else than it is meant to say fails here.
+//! Worked examples of the definitions of `sym_model`, and of the fractions of `coeff_rings`, which the check computes: a
+//! definition that says something else than it is meant to say fails here.
 //!
 //! A law function takes nothing, answers nothing and does no work when it runs: its contract is
 //! the examples.
 #![tactic(auto)]
 
 mod expansions;
+mod fractions;
 mod permutations;
 mod polynomials;
 mod reductions;
@@ -15,6 +16,7 @@ mod texts;
 pub use expansions::{
     change_of_basis_examples_law, expansion_examples_law, reduced_product_examples_law,
 };
+pub use fractions::fraction_examples_law;
 pub use permutations::{
     divided_difference_examples_law, permutation_examples_law, schubert_examples_law,
     schubert_more_examples_law, straightening_examples_law,

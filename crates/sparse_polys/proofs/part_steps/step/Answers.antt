@@ -24,6 +24,7 @@ loop-state-preserved c =
           (ap (λ (l : List State). ways l (x ∷ ν)) (drop-cons xs i s inside ∙ ap (λ (u : State). u ∷ drop (suc i) xs) (sym here) ∙ ap (λ j. s ∷ drop j xs) (sym (add-one i))))
           (c.loop-state.invariant.ways ν size below states);
       states = λ size states. c.in_ok-take_part.ensures.states size (rest_of (x + size) states) (c.loop-state.invariant.states size states);
+      once = c.in_ok-take_part.ensures.once c.loop-state.invariant.once;
     }
 
 pub returns-clause-ways : goal.returns-clause-ways

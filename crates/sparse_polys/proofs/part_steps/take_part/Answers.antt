@@ -3,7 +3,7 @@ use Rattle.std.proofs.lemmas.List.{drop_all}
 use Rattle.sym_model.specs.Bases.{has}
 use Rattle.sym_model.specs.RaisedPart.{distinct}
 use Rattle.monomial_laws.specs.MonomialProduct.{arrangements}
-use Rattle.sparse_polys.specs.Ways.{capped, ways, taken, is_choice_at, AreStates}
+use Rattle.sparse_polys.specs.Ways.{capped, ways, taken, is_choice_at, AreStates, LeaveOnce}
 use Rattle.sparse_polys.proofs.StepWays.{first_way, next_way, arrangements-first, taken_over, taken_over-choice, taken_over-passed, rest_at, below_at, choice-within, has_at}
 use Rattle.sparse_polys.proofs.part_steps.take_part.Goals as goal
 use Rattle.sparse_polys.proofs.part_steps.take_part.Goals.{then-is_choice+in_ok-take_both-2, else-is_choice}
@@ -24,6 +24,7 @@ loop-i-init c =
       states =
           λ size rest states.
           c.in_ok-take_both.ensures.states size (rest_at (x + size) (0 + x + size) l r (let e : x + size ≡ 0 + x + size = omega arith in e) rest) refl states;
+      once = c.in_ok-take_both.ensures.once;
       parts = c.as_slice-parts.ensures.value;
     }
 
@@ -57,6 +58,7 @@ loop-i-preserved c =
                 (rest_at (x + size) (get_or parts i 0 + (x - get_or parts i 0) + size) l r (ap (λ k. k + size) (sym whole)) rest)
                 (subst (λ ps. has (get_or parts i 0) (0 ∷ ps) ≡ true) c.as_slice-parts.ensures.value (has_at parts i inside))
                 (c.loop-i.invariant.states size rest states));
+            once = λ once. subst (λ (v : Vec _ _). LeaveOnce v.items) (sym w.next-is) (w.in_ok-take_both-2.ensures.once (c.loop-i.invariant.once once));
             parts = c.loop-i.invariant.parts;
           }
       | else-is_choice w ↦
@@ -68,6 +70,7 @@ loop-i-preserved c =
                 ∙ ap (λ n. capped (ways c.loop-i.next.items ν + c.args.state.now.count * n)) (sym (taken_over-passed x l r ν parts i inside passed))
                 ∙ c.loop-i.invariant.ways ν size below rest;
             states = λ size rest states. subst (λ (v : Vec _ _). AreStates size v.items) (sym w.next-is) (c.loop-i.invariant.states size rest states);
+            once = λ once. subst (λ (v : Vec _ _). LeaveOnce v.items) (sym w.next-is) (c.loop-i.invariant.once once);
             parts = c.loop-i.invariant.parts;
           }
     ]

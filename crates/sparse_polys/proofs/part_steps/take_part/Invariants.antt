@@ -1,7 +1,7 @@
 use Rattle.std.proofs.Common.{◌≡◌, ℕ, ◌+◌, ◌*◌, ◌∷◌, List, drop}
 use Rattle.sym_model.specs.RaisedPart.{distinct}
 use Rattle.monomial_laws.specs.MonomialProduct.{arrangements, AreBelow}
-use Rattle.sparse_polys.specs.Ways.{capped, ways, IsRest, AreStates}
+use Rattle.sparse_polys.specs.Ways.{capped, ways, IsRest, AreStates, LeaveOnce}
 use Rattle.sparse_polys.proofs.StepWays.{taken_over}
 use Rattle.sparse_polys.proofs.part_steps.take_part.Given as goal
 
@@ -12,5 +12,6 @@ invariant-loop-i l = record {
       → capped (ways l.next.items ν + l.state.count * taken_over l.part l.state.left.items l.state.right.items ν (distinct (drop l.i l.parts)))
       ≡ capped (ways l.fn.next.items ν + l.state.count * arrangements l.state.left.items l.state.right.items (l.part ∷ ν));
   states : (size : ℕ) → IsRest (l.part + size) l.state.left.items l.state.right.items → AreStates size l.fn.next.items → AreStates size l.next.items;
+  once : LeaveOnce l.fn.next.items → LeaveOnce l.next.items;
   parts : l.parts ≡ l.state.left.items;
 }

@@ -1,6 +1,6 @@
 use Rattle.std.proofs.Common.{refl}
 use Rattle.coeff_rings.specs.Fractions.{lowest_terms, greatest_common_divisor, greatest_divisor_to}
-use Rattle.coeff_rings.proofs.laws.fraction_examples.Goals as goal
+use Rattle.worked_examples.proofs.fractions.fraction_examples_law.Goals as goal
 
 pub returns : goal.returns
 unfolding lowest_terms greatest_common_divisor greatest_divisor_to

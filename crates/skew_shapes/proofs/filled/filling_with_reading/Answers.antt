@@ -3,7 +3,7 @@ use Rattle.sym_model.specs.Partition.{size}
 use Rattle.partitions.proofs.Steps.{all_written}
 use Rattle.skew_shapes.specs.Rows.{IsKept, HasPlaces, filling_in}
 use Rattle.skew_shapes.proofs.FilledReadings.{filled, moved}
-use Rattle.skew_shapes.proofs.filled.Filled.with_reading.Goals as goal
+use Rattle.skew_shapes.proofs.filled.filling_with_reading.Goals as goal
 
 pub invariant_of-result : goal.invariant_of-result
 invariant_of-result c =
