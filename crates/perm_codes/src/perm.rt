@@ -1,5 +1,5 @@
 //! The type of a permutation.
-ghost use Rattle.std.specs.Prelude.{◌≡◌, ℕ, ◌+◌, ◌<◌, ◌≤◌, ◌↔◌, length, nat_eq, swap, IsOk, IfOk, OnOk, IsErrOf};
+ghost use Rattle.std.specs.Prelude.{◌≡◌, ℕ, ◌+◌, ◌<◌, ◌≤◌, ◌↔◌, [], ◌∷◌, length, nat_eq, swap, IsOk, IfOk, OnOk, IsErrOf};
 ghost use Rattle.std.specs.Cmp.{partial_equiv_from_equiv};
 ghost use Rattle.std.specs.Cmp.Lexicographic.{pointwise, nat_list_eq_equiv};
 ghost use Rattle.std.specs.Cmp.Rules.{hashing};
@@ -145,6 +145,7 @@ impl Perm {
     /// The last place whose letter is greater than the next. None exactly for the identity.
     pub fn last_descent(&self) -> Option<u16>
         ensures value { result ≡ last_descent self.now }
+        ensures identity { (result ≡ None) ↔ (self.now ≡ 1 ∷ []) }
         ensures limits { IsWithinLimits self.now }
     {
         find_last_descent(self.letters())

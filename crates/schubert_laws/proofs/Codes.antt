@@ -1,19 +1,20 @@
 -- Codes: a permutation and its code determine each other.
-use Rattle.std.proofs.Common.{◌≡◌, ℕ, zero, suc, ◌+◌, ◌<◌, ◌≤◌, List, [], ◌∷◌, ◌++◌, length, get_or, refl, sym, ◌∙◌, ap, ap₂, subst, arith, inl, inr, ◌⊎◌, cond, nat_lt, pos, append_assoc, replicate}
+use Rattle.std.proofs.Common.{◌≡◌, ℕ, zero, suc, ◌+◌, ◌<◌, ◌≤◌, List, [], ◌∷◌, ◌++◌, length, get_or, refl, sym, ◌∙◌, ap, ap₂, subst, arith, inl, inr, ◌⊎◌, cond, nat_lt, pos, append_assoc, replicate, None, ◌↔◌}
 use Rattle.std.specs.List.{remove}
 use Rattle.std.proofs.lemmas.Int.{ints}
-use Rattle.std.proofs.lemmas.List.{append-nil}
+use Rattle.std.proofs.lemmas.List.{append-nil, length-replicate}
 use Rattle.std.proofs.lemmas.Bool.{cases_eq, cases_lt}
 use Rattle.sym_model.specs.Sum.{total, Among, Once, Within}
 use Rattle.sym_model.specs.Partition.{size, after}
 use Rattle.sym_model.specs.PlaceOrders.{places, smaller, inversions}
-use Rattle.sym_model.specs.Permutation.{IsOneLine, kept, code, IsCode, letters_by_code, from_code}
+use Rattle.sym_model.specs.Permutation.{IsOneLine, kept, code, IsCode, letters_by_code, from_code, last_descent}
 use Rattle.sym_model.proofs.Sums.{total_within}
 use Rattle.schubert_laws.proofs.FixedLetters.{code_added}
-use Rattle.schubert_laws.proofs.FixedTails.{one_line_next, next_after, one_line_kept}
-use Rattle.schubert_laws.proofs.LowerPermutations.{kept_whole, smaller_of_none}
+use Rattle.schubert_laws.proofs.FixedTails.{one_line_next, next_after, one_line_kept, kept_added}
+use Rattle.schubert_laws.proofs.LowerPermutations.{kept_whole, last_descent_kept, smaller_of_none, code_never_falls}
 use Rattle.schubert_laws.proofs.PathsFromOne.{below_next}
 use Rattle.schubert_laws.proofs.Swaps.{among_get}
+use Rattle.schubert_laws.proofs.Transition.{last_descent_is}
 use Rattle.sym_model.proofs.AfterLists.{length_after, after_among, among_after}
 use Rattle.sym_model.proofs.Numbers.{counts-not_less, counts-less}
 
@@ -262,3 +263,24 @@ from_code-code w o =
 
 pub code_of_letters : (cs : List ℕ) → IsCode cs → code (letters_by_code cs (places (length cs))) ≡ cs
 code_of_letters cs i = code-letters cs (places (length cs)) i (length_after 0 (length cs)) (ascends_after 0 (length cs))
+
+-- ---- the identity
+
+-- where each entry of a code is 0 the letters are chosen as they stand
+letters_by_zeros : (n : ℕ) (left : List ℕ) → length left ≡ n → letters_by_code (replicate n 0) left ≡ left
+letters_by_zeros zero left e = refl
+letters_by_zeros (suc n) [] e = absurd (omega arith)
+letters_by_zeros (suc n) (x ∷ left) e = ap (λ l. x ∷ l) (letters_by_zeros n left (omega arith))
+
+kept_zeros : (n : ℕ) → 0 < n → from_code (replicate n 0) ≡ 1 ∷ []
+kept_zeros zero h = absurd (omega arith)
+kept_zeros (suc n) h =
+    ap (λ k. kept (letters_by_code (replicate (suc n) 0) (places k))) (length-replicate (suc n) 0)
+    ∙ ap kept (letters_by_zeros (suc n) (places (suc n)) (length_after 0 (suc n)))
+    ∙ kept_added (1 ∷ []) n (omega arith)
+
+pub identity_kept : (w : List ℕ) → IsOneLine w → 0 < length w → last_descent w ≡ None → kept w ≡ 1 ∷ []
+identity_kept w o h e = sym (from_code-code w o) ∙ ap from_code (code_never_falls w (last_descent_is w None e)) ∙ kept_zeros (length w) h
+
+pub identity_without_descent : (w : List ℕ) → IsOneLine w → 0 < length w → (last_descent w ≡ None) ↔ (kept w ≡ 1 ∷ [])
+identity_without_descent w o h = (identity_kept w o h, λ e. sym (last_descent_kept w o) ∙ ap last_descent e)

@@ -17,11 +17,11 @@ use Rattle.sym_model.proofs.Polynomials.{Same_trans, restrict_respects}
 use Rattle.sym_model.proofs.PolynomialLaws.{restrict-one}
 use Rattle.sym_model.proofs.Sums.{Among_from_map, Among_from_select}
 use Rattle.schubert_laws.proofs.Dominant.{dominant}
-use Rattle.schubert_laws.proofs.FixedTails.{one_line_next, next_after, one_line_kept, kept_tail, inversions_kept, one_more_inversion, one_less_rising}
+use Rattle.schubert_laws.proofs.FixedTails.{one_line_next, next_after, one_line_kept, kept_tail, inversions_kept, one_less_rising}
 use Rattle.schubert_laws.proofs.PathsFromOne.{below_next}
 use Rattle.schubert_laws.proofs.Swaps.{swap_at, length-swap_at, raises, get_swap_left, get_swap_right, among_get}
 use Rattle.schubert_laws.proofs.MonkFromOne.{one_line_swap}
-use Rattle.schubert_laws.proofs.Transition.{IsStep, RisesFrom, last_descent_is, raises_by_one, rises_chain, strict_get, get_swap_other, once_get}
+use Rattle.schubert_laws.proofs.Transition.{IsStep, RisesFrom, last_descent_is, one_fewer, rises_chain, get_swap_other, once_get}
 use Rattle.schubert_laws.proofs.TransitionFromOne.{step_of, kept_swap, covers_down_kept, get_past}
 use Rattle.sym_model.proofs.AfterLists.{after_among}
 use Rattle.sym_model.proofs.Numbers.{counts-not_less, nat_lt-false}
@@ -79,10 +79,8 @@ fewer : (w : List ℕ) (q b : ℕ) → IsOneLine w → IsStep w q b → inversio
 fewer w q b o s =
     let order = s.order in
     let inside = s.inside in
-    let ou = one_line_swap q b w (omega arith) inside o in
-    let e = one_more_inversion (swap_at q b w) w ou.once o.once (sym (length-swap_at q b w))
-    (raises_by_one q b 0 w order inside s.falls (λ c h l. strict_get w c b o.once (omega arith) inside (λ z. omega arith) (rises_chain q c b w s.rises h (omega arith) inside))) in
-    let k = inversions_kept (swap_at q b w) ou in
+    let e = one_fewer w q b o s in
+    let k = inversions_kept (swap_at q b w) (one_line_swap q b w (omega arith) inside o) in
     omega arith
 
 -- after place q it rises still
@@ -171,8 +169,7 @@ lowered_cover w p q b o s d h e =
     let ou = one_line_swap q b w (omega arith) inside o in
     let oy = one_line_swap p q (swap_at q b w) (omega arith) (omega arith) ou in
     let ky = inversions_kept (swap_at p q (swap_at q b w)) oy in
-    let up = one_more_inversion (swap_at q b w) w ou.once o.once (sym lu)
-    (raises_by_one q b 0 w order inside falls (λ c i l. strict_get w c b o.once (omega arith) inside (λ z. omega arith) (rises_chain q c b w s.rises i (omega arith) inside))) in
+    let up = one_fewer w q b o s in
     let down = one_less_rising (swap_at q b w) (swap_at p q (swap_at q b w)) ou.once oy.once ly (omega arith) in
     let cf = cover_falls (swap_at q b w) p q ou.once h (omega arith) down in
     let uq = get_swap_left q b 0 w (omega arith) inside in
@@ -202,6 +199,19 @@ transition_lowers w r s o t =
     let order = g.order in
     subst (λ i. IsLower (times_swap i s w) w) (sym p.2) (subst (λ j. IsLower (times_swap (suc p.0) j w) w) (sym p.3)
     (subst (λ v. IsLower v w) (sym (kept_swap w p.0 p.1 g.order g.inside)) (inl (fewer w p.0 p.1 o g))))
+
+-- the first permutation of the rule has one inversion less
+pub transition_inversions : (w : List ℕ) (r s : ℕ) → IsOneLine w → IsTransition w r s → inversions w ≡ inversions (times_swap r s w) + 1
+transition_inversions w r s o t =
+    let p = step_of w r s o t in
+    let g = p.4 in
+    let order = g.order in
+    let inside = g.inside in
+    let e = one_fewer w p.0 p.1 o g in
+    let k = inversions_kept (swap_at p.0 p.1 w) (one_line_swap p.0 p.1 w (omega arith) inside o) in
+    let is : times_swap r s w ≡ kept (swap_at p.0 p.1 w) = ap₂ (λ i j. times_swap i j w) p.2 p.3 ∙ kept_swap w p.0 p.1 g.order g.inside in
+    let same = ap inversions is in
+    omega arith
 
 covers_lower : (w : List ℕ) (q b : ℕ) (x : List ℕ) → IsOneLine w → IsStep w q b → last_descent w ≡ Some (suc q) → Among x (covers_down (suc q) (swap_at q b w)) → IsLower x w
 covers_lower w q b x o s d m =

@@ -196,6 +196,14 @@ pub record IsStep (w : List ℕ) (q b : ℕ) : Type 0 where
   pub rises : RisesFrom q w
   pub later : (c : ℕ) → b < c → c < length w → get_or w q 0 ≤ get_or w c 0
 
+-- the swapped list has one inversion less
+pub one_fewer : (w : List ℕ) (q b : ℕ) → IsOneLine w → IsStep w q b → inversions w ≡ inversions (swap_at q b w) + 1
+one_fewer w q b o s =
+    let order = s.order in
+    let inside = s.inside in
+    one_more_inversion (swap_at q b w) w (once_swap q b w (omega arith) inside o.once) o.once (sym (length-swap_at q b w))
+    (raises_by_one q b 0 w order inside s.falls (λ c h l. strict_get w c b o.once (omega arith) inside (λ z. omega arith) (rises_chain q c b w s.rises h (omega arith) inside)))
+
 -- no place but b gives a cover of the swapped list with a fixed letter added
 pub no_other : (w : List ℕ) (q b c : ℕ) → IsOneLine w → IsStep w q b → q < c → c ≤ length w → (c ≡ b → ⊥)
     → rising_pairs (longer (swap_at q b w) 0) ≡ suc (rising_pairs (swap_at q c (longer (swap_at q b w) 0))) → ⊥
@@ -261,12 +269,7 @@ pair_up n φ w q b o s =
     ∙ pair_determined (schubert_in (kept w) n) (schubert_in w n) φ (schubert_kept w n o)
   where
     covers : inversions (kept w) ≡ inversions (swap_at q b w) + 1
-    covers =
-        let order = s.order in
-        let inside = s.inside in
-        inversions_kept w o
-        ∙ one_more_inversion (swap_at q b w) w (once_swap q b w (omega arith) inside o.once) o.once (sym (length-swap_at q b w))
-        (raises_by_one q b 0 w order inside s.falls (λ c h l. strict_get w c b o.once (omega arith) inside (λ z. omega arith) (rises_chain q c b w s.rises h (omega arith) inside)))
+    covers = inversions_kept w o ∙ one_fewer w q b o s
 
     others : (j : ℕ) → IsOneLine (swap_at q b w) → (suc q < j) × (j ≤ suc q + (max (length (swap_at q b w)) (suc q) + 1 - suc q)) → length (swap_at q b w) ≡ length w → (j ≡ suc b → ⊥)
         → cover_value n φ (swap_at q b w) (times_swap (suc q) j (swap_at q b w)) ≡ pos 0

@@ -1,6 +1,6 @@
 //! Monk's rule and the transition rule.
 
-ghost use Rattle.std.specs.Prelude.{◌≡◌, ℕ, ◌≤◌, ◌<◌, List};
+ghost use Rattle.std.specs.Prelude.{◌≡◌, ℕ, ◌+◌, ◌≤◌, ◌<◌, ◌↔◌, List, [], ◌∷◌, length};
 ghost use Rattle.sym_model.specs.Sum.{Among};
 ghost use Rattle.sym_model.specs.Polynomial.{Same, one, plus, negate, times};
 ghost use Rattle.sym_model.specs.PlaceOrders.{inversions};
@@ -25,15 +25,19 @@ pub fn monk_law()
 {}
 
 /// The transition rule ends at the identity: each permutation on its right side is lower, in an order
-/// by three numbers. Each permutation with a descent has the places of the rule, and one without a
-/// descent is an identity, with the Schubert polynomial 1.
+/// by three numbers, and the one with the factor x_r has one inversion less. Each permutation with a
+/// descent has the places of the rule. One without a descent is an identity, and none other is; its
+/// Schubert polynomial is 1.
 pub fn transition_order_law()
     ensures first { (w : List ℕ) (r s : ℕ) → IsOneLine w → IsTransition w r s → IsLower (times_swap r s w) w }
+    ensures inversions { (w : List ℕ) (r s : ℕ) → IsOneLine w → IsTransition w r s
+        → inversions w ≡ inversions (times_swap r s w) + 1 }
     ensures others { (w : List ℕ) (r s : ℕ) → IsOneLine w → IsTransition w r s
         → (v : List ℕ) → Among v (covers_down r (times_swap r s w)) → IsLower v w }
     ensures exists { (w : List ℕ) (r : ℕ) → IsOneLine w → last_descent w ≡ Some r → (s : ℕ) × IsTransition w r s }
     ensures identity { (w : List ℕ) (n : ℕ) → IsOneLine w → last_descent w ≡ None
         → Same (schubert_in w n) (one n) }
+    ensures kept { (w : List ℕ) → IsOneLine w → 0 < length w → (last_descent w ≡ None) ↔ (kept w ≡ 1 ∷ []) }
 {}
 
 /// Permutations may be kept without their last fixed letters: these change neither the Schubert
