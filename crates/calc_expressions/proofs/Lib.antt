@@ -8,3 +8,5 @@ pub mod BuildFacts
 pub mod BuildRuns
 pub mod JudgeFacts
 pub mod SignJudging
+pub mod Evaluations
+pub mod Convertible

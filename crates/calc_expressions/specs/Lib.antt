@@ -1,6 +1,7 @@
 -- Expressions of the calculator, and what a word is read as.
 pub mod Trees
 pub mod Weights
+pub mod Postorder
 pub mod Symbols
 pub mod Offences
 pub mod ScanSteps

@@ -4,6 +4,7 @@
 mod builder;
 mod expr;
 mod formula;
+mod nodes;
 mod offence;
 mod plethysm_words;
 mod reading;
@@ -14,5 +15,6 @@ mod weigh;
 pub use calc_base::{Basis, Weight};
 pub use expr::Expr;
 pub use formula::{Formula, degree_limit};
+pub use nodes::{postorder, take_operand, take_operands};
 pub use plethysm_words::{PLETHYSM_DEGREE, read_inner, read_outer};
 pub use reading::{ExpressionFault, read_expression, wrong_byte};
