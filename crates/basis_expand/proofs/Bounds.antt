@@ -16,13 +16,13 @@ use Rattle.sym_model.specs.Polynomial.{Poly, coefficient}
 use Rattle.sym_model.specs.Partition.{IsPartition, size}
 use Rattle.sym_model.specs.Expansion.{Basis, Fraction, Terms}
 use Rattle.sym_model.specs.Expression.{Tree, degree, cleared_value}
-use Rattle.sym_model.specs.Weight.{factorial, growth, numerator, weight}
+use Rattle.sym_model.specs.Weight.{growth, numerator, weight}
 use Rattle.sym_model.specs.WholeTerms.{WholeTerms, numerators}
 use Rattle.sym_model.proofs.SortedParts.{sorted_parts-partition}
 use Rattle.monomial_laws.specs.ExpressionTerms.{IsList, IsCleared, HasDenominators}
-use Rattle.monomial_laws.specs.Majorant.{IsBounded, factorials}
+use Rattle.monomial_laws.specs.Majorant.{IsBounded}
 use Rattle.monomial_laws.proofs.PowerSumCoefficients.{coefficient-monomial_terms}
-use Rattle.monomial_laws.proofs.Majorants.{bounded_value, coefficient_bound, coefficient-higher}
+use Rattle.monomial_laws.proofs.Majorants.{bounded_value, coefficient-higher}
 use Rattle.monomial_laws.proofs.WeightBounds.{coefficient_within_growth, growth-within_weight}
 
 -- a partition's coefficient in the list is that of its monomial

@@ -7,6 +7,8 @@ use Rattle.sym_model.specs.Expression.{Tree, denominator}
 use Rattle.sym_model.specs.Weight.{weight}
 use Rattle.sym_model.specs.WholeTerms.{numerators}
 use Rattle.monomial_laws.specs.ExpressionTerms.{IsCleared}
+use Rattle.calc_expressions.specs.declared.expr.Expr.{Expr}
+use Rattle.calc_expressions.specs.Trees.{tree_of}
 use Rattle.basis_expand.specs.declared.cleared.Cleared.{Cleared}
 
 -- the list is the cleared value of the expression, and the number is its denominator
@@ -18,3 +20,7 @@ pub record ClearsTo (e : Tree) (c : Cleared) : Type 0 where
 pub record IsConverted (e : Tree) (result : Result Cleared SumFault) : Type 0 where
   pub ok : IfOk result (ClearsTo e)
   pub large : IsErrOf result Large → 2 ^ 127 ≤ weight monomials e
+
+-- the same of an expression of the calculator
+abbrev pub IsValueOf : Expr → Cleared → Type 0
+IsValueOf e c = ClearsTo (tree_of e) c

@@ -75,7 +75,6 @@ fn terms_of(alloc: Global, basis: Basis, label: &Partition) -> Result<Whole, Sum
 }
 
 /// A partition in a basis.
-#[inline(never)]
 pub(crate) fn atom(alloc: Global, basis: Basis, label: &Partition) -> Result<Cleared, SumFault>
     requires { size label.now ≤ 512 }
     ensures { IsConverted (atom (basis_of basis) label.now) result }

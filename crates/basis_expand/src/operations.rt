@@ -1,6 +1,6 @@
 //! What expressions are made of, as cleared lists: numbers, negations, sums and products.
 ghost use Rattle.std.specs.Prelude.{◌≡◌, ◌+◌, ◌<◌, ◌≤◌, ◌^◌, ◌≤ℤ◌, pos, nat_abs};
-ghost use Rattle.sym_model.specs.Expression.{Tree, number, fraction, negation, sum, product};
+ghost use Rattle.sym_model.specs.Expression.{Tree, number, fraction, negation, sum, difference, product};
 ghost use Rattle.monomial_laws.specs.ExpressionTerms.{HasDenominators};
 ghost use Rattle.sparse_polys.specs.MonomialProducts.{greatest_size};
 ghost use Rattle.basis_expand.specs.Clearing.{ClearsTo, IsConverted};
@@ -14,7 +14,6 @@ use sparse_polys::times_whole_in_m;
 use std::alloc::Global;
 
 /// A number over another.
-#[inline(never)]
 pub(crate) fn quotient(alloc: Global, num: i128, den: u128) -> Result<Cleared, SumFault>
     requires sign { pos 0 ≤ℤ num }
     requires den { (0 < den) × (den < 2 ^ 127) }
@@ -26,7 +25,6 @@ pub(crate) fn quotient(alloc: Global, num: i128, den: u128) -> Result<Cleared, S
 }
 
 /// The negation.
-#[inline(never)]
 pub(crate) fn negated(inner: Cleared) -> Result<Cleared, SumFault>
     ensures { (e : Tree) → HasDenominators e → ClearsTo e inner → IsConverted (negation e) result }
 {
@@ -38,7 +36,6 @@ pub(crate) fn negated(inner: Cleared) -> Result<Cleared, SumFault>
 }
 
 /// The sum, over the least common denominator.
-#[inline(never)]
 pub(crate) fn added(left: Cleared, right: Cleared) -> Result<Cleared, SumFault>
     ensures { (e f : Tree) → HasDenominators e → HasDenominators f → ClearsTo e left → ClearsTo f right
         → IsConverted (sum e f) result }
@@ -53,8 +50,16 @@ pub(crate) fn added(left: Cleared, right: Cleared) -> Result<Cleared, SumFault>
     })
 }
 
+/// The difference, as the sum with the negation.
+pub(crate) fn subtracted(left: Cleared, right: Cleared) -> Result<Cleared, SumFault>
+    ensures { (e f : Tree) → HasDenominators e → HasDenominators f → ClearsTo e left → ClearsTo f right
+        → IsConverted (difference e f) result }
+{
+    let turned = negated(right)?;
+    added(left, turned)
+}
+
 /// The product.
-#[inline(never)]
 pub(crate) fn multiplied(alloc: Global, left: Cleared, right: Cleared) -> Result<Cleared, SumFault>
     requires { greatest_size left.terms + greatest_size right.terms ≤ 512 }
     ensures { (e f : Tree) → HasDenominators e → HasDenominators f → ClearsTo e left → ClearsTo f right

@@ -131,10 +131,6 @@ module _ {V : Type 0} (R : Expr → V → Type 0) where
   length-values (e ∷ exprs) [] h = elim h [ ]
   length-values (e ∷ exprs) (v ∷ values) h = ap suc (length-values exprs values h.1)
 
-  pub enough-values : (exprs : List Expr) (below values : List V) → EndsWith R exprs below values → length exprs ≤ length values
-  enough-values exprs below values (given, is, are) =
-      let n = length-values exprs given are in let m = ap length is ∙ length-append below given in omega arith
-
   same_ends : (xs ys us vs : List V) → length us ≡ length vs → xs ++ us ≡ ys ++ vs → (xs ≡ ys) × (us ≡ vs)
   same_ends xs ys us vs n e =
       let m = sym (length-append xs us) ∙ ap length e ∙ length-append ys vs in
@@ -144,10 +140,18 @@ module _ {V : Type 0} (R : Expr → V → Type 0) where
       )
 
   -- what is below them is determined
-  pub same-below : (exprs : List Expr) (a b values : List V) → EndsWith R exprs a values → EndsWith R exprs b values → a ≡ b
+  same-below : (exprs : List Expr) (a b values : List V) → EndsWith R exprs a values → EndsWith R exprs b values → a ≡ b
   same-below exprs a b values (us, e, h) (vs, f, k) =
       (same_ends a b us vs (length-values exprs us h ∙ sym (length-values exprs vs k)) (sym e ∙ f)).0
 
-  pub values-taken : (exprs : List Expr) (below values now taken : List V) → length taken ≡ length exprs → EndsWith R exprs below values → values ≡ now ++ taken → EndsWith R exprs now values
-  values-taken exprs below values now taken n (given, is, are) e =
-      (taken, e, subst (AreValues R exprs) (same_ends below now given taken (length-values exprs given are ∙ sym n) (sym is ∙ e)).1 are)
+  -- what is taken off are the values of the expressions
+  pub values-taken : (exprs : List Expr) (below values after taken : List V) → length taken ≡ length exprs → EndsWith R exprs below values → values ≡ after ++ taken
+      → AreValues R exprs taken
+  values-taken exprs below values after taken n (given, is, are) e =
+      subst (AreValues R exprs) (same_ends below after given taken (length-values exprs given are ∙ sym n) (sym is ∙ e)).1 are
+
+  -- a node is evaluated
+  pub evaluates-next : (goal node : Expr) (nodes : List Expr) (values after more : List V) (v : V) → Evaluates R goal (node ∷ nodes) values
+      → EndsWith R (operands node) after values → R node v → more ≡ after ++ v ∷ [] → Evaluates R goal nodes more
+  evaluates-next goal node nodes values after more v (below, ends, on) took h e =
+      subst (Evaluates R goal nodes) (ap (λ (xs : List V). xs ++ v ∷ []) (same-below (operands node) below after values ends took) ∙ sym e) (on v h)
