@@ -14,11 +14,12 @@ use Rattle.sym_model.proofs.SortedParts.{IsPartition-raise, size-raise, rows-ins
 use Rattle.sym_model.proofs.Integers.{zero_or_not}
 use Rattle.basis_change.specs.declared.mixed.MixedLabel.{MixedLabel}
 use Rattle.basis_change.specs.declared.factors.Family.{Family}
-use Rattle.basis_change.specs.Mixed.{Mixed, mixed, weight, is_past, AreLow, unready, AreReady, merged, products, raised, mixed_at, conversion_at, conversions}
+use Rattle.basis_change_laws.specs.JoinedLists.{merged}
+use Rattle.basis_change.specs.Mixed.{Mixed, mixed, weight, is_past, AreLow, unready, AreReady, products, raised, mixed_at, conversion_at, conversions}
 use Rattle.basis_change.specs.Costs.{doubled, cost}
 use Rattle.basis_change.specs.Factors.{IsPowerSum, ArePowerSums}
 use Rattle.basis_change.proofs.Tables.{weight-append}
-use Rattle.basis_change.proofs.PartLists.{IsPartition-merged, size-merged}
+use Rattle.basis_change_laws.proofs.MergedParts.{IsPartition-merged, size-merged}
 use Rattle.basis_change.proofs.Walks.{low_label, IsReadyLabel, ready_label, unready-from, zero_weight}
 use Rattle.basis_change.proofs.Conversions.{conversion_at-zero, conversion_at-other, conversion_at-here}
 use Rattle.std.proofs.lemmas.Nat.{pow-add}

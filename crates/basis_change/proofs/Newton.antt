@@ -21,7 +21,8 @@ use Rattle.basis_change_laws.proofs.NewtonIdentities.{newton_complete, newton_el
 use Rattle.basis_change.specs.declared.mixed.MixedLabel.{MixedLabel}
 use Rattle.basis_change.specs.declared.factors.Family.{Family}
 use Rattle.basis_change.specs.declared.factors.Family.TheVariants.{Elementary, Complete, PowerSum}
-use Rattle.basis_change.specs.Mixed.{Mixed, mixed, weighed, weight, Added, is_past, AreLow, merged, products, mixed_at}
+use Rattle.basis_change_laws.specs.JoinedLists.{merged}
+use Rattle.basis_change.specs.Mixed.{Mixed, mixed, weighed, weight, Added, is_past, AreLow, products, mixed_at}
 use Rattle.std.proofs.Common.{lit≤}
 use Rattle.std.proofs.lemmas.Nat.{pow-add}
 use Rattle.basis_change.specs.Mixed.{Overflows}
@@ -35,7 +36,7 @@ use Rattle.sym_model.proofs.Signs.{minus_one_to_add}
 use Rattle.sym_model.proofs.Integers.{zero_or_not}
 use Rattle.basis_change.specs.Factors.{polynomial_of, sign, product_value, IsPowerSum, ArePowerSums, newton_products, newton_terms}
 use Rattle.basis_change.proofs.Tables.{weighed-append, weight-append}
-use Rattle.basis_change.proofs.PartLists.{IsPartition-merged, size-merged}
+use Rattle.basis_change_laws.proofs.MergedParts.{IsPartition-merged, size-merged}
 use Rattle.basis_change.proofs.Walks.{low_label, is_past-from, zero_weight}
 use Rattle.basis_change.proofs.Values.{value-products, In-family}
 use Rattle.basis_change.proofs.Costs.{pow-positive}

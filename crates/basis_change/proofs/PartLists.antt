@@ -10,17 +10,9 @@ use Rattle.sym_model.specs.Schur.{times_in}
 use Rattle.sym_model.specs.RaisedPart.{without_one}
 use Rattle.basis_change_laws.specs.AugmentedMonomial.{multiplicity_factorials}
 use Rattle.basis_change_laws.proofs.AugmentedMonomials.{multiplicity_factorials-cons}
-use Rattle.basis_change.specs.Mixed.{merged}
+use Rattle.basis_change_laws.specs.JoinedLists.{merged}
 use native.Mathlib.Nat.{mul-pos, mul-le-mul_left}
 use Rattle.monomial_laws.proofs.Growths.{factorial-mono}
-
-pub IsPartition-merged : (more parts : List ℕ) → IsPartition parts → IsPartition (merged more parts)
-IsPartition-merged [] parts p = p
-IsPartition-merged (a ∷ more) parts p = IsPartition-merged more (insert_part a parts) (IsPartition-insert_part a parts p)
-
-pub size-merged : (more parts : List ℕ) → size (merged more parts) ≡ size more + size parts
-size-merged [] parts = omega arith
-size-merged (a ∷ more) parts = omega (arith, size-merged more (insert_part a parts), size-insert_part a parts)
 
 -- what is still to come of a copy without one part, which was found already or was not
 abbrev pub rest_of : Bool → ℕ → List ℕ → List ℕ

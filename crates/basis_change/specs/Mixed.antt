@@ -2,10 +2,11 @@
 -- half way between two bases.
 use Rattle.std.specs.Prelude.{◌≡◌, ℕ, zero, suc, ◌+◌, ◌-◌, ◌*◌, ◌^◌, ◌≤◌, nat_abs, nat_le, nat_eq, Bool, true, false, ◌&&◌, cond, ℤ, pos, negsuc, ◌+ℤ◌, ◌*ℤ◌, neg_ℤ, List, [], ◌∷◌, ◌++◌, map, length}
 use Rattle.sym_model.specs.Sum.{total, each}
-use Rattle.sym_model.specs.Partition.{size, insert_part}
+use Rattle.sym_model.specs.Partition.{size}
 use Rattle.sym_model.specs.RaisedPart.{raise}
 use Rattle.sym_model.specs.LabelLimits.{is_partition}
 use Rattle.sym_model.specs.WholeTerms.{WholeTerms}
+use Rattle.basis_change_laws.specs.JoinedLists.{merged}
 use Rattle.basis_change.specs.declared.mixed.MixedLabel.{MixedLabel}
 
 -- a list of terms: labels with their coefficients
@@ -54,11 +55,6 @@ is_past d label = cond (is_partition label.converted && nat_le (size label.conve
 -- no converted partition with a coefficient that is not 0 has more than d cells
 abbrev pub AreLow : ℕ → Mixed → Type 0
 AreLow d terms = weight (is_past d) terms ≡ 0
-
--- the parts of both partitions, those of the first put in one after another
-abbrev pub merged : List ℕ → List ℕ → List ℕ
-merged [] parts = parts
-merged (a ∷ more) parts = merged more (insert_part a parts)
 
 -- c times each term of a list, times the target's polynomial of a partition, times an augmented monomial
 abbrev pub products : ℤ → Mixed → List ℕ → List ℕ → Mixed

@@ -43,7 +43,7 @@ pub fn is_table(list: &Lin<Partition, Frac>)
 }
 
 /// The whole number.
-fn whole_of(n: u128) -> Int
+pub fn whole_of(n: u128) -> Int
     requires { n < 2 ^ 127 }
     ensures { result ≡ pos n }
 {

@@ -13,15 +13,18 @@ use partitions::Partition;
 use std::alloc::Global;
 
 /// A family whose polynomials are multiplied over the parts of a partition.
-#[derive(Clone, Copy)]
-pub(crate) enum Family {
+#[derive(Clone, Copy, PartialEq, Eq)]
+pub enum Family {
+    /// e_k, for the basis e.
     Elementary,
+    /// h_k, for the basis h.
     Complete,
+    /// p_k, for the basis p.
     PowerSum,
 }
 
 /// Whether p_(k+1)·e_j, or p_(k+1)·h_j, has the sign -1 in Newton's identities.
-fn is_negative(family: Family, k: u16) -> bool
+pub fn is_negative(family: Family, k: u16) -> bool
     ensures { sign family k ≡ cond result (negsuc 0) (pos 1) }
 {
     match family {

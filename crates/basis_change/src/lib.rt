@@ -15,5 +15,6 @@ mod straightening;
 mod table;
 
 pub use change::to_basis;
-pub use clearing::{greatest_size, is_table, numerator_of, scaled_number};
-pub use parts::factorial;
+pub use clearing::{greatest_size, is_table, numerator_of, scaled_number, whole_of};
+pub use factors::{Family, is_negative};
+pub use parts::{factorial, merged};

@@ -5,7 +5,7 @@ ghost use Rattle.sym_model.specs.RaisedPart.{raise, without_one};
 ghost use Rattle.sym_model.specs.Schur.{times_in};
 ghost use Rattle.sym_model.specs.Weight.{factorial};
 ghost use Rattle.basis_change_laws.specs.AugmentedMonomial.{multiplicity_factorials};
-ghost use Rattle.basis_change.specs.Mixed.{merged};
+ghost use Rattle.basis_change_laws.specs.JoinedLists.{merged};
 
 use std::alloc::{AllocError, Global};
 
@@ -40,6 +40,16 @@ pub(crate) fn insert_parts(parts: &mut Vec<u16>, more: &[u16]) -> Result<(), All
         insert_part(parts, *part)?;
     }
     Ok(())
+}
+
+/// The parts of both lists, those of the first put in one after another.
+pub fn merged(alloc: Global, more: &[u16], parts: &[u16]) -> Result<Vec<u16>, AllocError>
+    requires { ArePositive more.now }
+    ensures { IfOk result (λ all. all.items ≡ merged more.now parts.now) }
+{
+    let mut all = copy_of(alloc, parts)?;
+    insert_parts(&mut all, more)?;
+    Ok(all)
 }
 
 /// The parts with the first one that is `from` made `by` greater.

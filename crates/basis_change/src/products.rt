@@ -3,10 +3,11 @@ ghost use Rattle.std.specs.Prelude.{◌≡◌, ◌≢◌, ◌+◌, ◌-◌, ◌*
 ghost use Rattle.sym_model.specs.Partition.{IsPartition, ArePositive, size};
 ghost use Rattle.sym_model.specs.RaisedPart.{raise};
 ghost use Rattle.partitions.specs.Limits.{IsWithinLimits};
-ghost use Rattle.basis_change.specs.Mixed.{mixed, Added, Overflows, AreLow, merged, products, raised};
+ghost use Rattle.basis_change_laws.specs.JoinedLists.{merged};
+ghost use Rattle.basis_change.specs.Mixed.{mixed, Added, Overflows, AreLow, products, raised};
 
 use crate::mixed::MixedLabel;
-use crate::parts::{copy_of, insert_parts, raised};
+use crate::parts::{merged, raised};
 use crate::table::{Mixed, add, entry_at};
 use calc_base::SumFault;
 use coeff_rings::{Int, Ring, Scalar};
@@ -30,8 +31,7 @@ fn add_merged(
     ensures large { IsErrOf result SumFault.Large
         → Overflows ((mixed (merged more.now converted.now) augmented.now, c) ∷ []) sum.old.entries }
 {
-    let mut parts = copy_of(alloc, converted)?;
-    insert_parts(&mut parts, more)?;
+    let parts = merged(alloc, more, converted)?;
     let label = MixedLabel {
         converted: Partition::from_valid_parts(alloc, &parts)?,
         augmented: Partition::from_valid_parts(alloc, augmented)?,

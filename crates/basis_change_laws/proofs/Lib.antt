@@ -1,2 +1,8 @@
 pub mod NewtonIdentities
 pub mod AugmentedMonomials
+pub mod MergedParts
+pub mod JoinedLists
+pub mod NewtonLists
+pub mod PowerLists
+pub mod GrowthBounds
+pub mod FactorialQuotients

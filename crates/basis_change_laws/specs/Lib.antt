@@ -1,1 +1,2 @@
 pub mod AugmentedMonomial
+pub mod JoinedLists

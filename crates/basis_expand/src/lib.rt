@@ -12,7 +12,7 @@ mod schur;
 mod strips;
 mod whole;
 
-pub use denominators::denominator_product;
+pub use denominators::{Common, common_denominator, denominator_product};
 pub use division::divided;
-pub use expansion::to_monomial;
+pub use expansion::{atom_to_monomial, to_monomial};
 pub use whole::{Whole, is_whole, single, sum_of};

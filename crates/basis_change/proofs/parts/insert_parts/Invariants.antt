@@ -1,5 +1,5 @@
 use Rattle.std.proofs.Common.{◌≡◌, drop}
-use Rattle.basis_change.specs.Mixed.{merged}
+use Rattle.basis_change_laws.specs.JoinedLists.{merged}
 use Rattle.basis_change.proofs.parts.insert_parts.Given as goal
 
 abbrev pub invariant-loop-part : goal.invariant-loop-part

@@ -1,8 +1,8 @@
-use Rattle.std.proofs.Common.{ap, subst, sym, ◌∙◌, arith}
+use Rattle.std.proofs.Common.{subst, sym, ◌∙◌, arith}
 use Rattle.partitions.specs.Limits.{IsWithinLimits}
 use Rattle.basis_expand.proofs.PartitionTerms.{IsWithinLimits-low}
-use Rattle.basis_change.specs.Mixed.{merged}
-use Rattle.basis_change.proofs.PartLists.{IsPartition-merged, size-merged}
+use Rattle.basis_change_laws.specs.JoinedLists.{merged}
+use Rattle.basis_change_laws.proofs.MergedParts.{IsPartition-merged, size-merged}
 use Rattle.basis_change.proofs.products.add_merged.Goals as goal
 
 pub from_valid_parts-requires : goal.from_valid_parts-requires
@@ -11,4 +11,4 @@ from_valid_parts-requires c =
     let converted = c.args.converted.now in
     let s = size-merged more converted in
     let low = IsWithinLimits-low (merged more converted) (IsPartition-merged more converted c.requires.converted) (omega (arith, c.requires.sizes)) in
-    subst (λ l. IsWithinLimits l) (sym (c.deref.ensures.value ∙ c.in_ok-insert_parts.ensures ∙ ap (merged c.args.more.now) c.in_ok-parts.ensures)) low
+    subst (λ l. IsWithinLimits l) (sym (c.deref.ensures.value ∙ c.in_ok-parts.ensures)) low

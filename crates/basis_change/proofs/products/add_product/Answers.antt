@@ -1,5 +1,6 @@
 use Rattle.std.proofs.Common.{◌*ℤ◌}
-use Rattle.basis_change.specs.Mixed.{mixed, merged}
+use Rattle.basis_change_laws.specs.JoinedLists.{merged}
+use Rattle.basis_change.specs.Mixed.{mixed}
 use Rattle.basis_change.proofs.Tables.{overflow_term, refused_sum}
 use Rattle.basis_change.proofs.products.add_product.Goals as goal
 

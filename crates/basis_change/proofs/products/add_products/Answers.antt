@@ -2,7 +2,8 @@ use Rattle.std.proofs.Common.{◌+◌, ◌-◌, ◌∷◌, [], ◌++◌, map, ta
 use Rattle.sparse_polys.proofs.Steps.{error_is}
 use Rattle.sym_model.specs.Partition.{size}
 use Rattle.basis_change.specs.declared.mixed.MixedLabel.{MixedLabel}
-use Rattle.basis_change.specs.Mixed.{Mixed, Added, Overflows, mixed, merged, is_past}
+use Rattle.basis_change_laws.specs.JoinedLists.{merged}
+use Rattle.basis_change.specs.Mixed.{Mixed, Added, Overflows, mixed, is_past}
 use Rattle.basis_change.proofs.Tables.{Added-then, Overflows-then, Overflows-front}
 use Rattle.basis_change.proofs.Walks.{map-next, map-whole, weight-none, is_past-tells}
 use Rattle.basis_change.proofs.products.add_products.Goals as goal

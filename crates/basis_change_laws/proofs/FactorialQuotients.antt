@@ -1,0 +1,72 @@
+-- Quotients of factorials.
+use Rattle.std.proofs.Common.{◌≡◌, ℕ, zero, suc, ◌+◌, ◌-◌, ◌*◌, ◌/◌, ◌^◌, ◌<◌, ◌≤◌, refl, sym, ap, ◌∙◌, subst, arith, lit<}
+use Rattle.std.specs.Int.{◌∣◌}
+use Rattle.sym_model.specs.Weight.{factorial}
+use Rattle.monomial_laws.proofs.Growths.{factorial-positive, factorial-mono}
+use native.Mathlib.Nat.{div-mul_cancel, dvd-mul_left, mul-le-mul_left, mul-le-mul_right, mul-pos}
+
+choose : ℕ → ℕ → ℕ
+choose zero b = 1
+choose (suc a) zero = 1
+choose (suc a) (suc b) = choose a (suc b) + choose (suc a) b
+
+choose-is : (a b : ℕ) → choose a b * (factorial a * factorial b) ≡ factorial (a + b)
+unfolding choose
+choose-is zero b = let e : 0 + b ≡ b = omega arith in let f : 1 * (1 * factorial b) ≡ factorial b = omega arith in f ∙ ap factorial (sym e)
+choose-is (suc a) zero = let e : suc a + 0 ≡ suc a = omega arith in let f : 1 * (factorial (suc a) * 1) ≡ factorial (suc a) = omega arith in f ∙ ap factorial (sym e)
+choose-is (suc a) (suc b) =
+    let l = choose-is a (suc b) in
+    let r = choose-is (suc a) b in
+    let e : a + suc b ≡ suc (a + b) = omega arith in
+    let f : suc a + b ≡ suc (a + b) = omega arith in
+    let g : suc a + suc b ≡ suc (suc (a + b)) = omega arith in
+    let h = ap factorial e in
+    let i = ap factorial f in
+    let j = ap factorial g in
+    let m : factorial (suc (suc (a + b))) ≡ suc (suc (a + b)) * factorial (suc (a + b)) = refl in
+    let n = spread (choose a (suc b)) (choose (suc a) b) (suc a) (factorial a) (suc b) (factorial b) in
+    let p = ap (λ x. suc a * x) (l ∙ h) in
+    let q = ap (λ x. suc b * x) (r ∙ i) in
+    let s : suc a * factorial (suc (a + b)) + suc b * factorial (suc (a + b)) ≡ suc (suc (a + b)) * factorial (suc (a + b)) = sum a b (factorial (suc (a + b))) in
+    omega arith
+  where
+    spread : (x y a u b v : ℕ) → (x + y) * ((a * u) * (b * v)) ≡ a * (x * (u * (b * v))) + b * (y * ((a * u) * v))
+    spread x y a u b v = omega arith
+
+    sum : (a b f : ℕ) → suc a * f + suc b * f ≡ suc (suc (a + b)) * f
+    sum a b f = omega arith
+
+pub quotient-is : (x k n : ℕ) → x * k ≡ n → n / k * k ≡ n
+quotient-is x k n e = div-mul_cancel k (subst (λ m. k ∣ m) e (dvd-mul_left k x))
+
+pub binomial-is : (a b : ℕ) → factorial (a + b) / (factorial a * factorial b) * (factorial a * factorial b) ≡ factorial (a + b)
+binomial-is a b = quotient-is (choose a b) (factorial a * factorial b) (factorial (a + b)) (choose-is a b)
+
+pub rise-is : (a d : ℕ) → a ≤ d → factorial d / factorial a * factorial a ≡ factorial d
+rise-is a d h =
+    let e : a + (d - a) ≡ d = omega arith in
+    let c = choose-is a (d - a) ∙ ap factorial e in
+    quotient-is (choose a (d - a) * factorial (d - a)) (factorial a) (factorial d) (turned (choose a (d - a)) (factorial a) (factorial (d - a)) ∙ c)
+  where
+    turned : (x a b : ℕ) → (x * b) * a ≡ x * (a * b)
+    turned x a b = omega arith
+
+pub factors-positive : (a b : ℕ) → 0 < factorial a * factorial b
+factors-positive a b = mul-pos (factorial-positive a) (factorial-positive b)
+
+-- a divisor of a factorial of at most 20 is small
+pub within-factorial : (x k d : ℕ) → x * k ≡ factorial d → 0 < k → d ≤ 20 → x < 2 ^ 127
+within-factorial x k d e p h =
+    let m = factorial-mono d 20 h in
+    let top : factorial 20 < 2 ^ 127 = lit< tt in
+    let n : x * 1 ≤ x * k = mul-le-mul_left x p in
+    omega arith
+
+pub quotient-small : (a b : ℕ) → a + b ≤ 20 → factorial a * factorial b < 2 ^ 128
+quotient-small a b h =
+    let p = factorial-mono a 20 (omega arith) in
+    let q = factorial-mono b 20 (omega arith) in
+    let r = mul-le-mul_left (factorial a) q in
+    let s = mul-le-mul_right (factorial 20) p in
+    let top : factorial 20 * factorial 20 < 2 ^ 128 = lit< tt in
+    omega arith
