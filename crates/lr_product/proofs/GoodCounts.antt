@@ -183,10 +183,16 @@ variables_same (Some n) k = refl
 enough_same : (variables : Option ℕ) (left right : List ℕ) → unwrap_or variables (rows left + rows right) ≡ variables_or variables (size (map rows (left ∷ right ∷ [])))
 enough_same variables left right = variables_same variables (rows left + rows right) ∙ ap (variables_or variables) (let z : rows left + rows right ≡ rows left + (rows right + 0) = omega arith in z)
 
+pub mult_counts : (variables : Option ℕ) (m : ℕ) (left right : List ℕ) (terms : Terms (List ℕ)) → m ≡ unwrap_or variables (rows left + rows right)
+    → ListsCounts m (product_count m left right) terms
+    → ListsCounts (variables_or variables (rows left + rows right)) (product_count (variables_or variables (rows left + rows right)) left right) terms
+mult_counts variables m left right terms e =
+    subst (λ k. ListsCounts k (product_count k left right) terms) (e ∙ variables_same variables (rows left + rows right))
+
 pub mult_answers : (variables : Option ℕ) (m : ℕ) (left right : List ℕ) (terms : Terms (List ℕ)) → m ≡ unwrap_or variables (rows left + rows right) → IsPartition left → IsPartition right
     → ListsCounts m (product_count m left right) terms → Meets (mult variables false (left ∷ right ∷ [])) (answer product terms)
 mult_answers variables m left right terms e p q c =
-    mult_meets variables left right terms p q (subst (λ k. ListsCounts k (product_count k left right) terms) (e ∙ variables_same variables (rows left + rows right)) c)
+    mult_meets variables left right terms p q (mult_counts variables m left right terms e c)
 
 pub mult_past : (variables : Option ℕ) (m : ℕ) (left right : List ℕ) → m ≡ unwrap_or variables (rows left + rows right) → IsPartition left → IsPartition right
     → IsPastSomewhere m (product_count m left right) → HasPastCoefficient (mult variables false (left ∷ right ∷ []))
@@ -262,10 +268,14 @@ same_skew n m outer inner e o i holds =
     (λ ν r l. times_respects (alternant (staircase m)) (alternant (staircase m)) (times (schur [] m) (skew_schur outer inner m)) (skew_schur outer inner m) (Same_refl (alternant (staircase m))) (nothing_times m outer inner o i) (join ν (staircase m))
     ∙ skew_counts m outer inner o i holds ν r l)
 
+pub skew_counted : (variables : Option ℕ) (m : ℕ) (outer inner : List ℕ) (terms : Terms (List ℕ)) → m ≡ unwrap_or variables (rows outer)
+    → ListsCounts m (skew_count outer inner) terms → ListsCounts (variables_or variables (rows outer)) (skew_count outer inner) terms
+skew_counted variables m outer inner terms e = subst (λ k. ListsCounts k (skew_count outer inner) terms) (e ∙ variables_same variables (rows outer))
+
 pub skew_answers : (variables : Option ℕ) (m : ℕ) (outer inner : List ℕ) (terms : Terms (List ℕ)) → m ≡ unwrap_or variables (rows outer) → IsPartition outer → IsPartition inner → contains outer inner ≡ true
     → ListsCounts m (skew_count outer inner) terms → Meets (skew variables false outer inner) (answer product terms)
 skew_answers variables m outer inner terms e o i holds c =
-    skew_meets variables outer inner terms o i holds (subst (λ k. ListsCounts k (skew_count outer inner) terms) (e ∙ variables_same variables (rows outer)) c)
+    skew_meets variables outer inner terms o i holds (skew_counted variables m outer inner terms e c)
 
 pub skew_past : (variables : Option ℕ) (m : ℕ) (outer inner : List ℕ) → m ≡ unwrap_or variables (rows outer) → IsPartition outer → IsPartition inner → contains outer inner ≡ true
     → IsPastSomewhere m (skew_count outer inner) → HasPastCoefficient (skew variables false outer inner)

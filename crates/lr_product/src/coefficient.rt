@@ -22,7 +22,8 @@ use indexmap::IndexMap;
 use partitions::Partition;
 use std::alloc::Global;
 
-/// The coefficient of the Schur polynomial of `outer` in the product of those of `left` and `right`.
+/// The coefficient of the Schur polynomial of `outer` in the product of those of `left` and `right`: the number of good
+/// tableaux of the shape `right` for the start `left` that come to `outer`.
 ///
 /// It is refused as `Large` exactly where it is past 2^127 - 1.
 pub fn coef(
@@ -32,6 +33,7 @@ pub fn coef(
     right: &Partition,
 ) -> Result<Int, SumFault>
     requires { size left.now + size right.now ≤ 4096 }
+    ensures count { IfOk result (λ c. c ≡ pos (product_count (rows outer.now) left.now right.now outer.now)) }
     // Every list of terms that is this number is the answer.
     ensures meets { IfOk result (λ c. (terms : TermList (kinds.Label kinds.number)) → number_in terms ≡ c
         → Meets (commands.coef outer.now left.now right.now) (answer kinds.number terms)) }

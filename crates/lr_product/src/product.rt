@@ -9,7 +9,7 @@ ghost use Rattle.sym_model.specs.Kind as kinds;
 ghost use Rattle.sym_model.specs.Answer.{answer};
 ghost use Rattle.sym_model.specs.Command as commands;
 ghost use Rattle.sym_model.specs.Target.{Meets, classical_product};
-ghost use Rattle.sym_model.specs.LargeAnswer.{HasPastCoefficient, classical_weight};
+ghost use Rattle.sym_model.specs.LargeAnswer.{HasPastCoefficient, classical_weight, variables_or};
 ghost use Rattle.alternant_laws.specs.GoodSums.{ListsCounts};
 ghost use Rattle.lr_product.specs.Counts.{IsPastSomewhere};
 
@@ -21,7 +21,8 @@ use sparse_polys::Terms;
 use std::alloc::Global;
 
 /// The product of the Schur polynomials of `left` and `right` in Schur polynomials: in every number of variables, or,
-/// where `rows` is given, in so many, with the labels of at most so many rows alone.
+/// where `rows` is given, in so many, with the labels of at most so many rows alone. The coefficient of a label is the
+/// number of good tableaux of the shape `right` for the start `left` that come to it (Littlewood and Richardson).
 ///
 /// It is refused as `Large` exactly where a coefficient is past 2^127 - 1.
 pub fn mult(
@@ -34,6 +35,10 @@ pub fn mult(
     requires lengths { number_of_rows left.now + number_of_rows right.now ≤ 512 }
     requires variables { ForSome rows (λ k. (1 ≤ k) × (k ≤ 512)) }
     ensures meets { IfOk result (λ terms. Meets (commands.mult rows false (left.now ∷ right.now ∷ [])) (answer kinds.product terms)) }
+
+    // The coefficients are counts of good tableaux.
+    ensures counts { IfOk result (ListsCounts (variables_or rows (number_of_rows left.now + number_of_rows right.now))
+        (product_count (variables_or rows (number_of_rows left.now + number_of_rows right.now)) left.now right.now)) }
     ensures large { IsErrOf result SumFault.Large → HasPastCoefficient (commands.mult rows false (left.now ∷ right.now ∷ [])) }
     ensures fits { OnOk result (HasPastCoefficient (commands.mult rows false (left.now ∷ right.now ∷ [])) → ⊥) }
 

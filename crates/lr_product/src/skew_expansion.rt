@@ -8,7 +8,7 @@ ghost use Rattle.sym_model.specs.Kind as kinds;
 ghost use Rattle.sym_model.specs.Answer.{answer};
 ghost use Rattle.sym_model.specs.Command as commands;
 ghost use Rattle.sym_model.specs.Target.{Meets};
-ghost use Rattle.sym_model.specs.LargeAnswer.{HasPastCoefficient};
+ghost use Rattle.sym_model.specs.LargeAnswer.{HasPastCoefficient, variables_or};
 ghost use Rattle.alternant_laws.specs.GoodSums.{ListsCounts};
 ghost use Rattle.lr_product.specs.Counts.{IsPastSomewhere};
 
@@ -20,7 +20,8 @@ use sparse_polys::Terms;
 use std::alloc::Global;
 
 /// The skew Schur polynomial of `outer` by `inner` in Schur polynomials: in every number of variables, or, where `rows`
-/// is given, in so many, with the labels of at most so many rows alone. It is 0 where `inner` does not lie inside `outer`.
+/// is given, in so many, with the labels of at most so many rows alone. It is 0 where `inner` does not lie inside `outer`;
+/// elsewhere the coefficient of a label is the number of lattice tableaux of the shape `outer` by `inner` with this content.
 ///
 /// It is refused as `Large` exactly where a coefficient is past 2^127 - 1.
 pub fn skew(
@@ -31,6 +32,10 @@ pub fn skew(
 ) -> Result<Terms<Partition, Int>, SumFault>
     requires { ForSome rows (λ k. (1 ≤ k) × (k ≤ 512)) }
     ensures meets { IfOk result (λ terms. Meets (commands.skew rows false outer.now inner.now) (answer kinds.product terms)) }
+
+    // The coefficients are counts of lattice tableaux.
+    ensures counts { contains outer.now inner.now ≡ true
+        → IfOk result (ListsCounts (variables_or rows (number_of_rows outer.now)) (skew_count outer.now inner.now)) }
     ensures large { IsErrOf result SumFault.Large → HasPastCoefficient (commands.skew rows false outer.now inner.now) }
     ensures fits { OnOk result (HasPastCoefficient (commands.skew rows false outer.now inner.now) → ⊥) }
 {

@@ -3,13 +3,18 @@ use Rattle.std.specs.Option.{unwrap_or}
 use Rattle.sym_model.specs.Partition.{rows}
 use Rattle.sparse_polys.proofs.Coefficients.{if_answered}
 use Rattle.sparse_polys.proofs.ClearedSums.{on_ok}
-use Rattle.lr_product.proofs.GoodCounts.{mult_answers, mult_past, mult_fits, classical_if, heavy_if}
+use Rattle.lr_product.proofs.GoodCounts.{mult_counts, mult_answers, mult_past, mult_fits, classical_if, heavy_if}
 use Rattle.lr_product.proofs.product.mult.Goals as goal
 
 pub returns-clause-meets : goal.returns-clause-meets
 returns-clause-meets c =
     let m : c.unwrap_or-variables.result ≡ unwrap_or c.args.rows (rows c.args.left.now + rows c.args.right.now) = c.unwrap_or-variables.ensures ∙ ap (unwrap_or c.args.rows) (ap₂ ◌+◌ c.rows.ensures.value c.rows-2.ensures.value) in
     if_answered c.counts_in.result c.counts_in.ensures.counts (λ terms l. mult_answers c.args.rows c.unwrap_or-variables.result c.args.left.now c.args.right.now terms m c.counts_in.ensures.factors.0 c.counts_in.ensures.factors.1 l)
+
+pub returns-clause-counts : goal.returns-clause-counts
+returns-clause-counts c =
+    let m : c.unwrap_or-variables.result ≡ unwrap_or c.args.rows (rows c.args.left.now + rows c.args.right.now) = c.unwrap_or-variables.ensures ∙ ap (unwrap_or c.args.rows) (ap₂ ◌+◌ c.rows.ensures.value c.rows-2.ensures.value) in
+    if_answered c.counts_in.result c.counts_in.ensures.counts (λ terms l. mult_counts c.args.rows c.unwrap_or-variables.result c.args.left.now c.args.right.now terms m l)
 
 pub returns-clause-large : goal.returns-clause-large
 returns-clause-large c = λ e.

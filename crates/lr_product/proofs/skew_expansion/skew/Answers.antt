@@ -7,8 +7,8 @@ use Rattle.sym_model.specs.Answer.{answer}
 use Rattle.sym_model.specs.Target.{Meets}
 use Rattle.sparse_polys.proofs.Coefficients.{if_answered}
 use Rattle.sparse_polys.proofs.ClearedSums.{on_ok}
-use Rattle.strip_laws.proofs.Containment.{contains-from}
-use Rattle.lr_product.proofs.GoodCounts.{contains-false, outside_answers, outside_fits, skew_answers, skew_past, skew_fits}
+use Rattle.strip_laws.proofs.Containment.{contains-from, contains-tells}
+use Rattle.lr_product.proofs.GoodCounts.{contains-false, skew_counted, outside_answers, outside_fits, skew_answers, skew_past, skew_fits}
 use Rattle.lr_product.proofs.Results.{on_any}
 use Rattle.lr_product.proofs.skew_expansion.skew.Goals as goal
 
@@ -16,6 +16,11 @@ pub returns-then-not-contains-clause-meets : goal.returns-then-not-contains-clau
 returns-then-not-contains-clause-meets c =
     let outside = contains-false c.args.outer.now c.args.inner.now (λ h. let yes : c.contains.result ≡ true = c.contains.ensures.1 h in absurd (cc)) in
     if_answered c.no_terms.result c.no_terms.ensures.none (λ terms e. subst (λ ts. Meets (skew c.args.rows false c.args.outer.now c.args.inner.now) (answer product ts)) (sym e) (outside_answers c.args.rows c.args.outer.now c.args.inner.now outside))
+
+pub returns-then-not-contains-clause-counts : goal.returns-then-not-contains-clause-counts
+returns-then-not-contains-clause-counts c holds =
+    let no : c.contains.result ≡ true = c.contains.ensures.1 (contains-tells c.args.outer.now c.args.inner.now holds) in
+    absurd (cc)
 
 pub returns-then-not-contains-clause-fits : goal.returns-then-not-contains-clause-fits
 returns-then-not-contains-clause-fits c =
@@ -32,6 +37,11 @@ returns-clause-meets c =
     let yes : c.contains.result ≡ true = cc in
     let inside = contains-from c.args.outer.now c.args.inner.now (c.contains.ensures.0 yes) in
     if_answered c.counts_in.result c.counts_in.ensures.counts (λ terms l. skew_answers c.args.rows c.unwrap_or-variables.result c.args.outer.now c.args.inner.now terms m c.counts_in.ensures.shape.0 c.counts_in.ensures.shape.1 inside l)
+
+pub returns-clause-counts : goal.returns-clause-counts
+returns-clause-counts c holds =
+    let m : c.unwrap_or-variables.result ≡ unwrap_or c.args.rows (rows c.args.outer.now) = c.unwrap_or-variables.ensures ∙ ap (unwrap_or c.args.rows) c.rows.ensures.value in
+    if_answered c.counts_in.result c.counts_in.ensures.counts (λ terms l. skew_counted c.args.rows c.unwrap_or-variables.result c.args.outer.now c.args.inner.now terms m l)
 
 pub returns-clause-large : goal.returns-clause-large
 returns-clause-large c = λ e.
