@@ -17,7 +17,7 @@ pub trait Sink {
     /// How often a call failed, up to 2^64 - 1.
     ghost faults: { Self → ℕ };
 
-    /// Whether the last call was a `finish` that answered `Ok`.
+    /// Whether the last call was a `finish` that answered `Ok`, and nothing that was put waits in the sink.
     ghost settled: { Self → Bool };
 
     /// Appends the piece. At an `Err` a prefix of it was appended, and the count of faults rose by one, or stands at its

@@ -2,32 +2,39 @@
 ghost use Rattle.std.specs.Prelude.{◌≡◌, [], List, ℕ, false, OnOk, is_ok, OnErr};
 ghost use Rattle.std.specs.Bool.{OnTrue};
 ghost use Rattle.std.specs.Io.KnownBytes.{Appends as WriterAppends};
+ghost use Rattle.std.specs.Io.Buffered.{writer_inner, writer_buffer};
 ghost use Rattle.calc_base.specs.Fault.{CountsFaults};
 ghost use Rattle.calc_base.specs.Sink.{Appends, AppendsPrefix, IsPrefix, number_told, counts_told};
-ghost use Rattle.calc_base.specs.Edge.{Outlet};
+ghost use Rattle.calc_base.specs.Edge.{Outlet, told_bytes, is_handed_on};
 
 use crate::{Sink, SinkFault};
-use std::io::Write;
+use std::io::{BufWriter, Write};
 use std::marker::Model;
 
-/// The sink over the program's output, at any writer. It tells the bytes that the writer holds, where those are known.
+/// The sink over the program's output, at any writer behind a buffer. It tells the bytes that the writer holds and those that
+/// wait in the buffer, where the first are known.
 #[derive(Drop)]
-pub struct StdOut<W> {
-    writer: W,
+pub struct StdOut<W: Write + Drop> {
+    writer: BufWriter<W>,
     faults: u64,
     finished: bool,
 }
 
-impl<W> Model for StdOut<W> {
+impl<W: Write + Drop> Model for StdOut<W> {
     ghost Value = { Outlet W };
 
-    ghost view = { λ s. record { writer = s.writer; failed = s.faults; finished = s.finished } };
+    ghost view = { λ s. record {
+      writer = writer_inner s.writer;
+      waiting = writer_buffer s.writer;
+      failed = s.faults;
+      finished = s.finished;
+    } };
 }
 
-impl<W> StdOut<W> {
+impl<W: Write + Drop> StdOut<W> {
     /// A sink over the writer.
-    pub fn new(writer: W) -> StdOut<W>
-        ensures { result ≡ record { writer = writer; failed = 0; finished = false } }
+    pub fn new(writer: BufWriter<W>) -> StdOut<W>
+        ensures { result ≡ record { writer = writer_inner writer; waiting = writer_buffer writer; failed = 0; finished = false } }
     {
         StdOut {
             writer,
@@ -37,24 +44,25 @@ impl<W> StdOut<W> {
     }
 }
 
-impl<W: Write> Sink for StdOut<W> {
-    ghost written = { λ s. W.contents s.writer };
+impl<W: Write + Drop> Sink for StdOut<W> {
+    ghost written = { λ s. told_bytes W.contents s };
 
-    ghost length = { λ s. number_told (W.contents s.writer) };
+    ghost length = { λ s. number_told (told_bytes W.contents s) };
 
     ghost faults = { λ s. s.failed };
 
-    ghost settled = { λ s. s.finished };
+    /// Where it is settled, nothing waits in the buffer.
+    ghost settled = { λ s. is_handed_on s };
 
     /// Writes until all is written. A write that fails, or takes nothing of what is left, is the fault.
     fn put(&mut self, bytes: &[u8]) -> Result<(), SinkFault>
         // What each sink owes.
         ensures ok { OnOk result
-            (Appends (λ s. W.contents s.writer) (λ s. number_told (W.contents s.writer)) self.old self.new bytes.now) }
+            (Appends (λ s. told_bytes W.contents s) (λ s. number_told (told_bytes W.contents s)) self.old self.new bytes.now) }
         ensures err { OnErr result
-            (AppendsPrefix (λ s. W.contents s.writer) (λ s. number_told (W.contents s.writer)) self.old self.new bytes.now) }
+            (AppendsPrefix (λ s. told_bytes W.contents s) (λ s. number_told (told_bytes W.contents s)) self.old self.new bytes.now) }
         ensures counts { CountsFaults self.old.failed self.new.failed result }
-        ensures settled { self.new.finished ≡ false }
+        ensures settled { is_handed_on self.new ≡ false }
     {
         self.finished = false;
         if write_whole(&mut self.writer, bytes) {
@@ -64,12 +72,12 @@ impl<W: Write> Sink for StdOut<W> {
         Err(SinkFault)
     }
 
-    /// Flushes. A flush that fails is the fault.
+    /// Flushes, so that nothing waits in the buffer. A flush that fails is the fault.
     fn finish(&mut self) -> Result<(), SinkFault>
         // What each sink owes.
-        ensures same { Appends (λ s. W.contents s.writer) (λ s. number_told (W.contents s.writer)) self.old self.new [] }
+        ensures same { Appends (λ s. told_bytes W.contents s) (λ s. number_told (told_bytes W.contents s)) self.old self.new [] }
         ensures counts { CountsFaults self.old.failed self.new.failed result }
-        ensures settled { self.new.finished ≡ is_ok result }
+        ensures settled { is_handed_on self.new ≡ is_ok result }
     {
         self.finished = self.writer.flush().is_ok();
         if self.finished {
@@ -79,7 +87,7 @@ impl<W: Write> Sink for StdOut<W> {
         Err(SinkFault)
     }
 
-    ghost counted = { λ s. counts_told (W.contents s.writer) };
+    ghost counted = { λ s. counts_told (told_bytes W.contents s) };
 }
 
 /// Writes all of the bytes, and answers whether each write took some of what was left.

@@ -1,8 +1,8 @@
 //! The tools of a printer: it goes on only while all went well, and keeps that in one truth value.
-ghost use Rattle.std.specs.Prelude.{◌≡◌, [], true, IsTrue, is_ok};
+ghost use Rattle.std.specs.Prelude.{◌≡◌, [], true, IsTrue};
 ghost use Rattle.calc_base.specs.Puts.{Puts};
 
-use crate::{Sink, SinkFault};
+use crate::Sink;
 
 /// Puts the piece where all went well so far, and answers whether all still does.
 pub fn put_if<K: Sink>(well: bool, sink: &mut K, bytes: &[u8]) -> bool
@@ -17,11 +17,4 @@ pub fn finish_if<K: Sink>(well: bool, sink: &mut K) -> bool
     ensures settled { IsTrue result → K.settled sink.new ≡ true }
 {
     well && sink.finish().is_ok()
-}
-
-/// The answer of a printer in which all went well or not.
-pub fn put_result(well: bool) -> Result<(), SinkFault>
-    ensures { is_ok result ≡ well }
-{
-    if well { Ok(()) } else { Err(SinkFault) }
 }

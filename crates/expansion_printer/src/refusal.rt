@@ -6,7 +6,7 @@ ghost use Rattle.expansion_printer.specs.Refusal.{refusal_text};
 
 use crate::numbers::put_number;
 use crate::text_buffer::TextBuffer;
-use calc_base::{Place, Sink, SinkFault, WordsFault, put_if, put_result};
+use calc_base::{Place, Sink, SinkFault, WordsFault};
 
 /// Prints the line of a refusal: its name and its place. Want of memory has no line, and is not passed.
 ///
@@ -30,7 +30,7 @@ pub fn print_refusal<K: Sink>(fault: &WordsFault, sink: &mut K) -> Result<(), Si
 pub fn print_large<K: Sink>(sink: &mut K) -> Result<(), SinkFault>
     ensures { Prints K.written K.length K.faults sink.old sink.new large_line result }
 {
-    put_result(put_if(true, sink, b"! Large\n"))
+    sink.put(b"! Large\n")
 }
 
 /// Prints the line of an offence: its name and its place.

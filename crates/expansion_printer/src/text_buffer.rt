@@ -4,7 +4,7 @@ ghost use Rattle.calc_base.specs.Puts.{Puts};
 ghost use Rattle.expansion_printer.specs.Gathering.{Waiting, Gathers};
 
 use arrayvec::ArrayVec;
-use calc_base::{Sink, SinkFault, put_if, put_result};
+use calc_base::{Sink, SinkFault, put_if};
 use std::marker::Model;
 
 /// How many bytes a buffer has room for.
@@ -50,7 +50,10 @@ impl TextBuffer {
     pub(crate) fn finish<K: Sink>(self, sink: &mut K) -> Result<(), SinkFault>
         ensures { Puts K.written K.length K.faults self.well sink.old (is_ok result) sink.new self.bytes }
     {
-        put_result(put_if(self.well, sink, self.bytes.as_slice()))
+        if !self.well {
+            return Err(SinkFault);
+        }
+        sink.put(self.bytes.as_slice())
     }
 
     /// Keeps the piece where there is room for it, and tells whether there was.

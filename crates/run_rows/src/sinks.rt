@@ -4,6 +4,7 @@ use anyhow::Result;
 use calc_base::{CountSink, FixedSink, MemSink, Sink, StdOut};
 use row_texts::{end, said, start, term, text};
 use std::alloc::Global;
+use std::io::BufWriter;
 
 /// Prints the rows of sinks in memory, in a buffer, without bytes and over a writer.
 pub fn print(rt: &(impl Print + Alloc<A = Global>)) -> Result<()> {
@@ -37,9 +38,11 @@ fn counted(rt: &impl Print) -> Result<()> {
     said(rt, "counted", &sink.count())
 }
 
-fn written(rt: &impl Print) -> Result<()> {
+fn written(rt: &(impl Print + Alloc<A = Global>)) -> Result<()> {
     let mut writer = NarrowWriter::new();
-    put_and_finish_twice(rt, StdOut::new(&mut writer))?;
+    // A buffer without room hands each piece on at once.
+    let straight = BufWriter::with_capacity(rt.alloc(), 0, &mut writer)?;
+    put_and_finish_twice(rt, StdOut::new(straight))?;
     text(rt, "written", writer.taken())
 }
 
