@@ -1,6 +1,8 @@
 -- What a command says (this project's own).
+use Rattle.std.specs.Prelude.{◌≡◌}
 use Rattle.sym_model.specs.Command.{Command as PlainCommand, mult, skew, coef, coprod, quantum, fusion, expand, schubert, schubmult, tab, rsk, unrsk, rect, growth, plethysm, dschubmult, stanley, batch, work}
 use Rattle.calc_expressions.specs.Trees.{basis_of, tree_of}
+use Rattle.calc_commands.specs.Pairs.{IsPair}
 use Rattle.calc_commands.specs.declared.command.Command.{Command}
 use Rattle.calc_commands.specs.declared.command.Command.TheVariants.{Mult, Skew, Coef, Coprod, Quantum, Fusion, Expand, Schubert, Schubmult, Tab, Rsk, Unrsk, Rect, Growth, Plethysm, Dschubmult, Stanley, Batch, Work}
 
@@ -17,7 +19,7 @@ command_of (Schubert perm) = schubert perm
 command_of (Schubmult left right) = schubmult left right
 command_of (Expand target one_line formula) = expand (basis_of target) one_line (tree_of formula.tree)
 command_of (Rsk letters) = rsk letters
-command_of (Unrsk pair) = unrsk pair.0.rows pair.1.rows
+command_of (Unrsk p q) = unrsk p.rows q.rows
 command_of (Rect tableau) = rect tableau.outer tableau.inner tableau.rows
 command_of (Growth perm) = growth perm
 command_of (Plethysm target outer inner) = plethysm (basis_of target) (tree_of outer.tree) (tree_of inner.tree)
@@ -25,3 +27,12 @@ command_of (Dschubmult left right) = dschubmult left right
 command_of (Stanley rows perm) = stanley rows perm
 command_of Batch = batch
 command_of (Work lines seed) = work lines seed
+
+-- the two tableaux of `unrsk` are a pair; of the other commands nothing is asked
+abbrev pub IsSound : Command → Type 0
+IsSound (Unrsk p q) = IsPair p q
+IsSound _ = Unit {0}
+
+-- the command stands for this one, and is sound
+abbrev pub StandsFor : PlainCommand → Command → Type 0
+StandsFor plain command = (command_of command ≡ plain) × IsSound command

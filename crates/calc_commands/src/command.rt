@@ -1,11 +1,10 @@
 //! A command.
 
-use crate::pair::TableauPair;
 use calc_base::Word;
 use calc_expressions::{Basis, Formula};
 use partitions::{Factors, Partition};
 use perm_codes::Perm;
-use skew_shapes::Tableau;
+use skew_shapes::{Standard, Tableau};
 
 /// A command.
 #[derive(Drop)]
@@ -73,9 +72,10 @@ pub enum Command {
     Rsk {
         letters: Word,
     },
-    /// The word whose insertion makes the pair of tableaux.
+    /// The word whose insertion makes the two tableaux. Those that a reader answers have one straight shape of at most 256 cells.
     Unrsk {
-        pair: TableauPair,
+        p: Tableau,
+        q: Standard,
     },
     /// The rectification of a skew tableau.
     Rect {

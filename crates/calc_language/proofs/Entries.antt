@@ -65,16 +65,16 @@ pub record AreTold (entries : List Entry) : Type 0 where
   pub apart : are_named_apart entries ≡ true
 
 wrong_first : (entries : List Entry) (words : Words) (r : Result Command WordsFault) → IsSyntaxPlace entries words 0 0
-    → r ≡ Err (Syntax (record { word = 0; byte = 0 })) → IsReadBy entries command_of words r
-wrong_first entries words r p h = subst (λ x. IsReadBy entries command_of words x) (sym h) p
+    → r ≡ Err (Syntax (record { word = 0; byte = 0 })) → IsReadBy entries words r
+wrong_first entries words r p h = subst (λ x. IsReadBy entries words x) (sym h) p
 
 -- what is read by its name among all is read so among some that are there for this name
 pub named_among : (all entries : List Entry) → AreTold entries → (w : List ℕ) (words rest : Words) (r : Result Command WordsFault) → words ≡ w ∷ rest
     → ((e : Entry) → Among e all → w ≡ e.name → Among e entries) → ((e : Entry) → Among e entries → Among e all)
-    → IsReadAs (entry_named w all) words r → IsReadBy entries command_of words r
+    → IsReadAs (entry_named w all) words r → IsReadBy entries words r
 named_among all entries t w words rest r is here there h = by (entry_named w all) refl h
   where
-    by : (o : Option Entry) → entry_named w all ≡ o → IsReadAs o words r → IsReadBy entries command_of words r
+    by : (o : Option Entry) → entry_named w all ≡ o → IsReadAs o words r → IsReadBy entries words r
     by None s k =
         wrong_first entries words r
         (subst (λ ws. IsSyntaxPlace entries ws 0 0) (sym is)
@@ -84,7 +84,7 @@ named_among all entries t w words rest r is here there h = by (entry_named w all
         let m = here e f.0 f.1 in
         joined_read e entries
         (record { among = m; alone = λ f n q. one_named entries t.apart e f m n q; named = λ f n. led_named f (each_among IsLed entries t.led f n) })
-        command_of words rest (is ∙ ap (λ v. v ∷ rest) f.1) r k
+        words rest (is ∙ ap (λ v. v ∷ rest) f.1) r k
 
 -- ---- the commands of the command line and of a batch
 
@@ -120,7 +120,7 @@ read_named w words rest r is h = named_among command_entries command_entries com
 
 pub read_in_line : (w : List ℕ) (words rest : Words) (r : Result Command WordsFault) → words ≡ w ∷ rest
     → (w ≡ codes "batch" → ⊥) → (w ≡ codes "work" → ⊥)
-    → IsReadAs (entry_named w command_entries) words r → IsReadBy batch_entries command_of words r
+    → IsReadAs (entry_named w command_entries) words r → IsReadBy batch_entries words r
 read_in_line w words rest r is b k h = named_among command_entries batch_entries lines_told w words rest r is here there h
   where
     there : (e : Entry) → Among e batch_entries → Among e command_entries
@@ -137,7 +137,7 @@ read_in_line w words rest r is b k h = named_among command_entries batch_entries
 
 -- no word, or a name that stands in no line
 pub no_words : (words : Words) (r : Result Command WordsFault) (entries : List Entry) → AreTold entries → words ≡ [] → r ≡ Err (Syntax (record { word = 0; byte = 0 }))
-    → IsReadBy entries command_of words r
+    → IsReadBy entries words r
 no_words words r entries t is h =
     wrong_first entries words r (subst (λ ws. IsSyntaxPlace entries ws 0 0) (sym is) (wordless entries t.led t.can t.some)) h
 
@@ -147,7 +147,7 @@ kept_by_all words c h =
     some_keeps (entries_of all_bases) (all_keep all_bases) words c h
 
 pub within : (words : Words) (result : Result Command WordsFault) → IsRead words result → IfOk result IsWithinItsLimits
-within words (Ok command) h = kept_by_all words (command_of command) h
+within words (Ok command) h = kept_by_all words (command_of command) h.0
 within words (Err fault) h = tt
 
 pub empty_map : {A : Type 0} (f : A → List ℕ) (xs : List A) → length xs ≡ 0 → map f xs ≡ []
@@ -156,7 +156,7 @@ empty_map f (x ∷ xs) h = absurd (omega (arith, h))
 
 -- words whose first word is the name of a command that stands in no line
 pub elsewhere : (w : List ℕ) (words rest : Words) (r : Result Command WordsFault) → words ≡ w ∷ rest
-    → EachOf (λ (e : Entry). w ≡ e.name → ⊥) batch_entries → r ≡ Err (Syntax (record { word = 0; byte = 0 })) → IsReadBy batch_entries command_of words r
+    → EachOf (λ (e : Entry). w ≡ e.name → ⊥) batch_entries → r ≡ Err (Syntax (record { word = 0; byte = 0 })) → IsReadBy batch_entries words r
 elsewhere w words rest r is apart h =
     wrong_first batch_entries words r
     (subst (λ ws. IsSyntaxPlace batch_entries ws 0 0) (sym is)

@@ -34,7 +34,7 @@ use Rattle.calc_words.specs.Reading.{IsRead as IsReadBy}
 use Rattle.calc_expressions.specs.Trees.{basis_of}
 use Rattle.calc_commands.specs.declared.command.Command.{Command}
 use Rattle.calc_language.specs.ExpandFront.{form_written, front, IsBehindForm}
-use Rattle.calc_language.specs.Reading.{placed, command_of}
+use Rattle.calc_language.specs.Reading.{placed}
 
 -- the command, and the command alone
 abbrev pub the_entry : Entry
@@ -243,20 +243,22 @@ offends m t i z e first s h =
 
 -- what the words are read as where they are those of `expand` alone
 abbrev pub IsAlone : Words → Result Command WordsFault → Type 0
-IsAlone words r = IsReadBy expand_alone command_of words r
+IsAlone words r = IsReadBy expand_alone words r
 
 pub read-expression : (m : Bool) (b : Letter) → IsTarget (basis_of b) → (z : List ℕ) (f : Formula) → IsExpression (basis_of b) z f
     → IsAlone (spelled_words m (basis_of b) z) (Ok (Expand b m f))
 read-expression m b i z f h =
-    let k = 2 + length (words_of (optional form_words) (form_written m)) in
-    inl
-    (record {
-      has = has_command m (basis_of b) i z h.0 h.1;
-      says_it =
-          ap (expand (basis_of b) m) h.3
-          ∙ ap (λ o. expand (basis_of b) o (tree h.0)) (sym (form_said m));
-      no_offence = first-placed k (offences (basis_of b) h.0) ∙ ap (option_map (at_word k)) h.2;
-    })
+    let k = 2 + length (words_of (optional form_words) (form_written m)) in (
+      inl
+          (record {
+            has = has_command m (basis_of b) i z h.0 h.1;
+            says_it =
+                ap (expand (basis_of b) m) h.3
+                ∙ ap (λ o. expand (basis_of b) o (tree h.0)) (sym (form_said m));
+            no_offence = first-placed k (offences (basis_of b) h.0) ∙ ap (option_map (at_word k)) h.2;
+          }),
+      tt,
+    )
 
 pub read-fault : (m : Bool) (t : Basis) → IsTarget t → (z : List ℕ) (e : ExpressionFault) → IsReadAs t z (Err e)
     → IsAlone (spelled_words m t z) (Err (placed (length (front m) + 1) e))

@@ -54,17 +54,17 @@ abbrev whole : Result Command WordsFault → Result (Option Command) WordsFault
 whole (Ok command) = Ok (Some command)
 whole (Err fault) = Err fault
 
-words_line : (words : Words) (r : Result Command WordsFault) → IsRead batch_entries command_of words r → IsLineRead (spoken words) (whole r)
+words_line : (words : Words) (r : Result Command WordsFault) → IsRead batch_entries words r → IsLineRead (spoken words) (whole r)
 words_line words (Ok command) h = h
 words_line words (Err fault) h = h
 
 pub line_read : (line : List ℕ) (kept : Words) (r : Result Command WordsFault) → nat_lt most_bytes (length line) ≡ false
-    → kept ≡ map seen (words_of_line (without_return line)) → is_passed_over kept ≡ false → IsRead batch_entries command_of kept r
+    → kept ≡ map seen (words_of_line (without_return line)) → is_passed_over kept ≡ false → IsRead batch_entries kept r
     → IsLineRead (batch_line line) (whole r)
 line_read line kept r n k h read =
     let words = words_of_line (without_return line) in
     subst (λ l. IsLineRead l (whole r)) (sym (spoken_line line kept n k h))
-    (words_line words r (seen_read batch_entries refl command_of words r (subst (λ ws. IsRead batch_entries command_of ws r) k read)))
+    (words_line words r (seen_read batch_entries refl words r (subst (λ ws. IsRead batch_entries ws r) k read)))
 
 -- ---- what follows
 
@@ -85,25 +85,25 @@ within too_long (Ok (Some command)) h = absurd h
 within passed_over (Ok (Some command)) h = absurd h
 within (spoken words) (Ok (Some command)) h =
     let c = command_of command in
-    kept_by_all words c (line_of_all words c h)
+    kept_by_all words c (line_of_all words c h.0)
 
 spoken_accepts : (words : Words) (r : Result (Option Command) WordsFault) → IsLineRead (spoken words) r → (c : PlainCommand)
     → SpellsWithoutOffence batch_entries words c → AcceptsInLine c r
 spoken_accepts words (Ok None) h c s = absurd h
-spoken_accepts words (Ok (Some command)) h c s = accepts batch_entries refl command_of words (Ok command) h c s
-spoken_accepts words (Err fault) h c s = accepts {A = Command} batch_entries refl command_of words (Err fault) h c s
+spoken_accepts words (Ok (Some command)) h c s = accepts batch_entries refl words (Ok command) h c s
+spoken_accepts words (Err fault) h c s = accepts batch_entries refl words (Err fault) h c s
 
 spoken_refuses : (words : Words) (r : Result (Option Command) WordsFault) → IsLineRead (spoken words) r → (o : Offence)
     → HasFirstOffence batch_entries words (Some o) → Refuses o r
 spoken_refuses words (Ok None) h o s = absurd h
-spoken_refuses words (Ok (Some command)) h o s = refuses batch_entries refl command_of words (Ok command) h o s
-spoken_refuses words (Err fault) h o s = refuses {A = Command} batch_entries refl command_of words (Err fault) h o s
+spoken_refuses words (Ok (Some command)) h o s = refuses batch_entries refl words (Ok command) h o s
+spoken_refuses words (Err fault) h o s = refuses batch_entries refl words (Err fault) h o s
 
 spoken_wrong : (words : Words) (r : Result (Option Command) WordsFault) → IsLineRead (spoken words) r → (w b : ℕ)
     → IsSyntaxPlace batch_entries words w b → GoesWrong w b r
 spoken_wrong words (Ok None) h w b s = absurd h
-spoken_wrong words (Ok (Some command)) h w b s = goes_wrong batch_entries refl command_of words (Ok command) h w b s
-spoken_wrong words (Err fault) h w b s = goes_wrong {A = Command} batch_entries refl command_of words (Err fault) h w b s
+spoken_wrong words (Ok (Some command)) h w b s = goes_wrong batch_entries refl words (Ok command) h w b s
+spoken_wrong words (Err fault) h w b s = goes_wrong batch_entries refl words (Err fault) h w b s
 
 pub line_accepts : (line : BatchLine) (r : Result (Option Command) WordsFault) → IsLineRead line r → (words : Words) (c : PlainCommand) → line ≡ spoken words
     → SpellsWithoutOffence batch_entries words c → AcceptsInLine c r

@@ -24,11 +24,12 @@ use Rattle.calc_expressions.specs.Reading.{IsReadBy}
 use Rattle.calc_expressions.specs.Trees.{tree_of}
 use Rattle.calc_expressions.proofs.SignJudging.{inner-ends_last}
 use Rattle.calc_words.specs.Reading.{IsRead as IsReadAs, IsFirst, IsJudged}
-use Rattle.calc_words.proofs.Commands.{read_judged, judged_err, judged_on}
+use Rattle.calc_words.proofs.Commands.{read_standing, judged_err, judged_on}
 use Rattle.calc_words.proofs.FirstOffences.{AllBefore, none-append}
+use Rattle.calc_commands.specs.Commands.{StandsFor}
 use Rattle.calc_commands.specs.declared.command.Command.{Command}
 use Rattle.calc_language.specs.Expressions.{AreTwoExpressions}
-use Rattle.calc_language.specs.Reading.{placed, command_of}
+use Rattle.calc_language.specs.Reading.{placed}
 use Rattle.calc_language.proofs.ExpandWords.{at_word, first-placed, same_order}
 use Rattle.calc_language.proofs.PlethysmWords.{alone, is_target}
 
@@ -175,10 +176,10 @@ trees_said v w f g x y t r k s h =
 
 -- words of the form
 pub plethysm_read : (t : Basis) (words : Words) (v w : List ℕ) (a : AreTwoExpressions v w words) (r : Result Command WordsFault)
-    → IsJudged (λ c. command_of c ≡ plethysm t (tree a.outer_phrase) (tree a.inner_phrase)) (first_offence (plethysm_offences 2 a.outer_phrase a.inner_phrase)) r
-    → IsReadAs alone command_of (codes "plethysm" ∷ letter t ∷ words) r
+    → IsJudged (StandsFor (plethysm t (tree a.outer_phrase) (tree a.inner_phrase))) (first_offence (plethysm_offences 2 a.outer_phrase a.inner_phrase)) r
+    → IsReadAs alone (codes "plethysm" ∷ letter t ∷ words) r
 plethysm_read t words v w a r h =
-    read_judged (plethysm_entry all_bases) (codes "plethysm" ∷ letter t ∷ words)
+    read_standing (plethysm_entry all_bases) (codes "plethysm" ∷ letter t ∷ words)
     (record {
       written = (tt, (t, (a.outer_phrase, a.inner_phrase)));
       allowed = (tt, (is_target t, (a.outer_spelled.allowed, a.inner_spelled.allowed)));
@@ -187,4 +188,4 @@ plethysm_read t words v w a r h =
           ∙ ap (λ x. codes "plethysm" ∷ letter t ∷ x ∷ w ∷ []) a.outer_spelled.spelled
           ∙ ap (λ x. codes "plethysm" ∷ letter t ∷ spelling a.outer_phrase ∷ x ∷ []) a.inner_spelled.spelled;
     })
-    command_of (λ c. command_of c ≡ plethysm t (tree a.outer_phrase) (tree a.inner_phrase)) (λ c k. k) r h
+    (plethysm t (tree a.outer_phrase) (tree a.inner_phrase)) refl r h

@@ -7,6 +7,7 @@ use Rattle.calc_base.specs.declared.words.WordsFault.{WordsFault}
 use Rattle.calc_base.specs.declared.words.WordsFault.TheVariants.{NoMemory}
 use Rattle.calc_words.specs.Reading.{IsRefusal, IsFaultOf}
 use Rattle.calc_language.specs.BuiltCommands.{batch_entries}
+use Rattle.calc_commands.specs.Commands.{IsSound}
 use Rattle.calc_commands.specs.declared.command.Command.{Command}
 use Rattle.calc_language.specs.Reading.{command_of, IsWithinItsLimits}
 
@@ -21,7 +22,7 @@ IsLineRead passed_over (Ok (Some command)) = ⊥
 IsLineRead passed_over (Err NoMemory) = Unit {0}
 IsLineRead passed_over (Err fault) = ⊥
 IsLineRead (spoken words) (Ok None) = ⊥
-IsLineRead (spoken words) (Ok (Some command)) = SpellsWithoutOffence batch_entries words (command_of command)
+IsLineRead (spoken words) (Ok (Some command)) = SpellsWithoutOffence batch_entries words (command_of command) × IsSound command
 IsLineRead (spoken words) (Err fault) = IsRefusal batch_entries words fault
 
 -- what a command of a line names is within the limits of words

@@ -1,6 +1,5 @@
 -- What the words of a command are read as (this project's own).
 use Rattle.std.specs.Prelude.{◌≡◌, ℕ, cond, List, [], ◌∷◌, Option, Some, None, Result, Err}
-use Rattle.sym_model.specs.Command.{Command as PlainCommand}
 use Rattle.sym_model.specs.Entry.{Entry}
 use Rattle.sym_model.specs.Polynomial.{same}
 use Rattle.calc_language.specs.BuiltCommands.{command_entries}
@@ -8,11 +7,11 @@ use Rattle.calc_base.specs.declared.words.WordsFault.{WordsFault}
 use Rattle.calc_base.specs.declared.words.WordsFault.TheVariants.{Syntax, Literal, Range, Shape, NoMemory}
 use Rattle.calc_expressions.specs.declared.reading.ExpressionFault.{ExpressionFault}
 use Rattle.calc_expressions.specs.declared.reading.ExpressionFault.TheVariants.{Syntax as Wrong, Literal as Wide, Range as Past, Shape as Misshapen, NoMemory as Full}
-use Rattle.calc_words.specs.Reading.{IsRead as IsReadBy, Accepts as AcceptsBy}
+use Rattle.calc_words.specs.Reading.{IsRead as IsReadBy}
 use Rattle.calc_words.specs.WrittenLimits.{KeepsLimits}
 use Rattle.calc_commands.specs.declared.command.Command.{Command}
 pub use Rattle.calc_commands.specs.Commands.{command_of}
-pub use Rattle.calc_words.specs.Reading.{IsFaultOf, Refuses, GoesWrong}
+pub use Rattle.calc_words.specs.Reading.{IsFaultOf, Accepts, Refuses, GoesWrong}
 
 -- the entry of this name
 abbrev pub entry_named : List ℕ → List Entry → Option Entry
@@ -22,19 +21,16 @@ entry_named name (e ∷ entries) = cond (same name e.name) (Some e) (entry_named
 -- the words are read as those of the entry, where there is one, and otherwise go wrong at the first word
 abbrev pub IsReadAs : Option Entry → List (List ℕ) → Result Command WordsFault → Type 0
 IsReadAs None words result = result ≡ Err (Syntax (record { word = 0; byte = 0 }))
-IsReadAs (Some e) words result = IsReadBy (e ∷ []) command_of words result
+IsReadAs (Some e) words result = IsReadBy (e ∷ []) words result
 
 -- what the command names is within the limits of words
 abbrev pub IsWithinItsLimits : Command → Type 0
 IsWithinItsLimits command = KeepsLimits (command_of command)
 
--- the words are this command without offence, or go wrong or first offend at this place; want of memory says nothing of them
+-- the words are this command without offence, and it is sound, or they go wrong or first offend at this place; want of memory says
+-- nothing of them
 abbrev pub IsRead : List (List ℕ) → Result Command WordsFault → Type 0
-IsRead words result = IsReadBy command_entries command_of words result
-
--- the command is accepted, but for want of memory
-abbrev pub Accepts : PlainCommand → Result Command WordsFault → Type 0
-Accepts c result = AcceptsBy command_of c result
+IsRead words result = IsReadBy command_entries words result
 
 -- the refusal of an expression that stands at the word
 abbrev pub placed : ℕ → ExpressionFault → WordsFault

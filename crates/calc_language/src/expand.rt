@@ -7,7 +7,6 @@ ghost use Rattle.calc_expressions.specs.Trees.{basis_of};
 ghost use Rattle.calc_words.specs.Reading.{IsRead as IsReadBy};
 ghost use Rattle.calc_language.specs.BuiltCommands.{IsTarget};
 ghost use Rattle.calc_language.specs.ExpandFront.{front, IsBehindForm};
-ghost use Rattle.calc_language.specs.Reading.{command_of};
 
 use crate::refusal::{placed, syntax};
 use crate::{Basis, Command};
@@ -42,7 +41,7 @@ fn target_word(one_line: bool) -> u64
 /// there.
 fn read_target(alloc: Global, one_line: bool, words: &[String]) -> Result<Command, WordsFault>
     requires { IsBehindForm one_line (map string_bytes words.now) }
-    ensures { IsReadBy (expand_entry all_bases ∷ []) command_of (front one_line ++ map string_bytes words.now) result }
+    ensures { IsReadBy (expand_entry all_bases ∷ []) (front one_line ++ map string_bytes words.now) result }
 {
     let at = target_word(one_line);
     let Some((letter, words)) = words.split_first() else {
@@ -74,7 +73,7 @@ fn read_target(alloc: Global, one_line: bool, words: &[String]) -> Result<Comman
 /// The words of `expand`: that word, `-m` where the answer is wanted on one line, the letter of a target, and an
 /// expression.
 pub(crate) fn read_expand(alloc: Global, words: &[String]) -> Result<Command, WordsFault>
-    ensures { IsReadBy (expand_entry all_bases ∷ []) command_of (map string_bytes words.now) result }
+    ensures { IsReadBy (expand_entry all_bases ∷ []) (map string_bytes words.now) result }
 {
     let Some(rest) = behind(words, "expand") else {
         return Err(syntax(0, 0));

@@ -8,12 +8,11 @@ ghost use Rattle.sym_model.specs.SyntaxPlace.{IsSyntaxPlace};
 ghost use Rattle.calc_words.specs.Reading.{IsRead as IsReadBy, Refuses, GoesWrong};
 ghost use Rattle.calc_language.specs.BuiltCommands.{batch_entries};
 ghost use Rattle.calc_language.specs.Lines.{IsLineRead, KeepsItsLimits, IsPassedOver, AcceptsInLine};
-ghost use Rattle.calc_language.specs.Reading.{command_of};
 
 use crate::Command;
 use crate::by_name::by_name;
 use crate::refusal::syntax;
-use calc_base::{NoMemory, Place, WordsFault};
+use calc_base::{Place, WordsFault};
 use calc_words::{are_passed_over, line_words, without_return};
 use std::alloc::Global;
 
@@ -52,22 +51,17 @@ fn read(alloc: Global, line: &[u8]) -> Result<Option<Command>, WordsFault>
             },
         });
     }
-    let words = match line_words(alloc, without_return(line)) {
-        Ok(words) => words,
-        Err(NoMemory) => return Err(WordsFault::NoMemory),
-    };
+    let words = line_words(alloc, without_return(line))?;
     if are_passed_over(words.as_slice()) {
         return Ok(None);
     }
-    match read_in_line(alloc, words.as_slice()) {
-        Ok(command) => Ok(Some(command)),
-        Err(fault) => Err(fault),
-    }
+    let command = read_in_line(alloc, words.as_slice())?;
+    Ok(Some(command))
 }
 
 /// The words of a line as those of a command.
 fn read_in_line(alloc: Global, words: &[String]) -> Result<Command, WordsFault>
-    ensures { IsReadBy batch_entries command_of (map string_bytes words.now) result }
+    ensures { IsReadBy batch_entries (map string_bytes words.now) result }
 {
     let Some((first, _)) = words.split_first() else {
         return Err(syntax(0, 0));

@@ -8,7 +8,7 @@ ghost use Rattle.sym_model.specs.Phrase.{Phrase, SpellsPhrase, letter, tree};
 ghost use Rattle.calc_expressions.specs.Trees.{basis_of};
 ghost use Rattle.calc_words.specs.Reading.{IsRead as IsReadBy, IsRefusal, IsJudged};
 ghost use Rattle.calc_language.specs.Expressions.{AreTwoExpressions};
-ghost use Rattle.calc_language.specs.Reading.{command_of};
+ghost use Rattle.calc_commands.specs.Commands.{StandsFor};
 
 use crate::expand::target_named;
 use crate::refusal::{placed, syntax};
@@ -47,7 +47,7 @@ fn two_expressions(words: &[String]) -> Result<(&String, &String), WordsFault>
 /// The two expressions, or their first offence.
 fn judged(alloc: Global, target: Basis, outer: &[u8], inner: &[u8]) -> Result<Command, WordsFault>
     ensures { (f g : Phrase) → SpellsPhrase outer.now f → SpellsPhrase inner.now g
-        → IsJudged (λ c. command_of c ≡ plethysm (basis_of target) (tree f) (tree g)) (first_offence (plethysm_offences 2 f g)) result }
+        → IsJudged (StandsFor (plethysm (basis_of target) (tree f) (tree g))) (first_offence (plethysm_offences 2 f g)) result }
 {
     let end = ExpressionFault::Range {
         byte: inner.len() as u64,
@@ -72,7 +72,7 @@ fn judged(alloc: Global, target: Basis, outer: &[u8], inner: &[u8]) -> Result<Co
 
 /// The words behind the letter of the target.
 fn read_targeted(alloc: Global, target: Basis, words: &[String]) -> Result<Command, WordsFault>
-    ensures { IsReadBy (plethysm_entry all_bases ∷ []) command_of
+    ensures { IsReadBy (plethysm_entry all_bases ∷ [])
         (codes "plethysm" ∷ letter (basis_of target) ∷ map string_bytes words.now) result }
 {
     let (outer, inner) = two_expressions(words)?;
@@ -81,7 +81,7 @@ fn read_targeted(alloc: Global, target: Basis, words: &[String]) -> Result<Comma
 
 /// The words of `plethysm`: that word, the letter of a target, the outer expression and the inner one.
 pub(crate) fn read_plethysm(alloc: Global, words: &[String]) -> Result<Command, WordsFault>
-    ensures { IsReadBy (plethysm_entry all_bases ∷ []) command_of (map string_bytes words.now) result }
+    ensures { IsReadBy (plethysm_entry all_bases ∷ []) (map string_bytes words.now) result }
 {
     let Some(rest) = behind(words, "plethysm") else {
         return Err(syntax(0, 0));

@@ -1,14 +1,14 @@
 -- Words that have been read: which command they are.
-use Rattle.std.proofs.Common.{◌≡◌, ℕ, ◌+◌, ◌-◌, ◌≤◌, Bool, true, false, map, arith, Option, ◌⊎◌, List, [], ◌∷◌, ◌++◌, length, length-append, refl, sym, ap, ◌∙◌, subst, Some, None, Result, Ok, Err, inl, inr}
+use Rattle.std.proofs.Common.{◌≡◌, ℕ, ◌+◌, ◌-◌, ◌≤◌, true, map, arith, Option, ◌⊎◌, List, [], ◌∷◌, ◌++◌, length, length-append, refl, sym, ap, ◌∙◌, subst, Some, None, Result, Ok, Err, inl, inr}
 use Rattle.std.specs.Prelude.{codes}
 use Rattle.std.proofs.lemmas.List.{length-map}
 use Rattle.sym_model.specs.Sum.{each, Among}
 use Rattle.sym_model.proofs.Sums.{Among_from_append}
 use Rattle.sym_model.specs.PrintedBlock.{decimal_value}
-use Rattle.sym_model.specs.ExpressionOffence.{literal, range, shape, is_wide}
+use Rattle.sym_model.specs.ExpressionOffence.{literal, range, shape}
 use Rattle.sym_model.specs.Form.{word, number, Written, words_of, EachOf, May, Has, can_be}
 use Rattle.sym_model.specs.Command.{Command, skew}
-use Rattle.sym_model.specs.CommandOffence.{Offence, Rule, first_offence, part_offences, part_rule, rows_rule, offences_by, when, is_outside, most_rows}
+use Rattle.sym_model.specs.CommandOffence.{Offence, Rule, first_offence, part_offences, part_rule, rows_rule, offences_by}
 use Rattle.sym_model.specs.Entry.{Entry}
 use Rattle.sym_model.specs.Grammar.{coprod_words, coprod_entry, coef_entry, skew_entry, two_partitions, option_words}
 use Rattle.sym_model.specs.SyntaxPlace.{IsSyntaxPlace}
@@ -17,17 +17,14 @@ use Rattle.word_laws.specs.Words.{Words}
 use Rattle.word_laws.proofs.Classes.{number_sound}
 use Rattle.calc_base.specs.declared.words.WordsFault.{WordsFault}
 use Rattle.calc_base.specs.declared.words.WordsFault.TheVariants.{Syntax, Literal, Range, Shape, NoMemory}
-use Rattle.calc_words.specs.NumberRuns.{IsNumber, AreTwoLists, narrow}
-use Rattle.calc_words.specs.declared.offence.Kind.TheVariants.{Literal as Wide, Range as Past}
-use Rattle.calc_words.specs.Faults.{fault_of}
+use Rattle.calc_words.specs.NumberRuns.{IsNumber, AreTwoLists}
 use Rattle.calc_words.specs.Rows.{AreOptions, IsLimitWord}
-use Rattle.calc_commands.specs.Commands.{command_of}
+use Rattle.calc_commands.specs.Commands.{command_of, IsSound, StandsFor}
 use Rattle.calc_commands.specs.declared.command.Command.{Command as Read}
 use Rattle.calc_commands.specs.declared.command.Command.TheVariants.{Skew, Coef, Coprod}
 use Rattle.calc_words.specs.declared.options.Options.{Options}
-use Rattle.calc_words.proofs.FirstOffences.{of_kind, first-kind, first_of_three, lowest, within, AllBefore, first-append, none-append}
-use Rattle.calc_words.proofs.Judging.{narrow_none, narrow_some}
-use Rattle.calc_words.specs.Reading.{IsRead, IsRefusal, IsJudged, IsFirst}
+use Rattle.calc_words.proofs.FirstOffences.{within, AllBefore, first-append, none-append}
+use Rattle.calc_words.specs.Reading.{IsRead, IsPartRead, IsRefusal, IsJudged, IsFirst}
 use Rattle.calc_words.specs.Standing.{WrongAt}
 use Rattle.calc_words.proofs.Standing.{wrong_place}
 
@@ -40,16 +37,31 @@ pub singles : (ns : Words) → each (λ t. t ∷ []) ns ≡ ns
 singles [] = refl
 singles (t ∷ ns) = ap (λ ws. t ∷ ws) (singles ns)
 
--- words of the form whose offences have been judged
-pub read_judged : {A : Type 0} (e : Entry) (words : Words) (has : Has e.form words) (says : A → Command) (P : A → Type 0)
-    → ((x : A) → P x → says x ≡ e.says has.written) → (r : Result A WordsFault)
-    → IsJudged P (first_offence (e.offends has.written)) r → IsRead (e ∷ []) says words r
-read_judged e words has says P f (Ok x) h = inl (record { has = has; says_it = f x h.0; no_offence = h.1 })
-read_judged e words has says P f (Err (Syntax at)) h = absurd h
-read_judged e words has says P f (Err (Literal at)) h = inl (record { has = has; first_is = sym h })
-read_judged e words has says P f (Err (Range at)) h = inl (record { has = has; first_is = sym h })
-read_judged e words has says P f (Err (Shape at)) h = inl (record { has = has; first_is = sym h })
-read_judged e words has says P f (Err NoMemory) h = tt
+-- words of the form are refused by their first offence
+first_refused : (e : Entry) (words : Words) (has : Has e.form words) (fault : WordsFault) → IsFirst (first_offence (e.offends has.written)) fault
+    → IsRefusal (e ∷ []) words fault
+first_refused e words has (Syntax at) h = absurd h
+first_refused e words has (Literal at) h = inl (record { has = has; first_is = sym h })
+first_refused e words has (Range at) h = inl (record { has = has; first_is = sym h })
+first_refused e words has (Shape at) h = inl (record { has = has; first_is = sym h })
+first_refused e words has NoMemory h = tt
+
+-- words of the form whose offences have been judged: by what the command stands for, by the command itself, and of a part of it
+pub read_standing : (e : Entry) (words : Words) (has : Has e.form words) (said : Command) → said ≡ e.says has.written → (r : Result Read WordsFault)
+    → IsJudged (StandsFor said) (first_offence (e.offends has.written)) r → IsRead (e ∷ []) words r
+read_standing e words has said is (Ok command) h = (inl (record { has = has; says_it = h.0.0 ∙ is; no_offence = h.1 }), h.0.1)
+read_standing e words has said is (Err fault) h = first_refused e words has fault h
+
+pub read_judged : (e : Entry) (words : Words) (has : Has e.form words) (x : Read) → command_of x ≡ e.says has.written → IsSound x → (r : Result Read WordsFault)
+    → IsJudged (λ c. c ≡ x) (first_offence (e.offends has.written)) r → IsRead (e ∷ []) words r
+read_judged e words has x is sound (Ok command) h =
+    (inl (record { has = has; says_it = ap command_of h.0 ∙ is; no_offence = h.1 }), subst IsSound (sym h.0) sound)
+read_judged e words has x is sound (Err fault) h = first_refused e words has fault h
+
+pub part_judged : {A : Type 0} (e : Entry) (words : Words) (has : Has e.form words) (says : A → Command) (x : A) → says x ≡ e.says has.written
+    → (r : Result A WordsFault) → IsJudged (λ y. y ≡ x) (first_offence (e.offends has.written)) r → IsPartRead (e ∷ []) says words r
+part_judged e words has says x is (Ok y) h = inl (record { has = has; says_it = ap says h.0 ∙ is; no_offence = h.1 })
+part_judged e words has says x is (Err fault) h = first_refused e words has fault h
 
 -- words that go wrong
 pub syntax_read : (e : Entry) (words : Words) (left place : ℕ) (fault : WordsFault) → can_be e.form ≡ true
@@ -68,10 +80,10 @@ coprod_has ns e = record {
 }
 
 pub coprod_read : (words ns : Words) (r : Result Read WordsFault) → words ≡ codes "coprod" ∷ ns → EachOf IsNumber ns
-    → IsJudged (λ c. c ≡ Coprod (partition ns)) (first_offence (part_offences 1 (numbers ns))) r → IsRead (coprod_entry ∷ []) command_of words r
+    → IsJudged (λ c. c ≡ Coprod (partition ns)) (first_offence (part_offences 1 (numbers ns))) r → IsRead (coprod_entry ∷ []) words r
 coprod_read words ns r e n h =
-    subst (λ ws. IsRead (coprod_entry ∷ []) command_of ws r) (sym e)
-    (read_judged coprod_entry (codes "coprod" ∷ ns) (coprod_has ns n) command_of (λ c. c ≡ Coprod (partition ns)) (λ c k. ap command_of k) r h)
+    subst (λ ws. IsRead (coprod_entry ∷ []) ws r) (sym e)
+    (read_judged coprod_entry (codes "coprod" ∷ ns) (coprod_has ns n) (Coprod (partition ns)) refl tt r h)
 
 -- what offends first in one list does in another
 pub judged_on : (first later : Option Offence) (fault : WordsFault) → ((o : Offence) → first ≡ Some o → later ≡ Some o)
@@ -159,7 +171,7 @@ pub skew_read : (words optioned rest outer inner : Words) (o : Options) (at : �
     → words ≡ codes "skew" ∷ optioned → AreOptions o optioned rest → AreTwoLists (codes "/") outer inner rest → at ≡ length words - length rest
     → ((limit : Written (optional rows_words)) → IsLimitWord o.rows limit → 1 + length (words_of (optional rows_words) limit) ≤ at
     → IsJudged (λ c. c ≡ Skew (row_limit limit) o.one_line (partition outer) (partition inner)) (first_offence (row_limit_offences 1 limit ++ two_partitions at outer inner)) r)
-    → IsRead (skew_entry ∷ []) command_of words r
+    → IsRead (skew_entry ∷ []) words r
 skew_read words optioned rest outer inner o at r e a l k h =
     let at_is = options_place (codes "skew") words optioned rest a.limit a.form at e a.words_are k in
     read_judged skew_entry words
@@ -173,9 +185,8 @@ skew_read words optioned rest outer inner o at r e a l k h =
           ∙ ap (λ ws. words_of (optional rows_words) a.limit ++ (words_of (optional form_words) a.form ++ ws))
           (l.words_are ∙ lists_spelled (codes "/") outer inner));
     })
-    command_of (λ c. c ≡ Skew (row_limit a.limit) o.one_line (partition outer) (partition inner))
-    (λ s j. ap command_of j ∙ ap (λ b. skew (row_limit a.limit) b (partition outer) (partition inner)) a.form_is)
-    r
+    (Skew (row_limit a.limit) o.one_line (partition outer) (partition inner))
+    (ap (λ b. skew (row_limit a.limit) b (partition outer) (partition inner)) a.form_is) tt r
     (subst (λ n. IsJudged (λ c. c ≡ Skew (row_limit a.limit) o.one_line (partition outer) (partition inner)) (first_offence (row_limit_offences 1 a.limit ++ two_partitions n outer inner)) r)
     at_is (h a.limit a.limit_is (omega (arith, at_is))))
 
@@ -229,7 +240,7 @@ all_fine m outer left right e n h =
 pub coef_read : (words outer left right : Words) (r : Result Read WordsFault)
     → words ≡ codes "coef" ∷ (outer ++ codes "-" ∷ (left ++ codes "-" ∷ right)) → EachOf IsNumber outer → EachOf IsNumber left → EachOf IsNumber right
     → IsJudged (λ c. c ≡ Coef (partition outer) (partition left) (partition right)) (first_offence (three_offences (2 + length outer) outer left right)) r
-    → IsRead (coef_entry ∷ []) command_of words r
+    → IsRead (coef_entry ∷ []) words r
 coef_read words outer left right r e o l k h =
     read_judged coef_entry words
     (record {
@@ -240,4 +251,4 @@ coef_read words outer left right r e o l k h =
           ∙ ap (λ ws. codes "coef" ∷ (ws ++ codes "-" ∷ (left ++ codes "-" ∷ right))) (sym (singles outer))
           ∙ ap (λ ws. codes "coef" ∷ (each (λ t. t ∷ []) outer ++ (codes "-" ∷ ws))) (lists_spelled (codes "-") left right);
     })
-    command_of (λ c. c ≡ Coef (partition outer) (partition left) (partition right)) (λ s j. ap command_of j) r h
+    (Coef (partition outer) (partition left) (partition right)) refl tt r h

@@ -4,7 +4,6 @@ use Rattle.std.specs.Prelude.{slice_index_or}
 use Rattle.std.proofs.lemmas.Bool.{ltb-true, ltb-false}
 use Rattle.std.proofs.lemmas.List.{take-append-le, get_or_append_left, map-append}
 use Rattle.std.proofs.Math.Seq.{get_or-append_seam}
-use Rattle.sym_model.specs.Command.{Command}
 use Rattle.sym_model.specs.Entry.{Entry, BeginsCommand, AwaitsExpression}
 use Rattle.sym_model.specs.LongestPrefix.{IsLongestPrefix}
 use Rattle.sym_model.specs.Phrase.{BeginsExpression}
@@ -12,6 +11,8 @@ use Rattle.sym_model.specs.SyntaxPlace.{IsExpressionWord, IsSyntaxByte, IsSyntax
 use Rattle.word_laws.specs.Words.{Words}
 use Rattle.calc_base.specs.declared.words.WordsFault.{WordsFault}
 use Rattle.calc_base.specs.declared.words.WordsFault.TheVariants.{Syntax, Literal, Range, Shape, NoMemory}
+use Rattle.calc_commands.specs.Commands.{command_of}
+use Rattle.calc_commands.specs.declared.command.Command.{Command as Read}
 use Rattle.calc_words.specs.LineBytes.{seen_byte, seen}
 use Rattle.calc_words.specs.Reading.{IsRead}
 use Rattle.calc_words.proofs.PlainBytes.{is_plain, are_plain, all_plain, entries_plain, not_plain, not_all_plain, expression_plain, begins_plain, spells_plain, freely_plain, first_plain}
@@ -193,18 +194,18 @@ foreign_place entries p words f k byte h =
     (subst (λ ws. IsSyntaxPlace entries ws k byte) (seen_words words f) h))
 
 -- what is read of the words as they are kept, is read of the words
-pub seen_read : {A : Type 0} (entries : List Entry) → entries_plain entries ≡ true → (says : A → Command) (words : Words) (r : Result A WordsFault)
-    → IsRead entries says (map seen words) r → IsRead entries says words r
-seen_read {A} entries p says words r h = by (told_words words)
+pub seen_read : (entries : List Entry) → entries_plain entries ≡ true → (words : Words) (r : Result Read WordsFault)
+    → IsRead entries (map seen words) r → IsRead entries words r
+seen_read entries p words r h = by (told_words words)
   where
-    foreign : ForeignWord words → (s : Result A WordsFault) → IsRead entries says (map seen words) s → IsRead entries says words s
-    foreign f (Ok answer) h = absurd (foreign_seen words f (freely_plain entries (map seen words) (says answer) p h))
+    foreign : ForeignWord words → (s : Result Read WordsFault) → IsRead entries (map seen words) s → IsRead entries words s
+    foreign f (Ok command) h = absurd (foreign_seen words f (freely_plain entries (map seen words) (command_of command) p h.0))
     foreign f (Err (Syntax at)) h = foreign_place entries p words f at.word at.byte h
     foreign f (Err (Literal at)) h = absurd (foreign_seen words f (first_plain entries (map seen words) _ p h))
     foreign f (Err (Range at)) h = absurd (foreign_seen words f (first_plain entries (map seen words) _ p h))
     foreign f (Err (Shape at)) h = absurd (foreign_seen words f (first_plain entries (map seen words) _ p h))
     foreign f (Err NoMemory) h = tt
 
-    by : (map seen words ≡ words) ⊎ ForeignWord words → IsRead entries says words r
-    by (inl e) = subst (λ ws. IsRead entries says ws r) e h
+    by : (map seen words ≡ words) ⊎ ForeignWord words → IsRead entries words r
+    by (inl e) = subst (λ ws. IsRead entries ws r) e h
     by (inr f) = foreign f r h

@@ -12,6 +12,8 @@ use Rattle.sym_model.specs.ExpressionOffence.{literal, range, shape}
 use Rattle.word_laws.specs.Words.{Words}
 use Rattle.calc_base.specs.declared.words.WordsFault.{WordsFault}
 use Rattle.calc_base.specs.declared.words.WordsFault.TheVariants.{Syntax, Literal, Range, Shape, NoMemory}
+use Rattle.calc_commands.specs.Commands.{command_of}
+use Rattle.calc_commands.specs.declared.command.Command.{Command as Read}
 use Rattle.calc_words.specs.Joined.{Joined}
 use Rattle.calc_words.specs.Reading.{IsRead}
 
@@ -116,11 +118,11 @@ joined_syntax e entries j words rest word byte w p = record {
 }
 
 -- what is read alone is read among all
-pub joined_read : {A : Type 0} (e : Entry) (entries : List Entry) → Joined e entries → (says : A → Command) (words rest : Words) → words ≡ e.name ∷ rest
-    → (r : Result A WordsFault) → IsRead (e ∷ []) says words r → IsRead entries says words r
-joined_read e entries j says words rest w (Ok answer) h = joined_freely e entries j words (says answer) h
-joined_read e entries j says words rest w (Err (Syntax at)) h = joined_syntax e entries j words rest at.word at.byte w h
-joined_read e entries j says words rest w (Err (Literal at)) h = joined_first e entries j words (Some (at.word, at.byte, literal)) h
-joined_read e entries j says words rest w (Err (Range at)) h = joined_first e entries j words (Some (at.word, at.byte, range)) h
-joined_read e entries j says words rest w (Err (Shape at)) h = joined_first e entries j words (Some (at.word, at.byte, shape)) h
-joined_read e entries j says words rest w (Err NoMemory) h = tt
+pub joined_read : (e : Entry) (entries : List Entry) → Joined e entries → (words rest : Words) → words ≡ e.name ∷ rest
+    → (r : Result Read WordsFault) → IsRead (e ∷ []) words r → IsRead entries words r
+joined_read e entries j words rest w (Ok command) h = (joined_freely e entries j words (command_of command) h.0, h.1)
+joined_read e entries j words rest w (Err (Syntax at)) h = joined_syntax e entries j words rest at.word at.byte w h
+joined_read e entries j words rest w (Err (Literal at)) h = joined_first e entries j words (Some (at.word, at.byte, literal)) h
+joined_read e entries j words rest w (Err (Range at)) h = joined_first e entries j words (Some (at.word, at.byte, range)) h
+joined_read e entries j words rest w (Err (Shape at)) h = joined_first e entries j words (Some (at.word, at.byte, shape)) h
+joined_read e entries j words rest w (Err NoMemory) h = tt

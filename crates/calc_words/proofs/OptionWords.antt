@@ -1,5 +1,5 @@
 -- What stands in front of the shapes of a command, as it is written.
-use Rattle.std.proofs.Common.{◌≡◌, ℕ, Bool, true, false, List, ◌++◌, refl, ap, ◌∙◌, inl, inr}
+use Rattle.std.proofs.Common.{◌≡◌, Bool, true, false, ◌++◌, refl, ap, ◌∙◌, inl, inr}
 use Rattle.sym_model.specs.Form.{Written, May, words_of}
 use Rattle.sym_model.specs.WordForms.{optional, rows_words, form_words, is_one_line}
 use Rattle.word_laws.specs.Words.{Words}

@@ -1,5 +1,5 @@
 -- Words that have been read as permutations: which command they are.
-use Rattle.std.proofs.Common.{◌≡◌, ℕ, ◌+◌, ◌<◌, ◌≤◌, List, [], ◌∷◌, ◌++◌, length, sym, ap, ◌∙◌, subst, arith, None, Result}
+use Rattle.std.proofs.Common.{◌≡◌, ℕ, ◌+◌, ◌<◌, ◌≤◌, List, [], ◌∷◌, ◌++◌, length, refl, sym, ap, ◌∙◌, subst, arith, None, Result}
 use Rattle.std.specs.Prelude.{codes}
 use Rattle.sym_model.specs.Sum.{each, Among}
 use Rattle.sym_model.specs.Form.{EachOf, Has}
@@ -14,11 +14,10 @@ use Rattle.word_laws.proofs.Classes.{number_sound}
 use Rattle.calc_base.specs.declared.words.WordsFault.{WordsFault}
 use Rattle.calc_words.specs.NumberRuns.{IsNumber}
 use Rattle.calc_words.specs.PermutationWords.{one_permutation, permutation_entry, two_permutations, pair_entry}
-use Rattle.calc_words.specs.Reading.{IsRead, IsJudged, IsFirst}
-use Rattle.calc_commands.specs.Commands.{command_of}
+use Rattle.calc_words.specs.Reading.{IsRead, IsPartRead, IsJudged, IsFirst}
 use Rattle.calc_commands.specs.declared.command.Command.{Command as Read}
 use Rattle.calc_commands.specs.declared.command.Command.TheVariants.{Stanley}
-use Rattle.calc_words.proofs.Commands.{may_be, singles, read_judged, judged_err, judged_later}
+use Rattle.calc_words.proofs.Commands.{may_be, singles, read_judged, part_judged, judged_err, judged_later}
 use Rattle.calc_words.proofs.FirstOffences.{within, AllBefore, none-append}
 
 -- the words of a command on one permutation
@@ -33,11 +32,11 @@ permutation_has name t ns e =
 
 pub permutation_read : (name : List ℕ) (says : List ℕ → Command) (words ns : Words) (r : Result (List ℕ) WordsFault) → words ≡ name ∷ ns → 0 < length ns
     → EachOf IsNumber ns → IsJudged (λ w. w ≡ kept (numbers ns)) (first_offence (permutation_offences 1 (numbers ns))) r
-    → IsRead (permutation_entry name says ∷ []) says words r
+    → IsPartRead (permutation_entry name says ∷ []) says words r
 permutation_read name says words [] r e s n h = absurd (omega (arith, s))
 permutation_read name says words (t ∷ ns) r e s n h =
-    subst (λ ws. IsRead (permutation_entry name says ∷ []) says ws r) (sym e)
-    (read_judged (permutation_entry name says) (name ∷ t ∷ ns) (permutation_has name t ns n) says (λ w. w ≡ kept (numbers (t ∷ ns))) (λ w k. ap says k) r h)
+    subst (λ ws. IsPartRead (permutation_entry name says ∷ []) says ws r) (sym e)
+    (part_judged (permutation_entry name says) (name ∷ t ∷ ns) (permutation_has name t ns n) says (kept (numbers (t ∷ ns))) refl r h)
 
 -- the words of a command on two permutations
 spelled_lists : (t u : List ℕ) (ns ms : Words)
@@ -48,27 +47,26 @@ spelled_lists t u ns ms =
 pub pair_read : (name : List ℕ) (most : ℕ) (says : List ℕ → List ℕ → Command) (words left right : Words) (r : Result (List ℕ × List ℕ) WordsFault)
     → words ≡ name ∷ (left ++ codes "-" ∷ right) → 0 < length left → 0 < length right → EachOf IsNumber left → EachOf IsNumber right
     → IsJudged (λ p. p ≡ (kept (numbers left), kept (numbers right))) (first_offence (two_permutations most left right)) r
-    → IsRead (pair_entry name most says ∷ []) (λ p. says p.0 p.1) words r
+    → IsPartRead (pair_entry name most says ∷ []) (λ p. says p.0 p.1) words r
 pair_read name most says words [] right r e s q n m h = absurd (omega (arith, s))
 pair_read name most says words (t ∷ ns) [] r e s q n m h = absurd (omega (arith, q))
 pair_read name most says words (t ∷ ns) (u ∷ ms) r e s q n m h =
     let a = may_be (t ∷ ns) n in
     let b = may_be (u ∷ ms) m in
-    read_judged (pair_entry name most says) words
+    part_judged (pair_entry name most says) words
     (record {
       written = (tt, ((t, ns), (tt, (u, ms))));
       allowed = (tt, ((a.0, a.1), (tt, (b.0, b.1))));
       spelled = e ∙ ap (λ ws. name ∷ ws) (spelled_lists t u ns ms);
     })
-    (λ (p : List ℕ × List ℕ). says p.0 p.1) (λ (p : List ℕ × List ℕ). p ≡ (kept (numbers (t ∷ ns)), kept (numbers (u ∷ ms))))
-    (λ (p : List ℕ × List ℕ) k. ap (λ (x : List ℕ × List ℕ). says x.0 x.1) k) r h
+    (λ (p : List ℕ × List ℕ). says p.0 p.1) (kept (numbers (t ∷ ns)), kept (numbers (u ∷ ms))) refl r h
 
 -- the words of `stanley`
 pub stanley_read : (words ns : Words) (digits : List ℕ) (r : Result Read WordsFault) → words ≡ codes "stanley" ∷ codes "-r" ∷ digits ∷ ns → IsNumber digits
     → 0 < length ns → EachOf IsNumber ns
     → IsJudged (λ c. c ≡ Stanley (decimal_value digits) (kept (numbers ns)))
     (first_offence (offences_by rows_rule 2 (decimal_value digits ∷ []) ++ permutation_offences 3 (numbers ns))) r
-    → IsRead (stanley_entry ∷ []) command_of words r
+    → IsRead (stanley_entry ∷ []) words r
 stanley_read words [] digits r e d s n h = absurd (omega (arith, s))
 stanley_read words (t ∷ ns) digits r e d s n h =
     let m = may_be (t ∷ ns) n in
@@ -78,7 +76,7 @@ stanley_read words (t ∷ ns) digits r e d s n h =
       allowed = (tt, ((tt, number_sound digits d), (m.0, m.1)));
       spelled = e ∙ ap (λ ws. codes "stanley" ∷ codes "-r" ∷ digits ∷ t ∷ ws) (sym (singles ns));
     })
-    command_of (λ c. c ≡ Stanley (decimal_value digits) (kept (numbers (t ∷ ns)))) (λ c k. ap command_of k) r h
+    (Stanley (decimal_value digits) (kept (numbers (t ∷ ns)))) refl tt r h
 
 -- letters behind a number of variables
 pub letters_from : (ns : List ℕ) (p : Offence) → Among p (permutation_offences 3 ns) → 3 ≤ p.0

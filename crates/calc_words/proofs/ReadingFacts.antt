@@ -9,6 +9,8 @@ use Rattle.expression_laws.proofs.PhraseRuns.{one_phrase}
 use Rattle.calc_base.specs.declared.words.Place.{Place}
 use Rattle.calc_base.specs.declared.words.WordsFault.{WordsFault}
 use Rattle.calc_base.specs.declared.words.WordsFault.TheVariants.{Syntax, Literal, Range, Shape, NoMemory}
+use Rattle.calc_commands.specs.Commands.{command_of}
+use Rattle.calc_commands.specs.declared.command.Command.{Command as Read}
 use Rattle.calc_words.specs.Reading.{IsRead, Accepts, Refuses, GoesWrong}
 use Rattle.word_laws.specs.OneReading.{are_unambiguous}
 use Rattle.word_laws.specs.Reading.{forms_of}
@@ -41,37 +43,37 @@ same_first : (entries : List Entry) → Clear entries → (words : Words) (o p :
 same_first entries u words o p h k = let e = one_offence one_phrase entries u words (Some o) (Some p) h k in cc
 
 -- what is accepted
-pub accepts : {A : Type 0} (entries : List Entry) → Clear entries → (says : A → Command) (words : Words) (r : Result A WordsFault)
-    → IsRead entries says words r → (c : Command) → SpellsWithoutOffence entries words c → Accepts says c r
-accepts entries u says words (Ok k) h c s =
-    one_command one_phrase entries u words (says k) c (freely_spells entries words (says k) h) (freely_spells entries words c s)
-accepts entries u says words (Err (Syntax at)) h c s = absurd (h.no_command c (freely_spells entries words c s))
-accepts entries u says words (Err (Literal at)) h c s = none_some entries u words _ (freely_none entries words c s) h
-accepts entries u says words (Err (Range at)) h c s = none_some entries u words _ (freely_none entries words c s) h
-accepts entries u says words (Err (Shape at)) h c s = none_some entries u words _ (freely_none entries words c s) h
-accepts entries u says words (Err NoMemory) h c s = refl
+pub accepts : (entries : List Entry) → Clear entries → (words : Words) (r : Result Read WordsFault)
+    → IsRead entries words r → (c : Command) → SpellsWithoutOffence entries words c → Accepts c r
+accepts entries u words (Ok k) h c s =
+    one_command one_phrase entries u words (command_of k) c (freely_spells entries words (command_of k) h.0) (freely_spells entries words c s)
+accepts entries u words (Err (Syntax at)) h c s = absurd (h.no_command c (freely_spells entries words c s))
+accepts entries u words (Err (Literal at)) h c s = none_some entries u words _ (freely_none entries words c s) h
+accepts entries u words (Err (Range at)) h c s = none_some entries u words _ (freely_none entries words c s) h
+accepts entries u words (Err (Shape at)) h c s = none_some entries u words _ (freely_none entries words c s) h
+accepts entries u words (Err NoMemory) h c s = refl
 
 -- what offends
-pub refuses : {A : Type 0} (entries : List Entry) → Clear entries → (says : A → Command) (words : Words) (r : Result A WordsFault)
-    → IsRead entries says words r → (o : Offence) → HasFirstOffence entries words (Some o) → Refuses o r
-refuses entries u says words (Ok k) h o s = none_some entries u words o (freely_none entries words (says k) h) s
-refuses entries u says words (Err (Syntax at)) h o s = let c = first_spells entries words (Some o) s in absurd (h.no_command c.0 c.1)
-refuses entries u says words (Err (Literal at)) h o s = inl (same_first entries u words o _ s h)
-refuses entries u says words (Err (Range at)) h o s = inl (same_first entries u words o _ s h)
-refuses entries u says words (Err (Shape at)) h o s = inl (same_first entries u words o _ s h)
-refuses entries u says words (Err NoMemory) h o s = inr refl
+pub refuses : (entries : List Entry) → Clear entries → (words : Words) (r : Result Read WordsFault)
+    → IsRead entries words r → (o : Offence) → HasFirstOffence entries words (Some o) → Refuses o r
+refuses entries u words (Ok k) h o s = none_some entries u words o (freely_none entries words (command_of k) h.0) s
+refuses entries u words (Err (Syntax at)) h o s = let c = first_spells entries words (Some o) s in absurd (h.no_command c.0 c.1)
+refuses entries u words (Err (Literal at)) h o s = inl (same_first entries u words o _ s h)
+refuses entries u words (Err (Range at)) h o s = inl (same_first entries u words o _ s h)
+refuses entries u words (Err (Shape at)) h o s = inl (same_first entries u words o _ s h)
+refuses entries u words (Err NoMemory) h o s = inr refl
 
 same_syntax : (at : Place) (w b : ℕ) → at.word ≡ w → at.byte ≡ b → Syntax at ≡ Syntax (record { word = w; byte = b })
 same_syntax at w b h k =
     ap (λ n. Syntax (record { word = n; byte = at.byte })) h ∙ ap (λ n. Syntax (record { word = w; byte = n })) k
 
 -- where words go wrong
-pub goes_wrong : {A : Type 0} (entries : List Entry) → Clear entries → (says : A → Command) (words : Words) (r : Result A WordsFault)
-    → IsRead entries says words r → (w b : ℕ) → IsSyntaxPlace entries words w b → GoesWrong w b r
-goes_wrong entries u says words (Ok k) h w b s = s.no_command (says k) (freely_spells entries words (says k) h)
-goes_wrong entries u says words (Err (Syntax at)) h w b s =
+pub goes_wrong : (entries : List Entry) → Clear entries → (words : Words) (r : Result Read WordsFault)
+    → IsRead entries words r → (w b : ℕ) → IsSyntaxPlace entries words w b → GoesWrong w b r
+goes_wrong entries u words (Ok k) h w b s = s.no_command (command_of k) (freely_spells entries words (command_of k) h.0)
+goes_wrong entries u words (Err (Syntax at)) h w b s =
     let p = one_place entries words at.word at.byte w b h s in inl (same_syntax at w b p.0 p.1)
-goes_wrong entries u says words (Err (Literal at)) h w b s = let c = first_spells entries words _ h in absurd (s.no_command c.0 c.1)
-goes_wrong entries u says words (Err (Range at)) h w b s = let c = first_spells entries words _ h in absurd (s.no_command c.0 c.1)
-goes_wrong entries u says words (Err (Shape at)) h w b s = let c = first_spells entries words _ h in absurd (s.no_command c.0 c.1)
-goes_wrong entries u says words (Err NoMemory) h w b s = inr refl
+goes_wrong entries u words (Err (Literal at)) h w b s = let c = first_spells entries words _ h in absurd (s.no_command c.0 c.1)
+goes_wrong entries u words (Err (Range at)) h w b s = let c = first_spells entries words _ h in absurd (s.no_command c.0 c.1)
+goes_wrong entries u words (Err (Shape at)) h w b s = let c = first_spells entries words _ h in absurd (s.no_command c.0 c.1)
+goes_wrong entries u words (Err NoMemory) h w b s = inr refl

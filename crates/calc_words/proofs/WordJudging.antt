@@ -1,8 +1,8 @@
 -- The letters of a word, judged one after another.
 use Rattle.std.proofs.Common.{◌≡◌, ℕ, suc, ◌+◌, ◌<◌, ◌≤◌, ◌==◌, Bool, true, false, ◌||◌, List, [], ◌∷◌, ◌++◌, map, length, take, drop, get_or, drop-cons, refl, sym, ap, ◌∙◌, subst, arith, Some, None, inl, inr}
 use Rattle.std.proofs.lemmas.Bool.{eqb-false}
-use Rattle.std.proofs.Math.ListN.{drop_of_length-le, set, length-set}
-use Rattle.std.proofs.lemmas.List.{take_all, take_more, take_more_set}
+use Rattle.std.proofs.Math.ListN.{set, length-set}
+use Rattle.std.proofs.lemmas.List.{take_more, take_more_set}
 use Rattle.sym_model.specs.Sum.{Among}
 use Rattle.sym_model.specs.ExpressionOffence.{is_wide, literal, range}
 use Rattle.sym_model.specs.CommandOffence.{Offence, first_offence, offences_by, offences_after, letter_rule, when, is_outside, greatest_letter, most_letters}

@@ -1,7 +1,7 @@
 -- What lists of numbers without an offence are: partitions and numbers within their limits.
-use Rattle.std.proofs.Common.{◌≡◌, ℕ, zero, suc, ◌+◌, ◌≤◌, ◌==◌, nat_le, nat_lt, Bool, true, false, ◌&&◌, ◌||◌, List, [], ◌∷◌, ◌++◌, map, length, refl, sym, ap, ◌∙◌, arith, Option, Some, None}
+use Rattle.std.proofs.Common.{◌≡◌, ℕ, ◌+◌, ◌≤◌, ◌==◌, nat_le, nat_lt, Bool, true, false, ◌&&◌, ◌||◌, List, [], ◌∷◌, ◌++◌, map, length, refl, sym, ap, ◌∙◌, arith, Option, Some, None}
 use Rattle.std.proofs.lemmas.Bool.{le-leb, ltb-false, eqb-false}
-use Rattle.sym_model.specs.Partition.{Falls, size, in_front, without_last_zeros}
+use Rattle.sym_model.specs.Partition.{Falls, size, without_last_zeros}
 use Rattle.sym_model.proofs.SortedParts.{IsPartition-without_last_zeros, size-without_last_zeros}
 use Rattle.sym_model.specs.ExpressionOffence.{OffenceKind, is_wide, rises, literal, range, shape}
 use Rattle.sym_model.specs.CommandOffence.{Offence, Rule, first_offence, part_offences, part_rule, rows_rule, lines_rule, seed_rule, offences_by, offences_after, left_of, judged_against, when, is_outside, most_parts, most_cells, most_rows, most_lines, greatest_seed}

@@ -1,12 +1,14 @@
 -- What the words of a command are read as, for any list of commands (this project's own).
 use Rattle.std.specs.Prelude.{◌≡◌, ℕ, List, Option, Some, None, Result, Ok, Err, ◌⊎◌}
 use Rattle.sym_model.specs.ExpressionOffence.{literal, range, shape}
-use Rattle.sym_model.specs.Command.{Command}
+use Rattle.sym_model.specs.Command.{Command as PlainCommand}
 use Rattle.sym_model.specs.CommandOffence.{Offence}
 use Rattle.sym_model.specs.Entry.{Entry, HasFirstOffence, SpellsWithoutOffence}
 use Rattle.sym_model.specs.SyntaxPlace.{IsSyntaxPlace}
 use Rattle.calc_base.specs.declared.words.WordsFault.{WordsFault}
 use Rattle.calc_base.specs.declared.words.WordsFault.TheVariants.{Syntax, Literal, Range, Shape, NoMemory}
+use Rattle.calc_commands.specs.Commands.{command_of, IsSound}
+use Rattle.calc_commands.specs.declared.command.Command.{Command}
 
 -- the words go wrong or first offend at this place; want of memory says nothing of them
 abbrev pub IsRefusal : List Entry → List (List ℕ) → WordsFault → Type 0
@@ -16,10 +18,15 @@ IsRefusal entries words (Range at) = HasFirstOffence entries words (Some (at.wor
 IsRefusal entries words (Shape at) = HasFirstOffence entries words (Some (at.word, at.byte, shape))
 IsRefusal entries words NoMemory = Unit {0}
 
--- the words say this command without offence, or are refused for what is wrong with them
-abbrev pub IsRead : {A : Type 0} → List Entry → (A → Command) → List (List ℕ) → Result A WordsFault → Type 0
-IsRead entries says words (Ok answer) = SpellsWithoutOffence entries words (says answer)
-IsRead entries says words (Err fault) = IsRefusal entries words fault
+-- the words say this command without offence, and it is sound, or they are refused for what is wrong with them
+abbrev pub IsRead : List Entry → List (List ℕ) → Result Command WordsFault → Type 0
+IsRead entries words (Ok command) = SpellsWithoutOffence entries words (command_of command) × IsSound command
+IsRead entries words (Err fault) = IsRefusal entries words fault
+
+-- the same of what several commands read in one way, by the command that is made of it
+abbrev pub IsPartRead : {A : Type 0} → List Entry → (A → PlainCommand) → List (List ℕ) → Result A WordsFault → Type 0
+IsPartRead entries says words (Ok answer) = SpellsWithoutOffence entries words (says answer)
+IsPartRead entries says words (Err fault) = IsRefusal entries words fault
 
 -- the refusal is that of the first offence; want of memory says nothing
 abbrev pub IsFirst : Option Offence → WordsFault → Type 0
@@ -42,9 +49,9 @@ IsFaultOf o (Shape at) = o ≡ (at.word, at.byte, shape)
 IsFaultOf o _ = ⊥
 
 -- the command is accepted, but for want of memory
-abbrev pub Accepts : {A : Type 0} → (A → Command) → Command → Result A WordsFault → Type 0
-Accepts says c (Ok answer) = says answer ≡ c
-Accepts says c (Err fault) = fault ≡ NoMemory
+abbrev pub Accepts : PlainCommand → Result Command WordsFault → Type 0
+Accepts c (Ok command) = command_of command ≡ c
+Accepts c (Err fault) = fault ≡ NoMemory
 
 -- the offence is refused, but for want of memory
 abbrev pub Refuses : {A : Type 0} → Offence → Result A WordsFault → Type 0

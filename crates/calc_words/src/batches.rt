@@ -2,7 +2,6 @@
 ghost use Rattle.std.specs.Prelude.{◌≡◌, ℕ, [], ◌∷◌, ◌++◌, Some, map, string_bytes};
 ghost use Rattle.sym_model.specs.CommandOffence.{first_offence, offences_by, lines_rule, seed_rule};
 ghost use Rattle.sym_model.specs.Grammar.{batch_entry, work_entry};
-ghost use Rattle.calc_commands.specs.Commands.{command_of};
 ghost use Rattle.calc_words.specs.NumberRuns.{narrow};
 ghost use Rattle.calc_words.specs.Reading.{IsRead, IsJudged};
 
@@ -20,7 +19,7 @@ const GREATEST_SEED: u128 = 65_536;
 
 /// Reads the words of `batch`, which is that word alone. Other words are refused as `Syntax`, at the word where they go wrong.
 pub fn read_batch(words: &[String]) -> Result<Command, WordsFault>
-    ensures { IsRead (batch_entry ∷ []) command_of (map string_bytes words.now) result }
+    ensures { IsRead (batch_entry ∷ []) (map string_bytes words.now) result }
 {
     let Some(rest) = behind(words, "batch") else {
         return Err(syntax(0));
@@ -62,13 +61,9 @@ fn read_numbers(lines: Option<u128>, seed: Option<u128>) -> Result<Command, Word
     ensures { (a b : ℕ) → lines ≡ narrow a → seed ≡ narrow b → IsJudged (λ c. c ≡ Command.Work a b)
         (first_offence (offences_by lines_rule 1 (a ∷ []) ++ offences_by seed_rule 2 (b ∷ []))) result }
 {
-    match lines_number(1, lines) {
-        Err(fault) => Err(fault),
-        Ok(lines) => match seed_number(2, seed) {
-            Err(fault) => Err(fault),
-            Ok(seed) => Ok(Command::Work { lines, seed }),
-        },
-    }
+    let lines = lines_number(1, lines)?;
+    let seed = seed_number(2, seed)?;
+    Ok(Command::Work { lines, seed })
 }
 
 /// Reads the words of `work`: that word, a number of lines and a seed.
@@ -77,7 +72,7 @@ fn read_numbers(lines: Option<u128>, seed: Option<u128>) -> Result<Command, Word
 /// refused: a number past 2^127 - 1 as `Literal`; a number of lines that is not from 1 to 10,000, and a seed past 65,536, as
 /// `Range`.
 pub fn read_work(words: &[String]) -> Result<Command, WordsFault>
-    ensures { IsRead (work_entry ∷ []) command_of (map string_bytes words.now) result }
+    ensures { IsRead (work_entry ∷ []) (map string_bytes words.now) result }
 {
     let Some(rest) = behind(words, "work") else {
         return Err(syntax(0));

@@ -3,7 +3,6 @@ ghost use Rattle.std.specs.Prelude.{◌≡◌, ◌<◌, ◌+◌, ◌^◌, [], �
 ghost use Rattle.sym_model.specs.CommandOffence.{first_offence, part_offences};
 ghost use Rattle.sym_model.specs.Grammar.{coef_entry, two_partitions};
 ghost use Rattle.sym_model.specs.WordForms.{partition, numbers as numbers_of};
-ghost use Rattle.calc_commands.specs.Commands.{command_of};
 ghost use Rattle.calc_words.specs.Reading.{IsRead, IsJudged};
 
 use crate::offence::syntax;
@@ -16,7 +15,7 @@ use std::alloc::Global;
 
 /// Reads the words of `coef`: that word and three partitions with `-` between them. Words are refused as `read_skew` says.
 pub fn read_coef(alloc: Global, words: &[String]) -> Result<Command, WordsFault>
-    ensures { IsRead (coef_entry ∷ []) command_of (map string_bytes words.now) result }
+    ensures { IsRead (coef_entry ∷ []) (map string_bytes words.now) result }
 {
     let Some(rest) = behind(words, "coef") else {
         return Err(syntax(0));

@@ -1,7 +1,6 @@
 //! The words of `coprod`.
 ghost use Rattle.std.specs.Prelude.{[], ◌∷◌, Some, map, string_bytes};
 ghost use Rattle.sym_model.specs.Grammar.{coprod_entry};
-ghost use Rattle.calc_commands.specs.Commands.{command_of};
 ghost use Rattle.calc_words.specs.Reading.{IsRead};
 
 use crate::offence::syntax;
@@ -17,7 +16,7 @@ use std::alloc::Global;
 /// the numbers is refused: one past 2^127 - 1 as `Literal`; the 65th, or the one at which the sum passes 512, as `Range`;
 /// one greater than the one before it as `Shape`.
 pub fn read_coprod(alloc: Global, words: &[String]) -> Result<Command, WordsFault>
-    ensures { IsRead (coprod_entry ∷ []) command_of (map string_bytes words.now) result }
+    ensures { IsRead (coprod_entry ∷ []) (map string_bytes words.now) result }
 {
     let Some(rest) = behind(words, "coprod") else {
         return Err(syntax(0));

@@ -50,10 +50,8 @@ fn next_factor(
             at: Place { word: at, byte: 0 },
         });
     }
-    match read_partition(alloc, at + 1, list) {
-        Err(fault) => Err(fault),
-        Ok(next) => pushed(factors, next),
-    }
+    let next = read_partition(alloc, at + 1, list)?;
+    pushed(factors, next)
 }
 
 /// These factors and those behind them, each behind a `-`, the first of which is the word `at`, or the first offence.
@@ -74,10 +72,8 @@ fn read_later(
     };
     let (list, rest) = numbers_first(later);
     let after = at + 1 + list.len() as u64;
-    match next_factor(alloc, at, factors, list) {
-        Err(fault) => Err(fault),
-        Ok(factors) => read_later(alloc, after, factors, rest),
-    }
+    let factors = next_factor(alloc, at, factors, list)?;
+    read_later(alloc, after, factors, rest)
 }
 
 /// Two factors.

@@ -3,7 +3,6 @@ ghost use Rattle.std.specs.Prelude.{◌≡◌, ◌<◌, ◌+◌, ◌^◌, ◌==�
 ghost use Rattle.sym_model.specs.CommandOffence.{first_offence, offences_by, letter_rule, is_outside, greatest_letter, most_letters};
 ghost use Rattle.sym_model.specs.Grammar.{rsk_entry};
 ghost use Rattle.sym_model.specs.WordForms.{numbers as numbers_of};
-ghost use Rattle.calc_commands.specs.Commands.{command_of};
 ghost use Rattle.calc_words.specs.Reading.{IsRead, IsJudged};
 
 use crate::numbers::value_of;
@@ -61,7 +60,7 @@ fn read_letters(alloc: Global, at: u64, words: &[String]) -> Result<Word, WordsF
 /// Words that are no such command are refused as `Syntax`, at the word where they go wrong. Otherwise the first offence is
 /// refused: a letter past 2^127 - 1 as `Literal`; one that is 0 or past 65,535, and the 257th, as `Range`.
 pub fn read_rsk(alloc: Global, words: &[String]) -> Result<Command, WordsFault>
-    ensures { IsRead (rsk_entry ∷ []) command_of (map string_bytes words.now) result }
+    ensures { IsRead (rsk_entry ∷ []) (map string_bytes words.now) result }
 {
     let Some(rest) = behind(words, "rsk") else {
         return Err(syntax(0));

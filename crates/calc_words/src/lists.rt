@@ -54,8 +54,6 @@ pub(crate) fn factor_lists(words: &[String]) -> Result<(&[String], &[String]), u
     let Some(later) = behind(rest, "-") else {
         return Err(rest.len());
     };
-    match later_words(later) {
-        Ok(()) => Ok((first, later)),
-        Err(left) => Err(left),
-    }
+    later_words(later)?;
+    Ok((first, later))
 }

@@ -42,13 +42,9 @@ pub fn options_first(words: &[String]) -> Result<(Options, &[String]), usize>
     ensures left { IfErr result (λ left. left ≤ length words.now) }
     ensures shorter { IfOk result (λ p. length p.1.now ≤ length words.now) }
 {
-    match rows_first(words) {
-        Err(left) => Err(left),
-        Ok((rows, rest)) => {
-            let (one_line, rest) = form_first(rest);
-            Ok((Options { rows, one_line }, rest))
-        }
-    }
+    let (rows, rest) = rows_first(words)?;
+    let (one_line, rest) = form_first(rest);
+    Ok((Options { rows, one_line }, rest))
 }
 
 /// The number of rows that stands behind `-r`, the second word, or its offence.
@@ -58,9 +54,9 @@ pub fn row_limit(rows: RowsWord) -> Result<Option<u16>, WordsFault>
 {
     match rows {
         RowsWord::Absent => Ok(None),
-        RowsWord::Given { value } => match rows_number(2, value) {
-            Err(fault) => Err(fault),
-            Ok(limit) => Ok(Some(limit)),
-        },
+        RowsWord::Given { value } => {
+            let limit = rows_number(2, value)?;
+            Ok(Some(limit))
+        }
     }
 }

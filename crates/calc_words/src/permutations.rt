@@ -6,8 +6,7 @@ ghost use Rattle.sym_model.specs.Grammar.{schubert_entry, growth_entry, schubmul
 ghost use Rattle.sym_model.specs.Permutation.{kept};
 ghost use Rattle.sym_model.specs.WordForms.{numbers as numbers_of};
 ghost use Rattle.calc_words.specs.PermutationWords.{permutation_entry, two_permutations, pair_entry};
-ghost use Rattle.calc_commands.specs.Commands.{command_of};
-ghost use Rattle.calc_words.specs.Reading.{IsRead, IsJudged};
+ghost use Rattle.calc_words.specs.Reading.{IsRead, IsPartRead, IsJudged};
 
 use crate::offence::syntax;
 use crate::permutation_list::{MOST_DOUBLED, MOST_PERMUTED, read_permutation};
@@ -20,7 +19,7 @@ use std::alloc::Global;
 /// The words of the command of this name on one permutation.
 fn read_one(alloc: Global, words: &[String], name: &str) -> Result<Perm, WordsFault>
     ensures { (says : List ℕ → PlainCommand)
-        → IsRead (permutation_entry name.now says ∷ []) says (map string_bytes words.now) result }
+        → IsPartRead (permutation_entry name.now says ∷ []) says (map string_bytes words.now) result }
 {
     let Some(rest) = behind(words, name) else {
         return Err(syntax(0));
@@ -37,7 +36,7 @@ fn read_one(alloc: Global, words: &[String], name: &str) -> Result<Perm, WordsFa
 /// the letters is refused: one past 2^127 - 1 as `Literal`; one past 16, or the 17th, as `Range`; one that is 0, past the
 /// number of letters, or stands earlier, as `Shape`.
 pub fn read_schubert(alloc: Global, words: &[String]) -> Result<Command, WordsFault>
-    ensures { IsRead (schubert_entry ∷ []) command_of (map string_bytes words.now) result }
+    ensures { IsRead (schubert_entry ∷ []) (map string_bytes words.now) result }
 {
     let perm = read_one(alloc, words, "schubert")?;
     Ok(Command::Schubert { perm })
@@ -45,7 +44,7 @@ pub fn read_schubert(alloc: Global, words: &[String]) -> Result<Command, WordsFa
 
 /// Reads the words of `growth`: that word and the letters of a permutation. Words are refused as `read_schubert` says.
 pub fn read_growth(alloc: Global, words: &[String]) -> Result<Command, WordsFault>
-    ensures { IsRead (growth_entry ∷ []) command_of (map string_bytes words.now) result }
+    ensures { IsRead (growth_entry ∷ []) (map string_bytes words.now) result }
 {
     let perm = read_one(alloc, words, "growth")?;
     Ok(Command::Growth { perm })
@@ -81,7 +80,7 @@ fn read_pair(
 ) -> Result<(Perm, Perm), WordsFault>
     requires { most ≤ 16 }
     ensures { (says : List ℕ → List ℕ → PlainCommand)
-        → IsRead (pair_entry name.now most says ∷ []) (λ p. says p.0 p.1) (map string_bytes words.now) result }
+        → IsPartRead (pair_entry name.now most says ∷ []) (λ p. says p.0 p.1) (map string_bytes words.now) result }
 {
     let Some(lists) = behind(words, name) else {
         return Err(syntax(0));
@@ -95,7 +94,7 @@ fn read_pair(
 /// Reads the words of `schubmult`: that word and two permutations with `-` between them. Words are refused as
 /// `read_schubert` says.
 pub fn read_schubmult(alloc: Global, words: &[String]) -> Result<Command, WordsFault>
-    ensures { IsRead (schubmult_entry ∷ []) command_of (map string_bytes words.now) result }
+    ensures { IsRead (schubmult_entry ∷ []) (map string_bytes words.now) result }
 {
     let (left, right) = read_pair(alloc, words, "schubmult", MOST_PERMUTED)?;
     Ok(Command::Schubmult { left, right })
@@ -104,7 +103,7 @@ pub fn read_schubmult(alloc: Global, words: &[String]) -> Result<Command, WordsF
 /// Reads the words of `dschubmult`: that word and two permutations with `-` between them. Words are refused as
 /// `read_schubert` says, with 8 in the place of 16.
 pub fn read_dschubmult(alloc: Global, words: &[String]) -> Result<Command, WordsFault>
-    ensures { IsRead (dschubmult_entry ∷ []) command_of (map string_bytes words.now) result }
+    ensures { IsRead (dschubmult_entry ∷ []) (map string_bytes words.now) result }
 {
     let (left, right) = read_pair(alloc, words, "dschubmult", MOST_DOUBLED)?;
     Ok(Command::Dschubmult { left, right })

@@ -8,7 +8,6 @@ ghost use Rattle.calc_words.specs.NumberRuns.{IsNumber};
 ghost use Rattle.calc_words.specs.Reading.{IsRead, IsJudged};
 ghost use Rattle.calc_words.specs.Rows.{IsLimitWord};
 ghost use Rattle.calc_words.specs.FactorWords.{next_text};
-ghost use Rattle.calc_commands.specs.Commands.{command_of};
 
 use crate::factors::read_factors;
 use crate::lists::factor_lists;
@@ -50,7 +49,7 @@ fn read_optioned(
 /// the one at which its sum passes 512, and the `-` in front of a ninth partition, as `Range`; a number of a partition
 /// greater than the one before it as `Shape`.
 pub fn read_mult(alloc: Global, words: &[String]) -> Result<Command, WordsFault>
-    ensures { IsRead (mult_entry ∷ []) command_of (map string_bytes words.now) result }
+    ensures { IsRead (mult_entry ∷ []) (map string_bytes words.now) result }
 {
     let Some(optioned) = behind(words, "mult") else {
         return Err(syntax(0));

@@ -6,8 +6,7 @@ ghost use Rattle.sym_model.specs.Form.{EachOf};
 ghost use Rattle.sym_model.specs.Grammar.{quantum_entry, fusion_entry};
 ghost use Rattle.sym_model.specs.WordForms.{numbers as numbers_of, partition};
 ghost use Rattle.calc_words.specs.NumberRuns.{IsNumber, narrow};
-ghost use Rattle.calc_commands.specs.Commands.{command_of};
-ghost use Rattle.calc_words.specs.Reading.{IsRead, IsJudged};
+ghost use Rattle.calc_words.specs.Reading.{IsRead, IsPartRead, IsJudged};
 ghost use Rattle.calc_words.specs.FactorWords.{next_text};
 ghost use Rattle.calc_words.specs.ReadProducts.{reduction_entry};
 
@@ -48,7 +47,7 @@ fn read_reduction(
     name: &str,
 ) -> Result<(u16, u16, Factors), WordsFault>
     ensures { (says : ℕ → ℕ → List (List ℕ) → PlainCommand)
-        → IsRead (reduction_entry name.now says ∷ []) (λ r. says r.0 r.1 r.2) (map string_bytes words.now) result }
+        → IsPartRead (reduction_entry name.now says ∷ []) (λ r. says r.0 r.1 r.2) (map string_bytes words.now) result }
 {
     let Some(rest) = behind(words, name) else {
         return Err(syntax(0));
@@ -74,7 +73,7 @@ fn read_reduction(
 /// Reads the words of `quantum`: that word, a number of rows, a number of columns, and two to eight
 /// partitions with `-` between them. Words are refused as `read_mult` says, and a number of columns as one of rows.
 pub fn read_quantum(alloc: Global, words: &[String]) -> Result<Command, WordsFault>
-    ensures { IsRead (quantum_entry ∷ []) command_of (map string_bytes words.now) result }
+    ensures { IsRead (quantum_entry ∷ []) (map string_bytes words.now) result }
 {
     let (rows, cols, factors) = read_reduction(alloc, words, "quantum")?;
     Ok(Command::Quantum {
@@ -87,7 +86,7 @@ pub fn read_quantum(alloc: Global, words: &[String]) -> Result<Command, WordsFau
 /// Reads the words of `fusion`: that word, a number of rows, a level, and two to eight partitions with `-` between
 /// them. Words are refused as `read_mult` says, and a level as a number of rows.
 pub fn read_fusion(alloc: Global, words: &[String]) -> Result<Command, WordsFault>
-    ensures { IsRead (fusion_entry ∷ []) command_of (map string_bytes words.now) result }
+    ensures { IsRead (fusion_entry ∷ []) (map string_bytes words.now) result }
 {
     let (rows, level, factors) = read_reduction(alloc, words, "fusion")?;
     Ok(Command::Fusion {

@@ -4,7 +4,6 @@ ghost use Rattle.sym_model.specs.CommandOffence.{first_offence};
 ghost use Rattle.sym_model.specs.Form.{Written, words_of};
 ghost use Rattle.sym_model.specs.Grammar.{skew_entry, two_partitions};
 ghost use Rattle.sym_model.specs.WordForms.{optional, rows_words, row_limit as limit_of, row_limit_offences, partition};
-ghost use Rattle.calc_commands.specs.Commands.{command_of};
 ghost use Rattle.calc_words.specs.Reading.{IsRead, IsJudged};
 ghost use Rattle.calc_words.specs.Rows.{IsLimitWord};
 
@@ -46,7 +45,7 @@ fn read_optioned(
 /// refused: a number past 2^127 - 1 as `Literal`; a number of rows that is not from 1 to 64, the 65th number of a partition,
 /// and the one at which its sum passes 512, as `Range`; a number of a partition greater than the one before it as `Shape`.
 pub fn read_skew(alloc: Global, words: &[String]) -> Result<Command, WordsFault>
-    ensures { IsRead (skew_entry ∷ []) command_of (map string_bytes words.now) result }
+    ensures { IsRead (skew_entry ∷ []) (map string_bytes words.now) result }
 {
     let Some(optioned) = behind(words, "skew") else {
         return Err(syntax(0));

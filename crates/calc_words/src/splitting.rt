@@ -80,10 +80,8 @@ pub(crate) fn two_lists<'a>(
     let Some(second) = behind(rest, separator) else {
         return Err(rest.len());
     };
-    match last_list(second) {
-        Ok(second) => Ok((first, second)),
-        Err(left) => Err(left),
-    }
+    let second = last_list(second)?;
+    Ok((first, second))
 }
 
 /// The words, where all of them are numbers and there is one; else how many are left from the wrong one on.
@@ -95,10 +93,8 @@ pub(crate) fn last_letters(words: &[String]) -> Result<&[String], usize>
     let Some((_, rest)) = first_number(words) else {
         return Err(words.len());
     };
-    match last_list(rest) {
-        Ok(_) => Ok(words),
-        Err(left) => Err(left),
-    }
+    last_list(rest)?;
+    Ok(words)
 }
 
 /// Two lists of at least one number with this word between them; else how many words are left from the wrong one on.
@@ -119,10 +115,8 @@ pub(crate) fn two_letter_lists<'a>(
     let Some(second) = behind(rest, separator) else {
         return Err(rest.len());
     };
-    match last_letters(second) {
-        Ok(second) => Ok((first, second)),
-        Err(left) => Err(left),
-    }
+    let second = last_letters(second)?;
+    Ok((first, second))
 }
 
 /// The number of rows as it is written, where it is there; its value is kept where it is no more than 2^127 - 1.

@@ -5,7 +5,6 @@ ghost use Rattle.sym_model.specs.Grammar.{stanley_entry};
 ghost use Rattle.sym_model.specs.Permutation.{kept};
 ghost use Rattle.sym_model.specs.WordForms.{numbers as numbers_of};
 ghost use Rattle.calc_words.specs.NumberRuns.{narrow};
-ghost use Rattle.calc_commands.specs.Commands.{command_of};
 ghost use Rattle.calc_words.specs.Reading.{IsRead, IsJudged};
 
 use crate::offence::syntax;
@@ -36,7 +35,7 @@ fn read_limited(
 /// Reads the words of `stanley`: that word, `-r` and a number of variables, and the letters of a permutation. Words are refused
 /// as `read_schubert` says, and a number of variables that is not from 1 to 64 as `Range`.
 pub fn read_stanley(alloc: Global, words: &[String]) -> Result<Command, WordsFault>
-    ensures { IsRead (stanley_entry ∷ []) command_of (map string_bytes words.now) result }
+    ensures { IsRead (stanley_entry ∷ []) (map string_bytes words.now) result }
 {
     let Some(rest) = behind(words, "stanley") else {
         return Err(syntax(0));

@@ -31,9 +31,9 @@ use Rattle.calc_words.specs.declared.offence.Kind.TheVariants.{Literal, Range, S
 use Rattle.calc_words.specs.NumberRuns.{IsNumber}
 use Rattle.calc_words.specs.Reading.{IsJudged, IsRead, IsFirst}
 use Rattle.tableau_words.specs.TableauWords.{AreTwoTableaux}
-use Rattle.tableau_words.specs.ReadTableaux.{AreFillings, word_of_pair, second_rows_of}
-use Rattle.tableau_words.specs.declared.pairs.TwoFillings.{TwoFillings}
-use Rattle.calc_words.proofs.Commands.{read_judged}
+use Rattle.calc_commands.specs.Commands.{StandsFor}
+use Rattle.calc_commands.specs.declared.command.Command.{Command as Read}
+use Rattle.calc_words.proofs.Commands.{read_standing}
 use Rattle.tableau_words.proofs.EmptyRows.{empties}
 use Rattle.calc_words.proofs.FirstOffences.{within, no_later_word}
 use Rattle.calc_words.proofs.WrittenLists.{none_append, none_next, none_judged, not_when, inside}
@@ -280,10 +280,10 @@ lengths_twice f h (r ∷ rows) =
 abbrev offends_so : List PlacedRow → List (List ℕ) → Words → Words → (ℕ → List PlacedRow) → List Offence
 offends_so first nss words more second = offences_of_pair first nss (2 + length words) more (second (2 + length words))
 
-pub pair_read : (words : Words) (first second : List Words) (r : Result TwoFillings WordsFault) → words ≡ codes "unrsk" ∷ (rows_text first ++ codes "-" ∷ rows_text second)
+pub pair_read : (words : Words) (first second : List Words) (r : Result Read WordsFault) → words ≡ codes "unrsk" ∷ (rows_text first ++ codes "-" ∷ rows_text second)
     → 0 < length first → EachOf (EachOf IsNumber) first → 0 < length second → EachOf (EachOf IsNumber) second
-    → IsJudged (AreFillings (rows_in [] (map numbers first)) (rows_in [] (map numbers second))) (first_offence (pair_offences first second)) r
-    → IsRead (unrsk_entry ∷ []) word_of_pair words r
+    → IsJudged (StandsFor (unrsk (rows_in [] (map numbers first)) (rows_in [] (map numbers second)))) (first_offence (pair_offences first second)) r
+    → IsRead (unrsk_entry ∷ []) words r
 pair_read words [] second r e s a t b j = absurd (omega (arith, s))
 pair_read words (row ∷ rows) [] r e s a t b j = absurd (omega (arith, t))
 pair_read words (row ∷ rows) (other ∷ others) r e s a t b j =
@@ -298,7 +298,7 @@ pair_read words (row ∷ rows) (other ∷ others) r e s a t b j =
     ∙ ap (λ p. offends_so (rows_at 1 first) (map numbers first) (rows_text first) p (λ k. placed_rows k y)) (written_words other others)
     ∙ ap (λ p. offences_of_pair (rows_at 1 first) (map numbers first) (2 + length (rows_text first)) (rows_text second) p)
     (written_rows (2 + length (rows_text first)) other others) in
-    read_judged unrsk_entry words
+    read_standing unrsk_entry words
     (record {
       written = (tt, (x, (tt, y)));
       allowed = (tt, (written_may row rows a, (tt, written_may other others b)));
@@ -307,17 +307,16 @@ pair_read words (row ∷ rows) (other ∷ others) r e s a t b j =
           ∙ ap (λ ws. codes "unrsk" ∷ (ws ++ codes "-" ∷ rows_text second)) (sym (written_words row rows))
           ∙ ap (λ ws. codes "unrsk" ∷ (words_of tableau_words x ++ codes "-" ∷ ws)) (sym (written_words other others));
     })
-    word_of_pair (AreFillings (rows_in [] (map numbers first)) (rows_in [] (map numbers second)))
-    (λ f k.
-    ap (λ p. unrsk p (second_rows_of f)) (k.0 ∙ ap (rows_in []) (sym (written_entries row rows)))
-    ∙ ap (unrsk (rows_in [] (tableau_rows x))) (k.1 ∙ ap (rows_in []) (sym (written_entries other others))))
-    r (subst (λ os. IsJudged (AreFillings (rows_in [] (map numbers first)) (rows_in [] (map numbers second))) (first_offence os) r) (sym offends) j)
+    (unrsk (rows_in [] (map numbers first)) (rows_in [] (map numbers second)))
+    (ap (λ p. unrsk (rows_in [] p) (rows_in [] (map numbers second))) (sym (written_entries row rows))
+    ∙ ap (λ p. unrsk (rows_in [] (tableau_rows x)) (rows_in [] p)) (sym (written_entries other others)))
+    r (subst (λ os. IsJudged (StandsFor (unrsk (rows_in [] (map numbers first)) (rows_in [] (map numbers second)))) (first_offence os) r) (sym offends) j)
 
-pub pair_read_rows : {A : Type 0} (f : A → Words) (words rest : Words) (xs ys : List A) (r : Result TwoFillings WordsFault) → words ≡ codes "unrsk" ∷ rest
+pub pair_read_rows : {A : Type 0} (f : A → Words) (words rest : Words) (xs ys : List A) (r : Result Read WordsFault) → words ≡ codes "unrsk" ∷ rest
     → AreTwoTableaux (map f xs) (map f ys) rest
-    → IsJudged (AreFillings (rows_in [] (map (λ r. numbers (f r)) xs)) (rows_in [] (map (λ r. numbers (f r)) ys))) (first_offence (pair_offences (map f xs) (map f ys))) r
-    → IsRead (unrsk_entry ∷ []) word_of_pair words r
+    → IsJudged (StandsFor (unrsk (rows_in [] (map (λ r. numbers (f r)) xs)) (rows_in [] (map (λ r. numbers (f r)) ys)))) (first_offence (pair_offences (map f xs) (map f ys))) r
+    → IsRead (unrsk_entry ∷ []) words r
 pair_read_rows f words rest xs ys r e t j =
     pair_read words (map f xs) (map f ys) r (e ∙ ap (λ ws. codes "unrsk" ∷ ws) t.words_are) t.first_some t.first_numbers t.second_some t.second_numbers
-    (subst (λ ns. IsJudged (AreFillings (rows_in [] ns) (rows_in [] (map numbers (map f ys)))) (first_offence (pair_offences (map f xs) (map f ys))) r) (sym (map_twice f numbers xs))
-    (subst (λ ns. IsJudged (AreFillings (rows_in [] (map (λ r. numbers (f r)) xs)) (rows_in [] ns)) (first_offence (pair_offences (map f xs) (map f ys))) r) (sym (map_twice f numbers ys)) j))
+    (subst (λ ns. IsJudged (StandsFor (unrsk (rows_in [] ns) (rows_in [] (map numbers (map f ys))))) (first_offence (pair_offences (map f xs) (map f ys))) r) (sym (map_twice f numbers xs))
+    (subst (λ ns. IsJudged (StandsFor (unrsk (rows_in [] (map (λ r. numbers (f r)) xs)) (rows_in [] ns))) (first_offence (pair_offences (map f xs) (map f ys))) r) (sym (map_twice f numbers ys)) j))

@@ -25,9 +25,10 @@ use Rattle.tableau_words.specs.AskedLengths.{asked_lengths}
 use Rattle.calc_words.specs.NumberRuns.{IsNumber}
 use Rattle.calc_words.specs.Reading.{IsJudged, IsRead}
 use Rattle.tableau_words.specs.SkewTotals.{offences_of_skew, all_skew_offences}
-use Rattle.tableau_words.specs.SkewWords.{AreSkewRows, AreSkewWords, skew_offences, rectified, rows_of}
-use Rattle.tableau_words.specs.declared.skew_tableaux.SkewRows.{SkewRows}
-use Rattle.calc_words.proofs.Commands.{read_judged, may_be, singles}
+use Rattle.calc_commands.specs.Commands.{StandsFor}
+use Rattle.calc_commands.specs.declared.command.Command.{Command as Read}
+use Rattle.tableau_words.specs.SkewWords.{AreSkewWords, skew_offences}
+use Rattle.calc_words.proofs.Commands.{read_standing, may_be, singles}
 use Rattle.calc_words.proofs.FirstOffences.{within}
 use Rattle.calc_words.proofs.WrittenLists.{none_append, none_judged}
 use Rattle.tableau_words.proofs.PairJudging.{After, entries_after, earlier_word, some_judged, left_shape_of, map_twice, after_append}
@@ -191,11 +192,11 @@ lists_spelled outer inner more =
     ap (λ ws. ws ++ codes "/" ∷ (inner ++ codes "-" ∷ more)) (sym (singles outer))
     ∙ ap (λ ws. each (λ t. t ∷ []) outer ++ (codes "/" ∷ (ws ++ codes "-" ∷ more))) (sym (singles inner))
 
-pub skew_read : (words outer inner : Words) (rows : List Words) (r : Result SkewRows WordsFault)
+pub skew_read : (words outer inner : Words) (rows : List Words) (r : Result Read WordsFault)
     → words ≡ codes "rect" ∷ (outer ++ codes "/" ∷ (inner ++ codes "-" ∷ rows_text rows)) → EachOf IsNumber outer → EachOf IsNumber inner
     → 0 < length rows → EachOf (EachOf IsNumber) rows
-    → IsJudged (AreSkewRows (partition outer) (partition inner) (rows_in (partition outer) (map numbers rows))) (first_offence (all_skew_offences outer inner rows)) r
-    → IsRead (rect_entry ∷ []) rectified words r
+    → IsJudged (StandsFor (rect (partition outer) (partition inner) (rows_in (partition outer) (map numbers rows)))) (first_offence (all_skew_offences outer inner rows)) r
+    → IsRead (rect_entry ∷ []) words r
 skew_read words outer inner [] r e o i s a j = absurd (omega (arith, s))
 skew_read words outer inner (row ∷ rows) r e o i s a j =
     let x = tableau_written row rows in
@@ -203,7 +204,7 @@ skew_read words outer inner (row ∷ rows) r e o i s a j =
     let offends : rect_offends (tt, (outer, (tt, (inner, (tt, x))))) ≡ all_skew_offences outer inner (row ∷ rows) =
     ap (λ p. offences_of_skew outer inner k p (placed_rows k x)) (written_words row rows)
     ∙ ap (λ p. offences_of_skew outer inner k (rows_text (row ∷ rows)) p) (written_rows k row rows) in
-    read_judged rect_entry words
+    read_standing rect_entry words
     (record {
       written = (tt, (outer, (tt, (inner, (tt, x)))));
       allowed = (tt, (may_be outer o, (tt, (may_be inner i, (tt, written_may row rows a)))));
@@ -212,19 +213,15 @@ skew_read words outer inner (row ∷ rows) r e o i s a j =
           ∙ ap (λ ws. codes "rect" ∷ (outer ++ codes "/" ∷ (inner ++ codes "-" ∷ ws))) (sym (written_words row rows))
           ∙ ap (λ ws. codes "rect" ∷ ws) (lists_spelled outer inner (words_of tableau_words x));
     })
-    rectified (AreSkewRows (partition outer) (partition inner) (rows_in (partition outer) (map numbers (row ∷ rows))))
-    (λ f q.
-    ap (λ p. rect p f.inner (rows_of f)) q.0
-    ∙ ap (λ p. rect (partition outer) p (rows_of f)) q.1
-    ∙ ap (rect (partition outer) (partition inner)) (q.2 ∙ ap (rows_in (partition outer)) (sym (written_entries row rows))))
-    r
-    (subst (λ os. IsJudged (AreSkewRows (partition outer) (partition inner) (rows_in (partition outer) (map numbers (row ∷ rows)))) (first_offence os) r) (sym offends) j)
+    (rect (partition outer) (partition inner) (rows_in (partition outer) (map numbers (row ∷ rows))))
+    (ap (λ p. rect (partition outer) (partition inner) (rows_in (partition outer) p)) (sym (written_entries row rows))) r
+    (subst (λ os. IsJudged (StandsFor (rect (partition outer) (partition inner) (rows_in (partition outer) (map numbers (row ∷ rows))))) (first_offence os) r) (sym offends) j)
 
-pub skew_read_rows : {A : Type 0} (f : A → Words) (words rest outer inner : Words) (xs : List A) (r : Result SkewRows WordsFault) → words ≡ codes "rect" ∷ rest
+pub skew_read_rows : {A : Type 0} (f : A → Words) (words rest outer inner : Words) (xs : List A) (r : Result Read WordsFault) → words ≡ codes "rect" ∷ rest
     → AreSkewWords outer inner (map f xs) rest
-    → IsJudged (AreSkewRows (partition outer) (partition inner) (rows_in (partition outer) (map (λ r. numbers (f r)) xs))) (first_offence (all_skew_offences outer inner (map f xs))) r
-    → IsRead (rect_entry ∷ []) rectified words r
+    → IsJudged (StandsFor (rect (partition outer) (partition inner) (rows_in (partition outer) (map (λ r. numbers (f r)) xs)))) (first_offence (all_skew_offences outer inner (map f xs))) r
+    → IsRead (rect_entry ∷ []) words r
 skew_read_rows f words rest outer inner xs r e t j =
     skew_read words outer inner (map f xs) r (e ∙ ap (λ ws. codes "rect" ∷ ws) t.words_are) t.outer_numbers t.inner_numbers t.rows_some t.rows_numbers
-    (subst (λ ns. IsJudged (AreSkewRows (partition outer) (partition inner) (rows_in (partition outer) ns)) (first_offence (all_skew_offences outer inner (map f xs))) r)
+    (subst (λ ns. IsJudged (StandsFor (rect (partition outer) (partition inner) (rows_in (partition outer) ns))) (first_offence (all_skew_offences outer inner (map f xs))) r)
     (sym (map_twice f numbers xs)) j)

@@ -26,7 +26,6 @@ use Rattle.tableau_words.specs.FoundOffences.{at_most_entry}
 use Rattle.calc_words.specs.NumberRuns.{IsNumber}
 use Rattle.calc_words.specs.Reading.{IsJudged, IsRead, IsFirst}
 use Rattle.tableau_words.specs.TabWords.{AreTabWords, from_text, last_of, unlisted, from_offences, all_tab_offences}
-use Rattle.calc_commands.specs.Commands.{command_of}
 use Rattle.calc_commands.specs.declared.command.Command.{Command as Read}
 use Rattle.calc_commands.specs.declared.command.Command.TheVariants.{Tab}
 use Rattle.calc_words.proofs.Commands.{read_judged, may_be, singles, judged_err}
@@ -229,7 +228,7 @@ tab_read : (words outer inner : Words) (rows : List Words) (r : Result Read Word
     → words ≡ codes "tab" ∷ (outer ++ codes "/" ∷ (inner ++ from_text rows)) → EachOf IsNumber outer → EachOf IsNumber inner → EachOf (EachOf IsNumber) rows
     → IsJudged (IsTab (partition outer) (partition inner) (last_of (partition outer) (partition inner) (map numbers rows)))
     (first_offence (all_tab_offences outer inner rows)) r
-    → IsRead (tab_entry ∷ []) command_of words r
+    → IsRead (tab_entry ∷ []) words r
 tab_read words outer inner [] r e o i a j =
     read_judged tab_entry words
     (record {
@@ -237,8 +236,7 @@ tab_read words outer inner [] r e o i a j =
       allowed = (tt, (may_be outer o, (tt, (may_be inner i, tt))));
       spelled = e ∙ ap (λ ws. codes "tab" ∷ ws) (lists_spelled outer inner []);
     })
-    command_of (IsTab (partition outer) (partition inner) None)
-    (λ s q. ap command_of q) r j
+    (Tab (partition outer) (partition inner) None) refl tt r j
 tab_read words outer inner (row ∷ rows) r e o i a j =
     let x = tableau_written row rows in
     let k = 2 + length outer + length inner in
@@ -259,8 +257,7 @@ tab_read words outer inner (row ∷ rows) r e o i a j =
           ∙ ap (λ ws. codes "tab" ∷ (outer ++ codes "/" ∷ (inner ++ codes "-from" ∷ ws))) (sym (written_words row rows))
           ∙ ap (λ ws. codes "tab" ∷ ws) (lists_spelled outer inner (codes "-from" ∷ words_of tableau_words x));
     })
-    command_of (IsTab (partition outer) (partition inner) (last_of (partition outer) (partition inner) (map numbers (row ∷ rows))))
-    (λ s q. ap command_of q ∙ ap (tab P Q) (sym last)) r
+    (Tab P Q (last_of P Q (map numbers (row ∷ rows)))) (ap (tab P Q) (sym last)) tt r
     (subst
     (λ os. IsJudged (IsTab (partition outer) (partition inner) (last_of (partition outer) (partition inner) (map numbers (row ∷ rows)))) (first_offence os) r)
     (sym offends) j)
@@ -269,7 +266,7 @@ pub tab_read_rows : {A : Type 0} (f : A → Words) (words rest outer inner : Wor
     → AreTabWords outer inner (map f xs) rest
     → IsJudged (IsTab (partition outer) (partition inner) (last_of (partition outer) (partition inner) (map (λ r. numbers (f r)) xs)))
     (first_offence (all_tab_offences outer inner (map f xs))) r
-    → IsRead (tab_entry ∷ []) command_of words r
+    → IsRead (tab_entry ∷ []) words r
 tab_read_rows f words rest outer inner xs r e t j =
     tab_read words outer inner (map f xs) r (e ∙ ap (λ ws. codes "tab" ∷ ws) t.words_are) t.outer_numbers t.inner_numbers t.rows_numbers
     (subst

@@ -1,6 +1,5 @@
--- Tableaux that have been read, as commands (this project's own).
+-- Two tableaux that have been read (this project's own).
 use Rattle.std.specs.Prelude.{◌≡◌, ℕ, List, map}
-use Rattle.sym_model.specs.Command.{Command, unrsk}
 use Rattle.tableau_words.specs.declared.pairs.TwoFillings.{TwoFillings}
 
 -- the rows of the two fillings
@@ -13,7 +12,3 @@ second_rows_of s = map (λ r. r.items) s.second.items
 -- the two fillings have these rows
 abbrev pub AreFillings : List (List ℕ) → List (List ℕ) → TwoFillings → Type 0
 AreFillings first second s = (first_rows_of s ≡ first) × (second_rows_of s ≡ second)
-
--- the word of the pair
-abbrev pub word_of_pair : TwoFillings → Command
-word_of_pair s = unrsk (first_rows_of s) (second_rows_of s)

@@ -1,6 +1,5 @@
 -- Two shapes and a tableau among the words of a command (this project's own).
 use Rattle.std.specs.Prelude.{◌≡◌, ℕ, ◌<◌, List, [], ◌∷◌, ◌++◌, map, length, codes}
-use Rattle.sym_model.specs.Command.{Command, rect}
 use Rattle.sym_model.specs.CommandOffence.{Offence, row_offences, entry_rule, order_offences}
 use Rattle.sym_model.specs.Form.{EachOf}
 use Rattle.sym_model.specs.Schur.{row_lengths}
@@ -31,10 +30,6 @@ rows_of s = map (λ r. r.items) s.rows.items
 -- the shapes and the rows are these
 abbrev pub AreSkewRows : List ℕ → List ℕ → List (List ℕ) → SkewRows → Type 0
 AreSkewRows outer inner rows s = (s.outer ≡ outer) × (s.inner ≡ inner) × (rows_of s ≡ rows)
-
--- the tableau is to be rectified
-abbrev pub rectified : SkewRows → Command
-rectified s = rect s.outer s.inner (rows_of s)
 
 -- the offences of the rows of a tableau of the shape outer/inner, the first of which begins at the word
 abbrev pub skew_offences : ℕ → List ℕ → List ℕ → List (List (List ℕ)) → List Offence

@@ -1,5 +1,6 @@
 //! The words of `unrsk`.
 ghost use Rattle.std.specs.Prelude.{◌≡◌, ◌≤◌, ◌<◌, ◌+◌, ◌++◌, ◌^◌, IfOk, [], ◌∷◌, Some, length, map, string_bytes};
+ghost use Rattle.sym_model.specs.Command.{unrsk};
 ghost use Rattle.sym_model.specs.CommandOffence.{first_offence, standard_offences, rows_in, most_letters};
 ghost use Rattle.sym_model.specs.Form.{EachOf};
 ghost use Rattle.sym_model.specs.Grammar.{unrsk_entry, filled_offences};
@@ -10,9 +11,10 @@ ghost use Rattle.sym_model.specs.WordForms.{numbers as numbers_of};
 ghost use Rattle.word_laws.specs.WrittenRows.{further_text, rows_at, left_at};
 ghost use Rattle.tableau_words.specs.FoundOffences.{found_of, at_most_entry};
 ghost use Rattle.calc_words.specs.NumberRuns.{IsNumber};
-ghost use Rattle.tableau_words.specs.ReadTableaux.{AreFillings, word_of_pair, first_rows_of, second_rows_of};
+ghost use Rattle.tableau_words.specs.ReadTableaux.{AreFillings, first_rows_of, second_rows_of};
 ghost use Rattle.tableau_words.specs.WrittenPairs.{IsWrittenPair};
-ghost use Rattle.calc_commands.specs.Commands.{command_of};
+ghost use Rattle.calc_commands.specs.Commands.{StandsFor};
+ghost use Rattle.calc_commands.specs.Pairs.{IsPair};
 ghost use Rattle.calc_words.specs.Reading.{IsRead, IsJudged};
 ghost use Rattle.tableau_words.specs.WordRows.{refusal_of};
 ghost use Rattle.tableau_words.specs.PairOffences.{pair_offences};
@@ -26,7 +28,7 @@ use crate::row_offences::{
 use crate::row_words::{RowsFault, two_tableaux};
 use crate::tableaux::tableau_of;
 use calc_base::{NoMemory, WordsFault};
-use calc_commands::{Command, TableauPair};
+use calc_commands::Command;
 use calc_words::{behind, refused as offence, syntax};
 use partitions::Partition;
 use skew_shapes::{Standard, Tableau};
@@ -101,31 +103,39 @@ fn judge_pair(
     })
 }
 
-/// The rows of two tableaux that are the words of `unrsk`.
-fn unrsk_rows(alloc: Global, words: &[String]) -> Result<TwoFillings, WordsFault>
-    ensures read { IsRead (unrsk_entry ∷ []) word_of_pair (map string_bytes words.now) result }
-    ensures pair { IfOk result (λ s. IsWrittenPair (first_rows_of s) (second_rows_of s)) }
-{
-    let Some(rest) = behind(words, "unrsk") else {
-        return Err(syntax(0));
-    };
-    match two_tableaux(alloc, rest) {
-        Ok((first, second)) => judge_pair(alloc, first.as_slice(), second.as_slice()),
-        Err(fault) => Err(rows_refusal(words.len(), fault)),
-    }
-}
-
-/// The pair of the tableaux with these rows.
-fn pair_of(alloc: Global, first: &[Vec<u16>], second: &[Vec<u16>]) -> Result<TableauPair, NoMemory>
+/// The tableaux with these rows.
+fn tableaux_of(
+    alloc: Global,
+    first: &[Vec<u16>],
+    second: &[Vec<u16>],
+) -> Result<(Tableau, Standard), NoMemory>
     requires { IsWrittenPair (map (λ r. r.items) first.now) (map (λ r. r.items) second.now) }
     ensures first { IfOk result (λ c. c.0.rows ≡ map (λ r. r.items) first.now) }
     ensures second { IfOk result (λ c. c.1.rows ≡ map (λ r. r.items) second.now) }
+    ensures pair { IfOk result (λ c. IsPair c.0 c.1) }
 {
     let p = straight(alloc, first)?;
     let Ok(q) = Standard::new(straight(alloc, second)?) else {
         unreachable!()
     };
-    Ok(TableauPair::new(p, q))
+    Ok((p, q))
+}
+
+/// The two tableaux of which the first begins at the second word, or the first offence.
+fn read_tableaux(
+    alloc: Global,
+    first: &[&[String]],
+    second: &[&[String]],
+) -> Result<Command, WordsFault>
+    requires first { (0 < length first.now) × EachOf (EachOf IsNumber) (map (λ r. map string_bytes r.now) first.now) }
+    requires second { (0 < length second.now) × EachOf (EachOf IsNumber) (map (λ r. map string_bytes r.now) second.now) }
+    requires room { 2 + length (further_text (map (λ r. map string_bytes r.now) first.now)) + length (further_text (map (λ r. map string_bytes r.now) second.now)) < 2 ^ 64 }
+    ensures { IsJudged (StandsFor (unrsk (rows_in [] (map (λ r. numbers_of (map string_bytes r.now)) first.now)) (rows_in [] (map (λ r. numbers_of (map string_bytes r.now)) second.now))))
+        (first_offence (pair_offences (map (λ r. map string_bytes r.now) first.now) (map (λ r. map string_bytes r.now) second.now))) result }
+{
+    let TwoFillings { first, second } = judge_pair(alloc, first, second)?;
+    let (p, q) = tableaux_of(alloc, first.as_slice(), second.as_slice())?;
+    Ok(Command::Unrsk { p, q })
 }
 
 /// The straight tableau with these rows.
@@ -153,11 +163,15 @@ fn straight(alloc: Global, rows: &[Vec<u16>]) -> Result<Tableau, NoMemory>
 /// leaves the shape of the first, a number past the number of cells, not greater than its left neighbour or the entry above
 /// it, or that stands earlier in it.
 pub fn read_unrsk(alloc: Global, words: &[String]) -> Result<Command, WordsFault>
-    ensures { IsRead (unrsk_entry ∷ []) command_of (map string_bytes words.now) result }
+    ensures { IsRead (unrsk_entry ∷ []) (map string_bytes words.now) result }
 {
-    let TwoFillings { first, second } = unrsk_rows(alloc, words)?;
-    let pair = pair_of(alloc, first.as_slice(), second.as_slice())?;
-    Ok(Command::Unrsk { pair })
+    let Some(rest) = behind(words, "unrsk") else {
+        return Err(syntax(0));
+    };
+    match two_tableaux(alloc, rest) {
+        Ok((first, second)) => read_tableaux(alloc, first.as_slice(), second.as_slice()),
+        Err(fault) => Err(rows_refusal(words.len(), fault)),
+    }
 }
 
 /// The refusal of so many words whose rows were not cut out.

@@ -29,10 +29,8 @@ fn list_and_rows(alloc: Global, words: &[String]) -> Result<(&[String], Vec<&[St
     ensures wrong { IfErr result (λ fault. IsWrongFor (sequence partition_words (optional from_words)) fault (map string_bytes words.now)) }
 {
     let (list, rest) = numbers(words);
-    match rows_from(alloc, rest) {
-        Err(fault) => Err(fault),
-        Ok(rows) => Ok((list, rows)),
-    }
+    let rows = rows_from(alloc, rest)?;
+    Ok((list, rows))
 }
 
 /// Two lists of numbers with `/` between them, and the rows of a tableau behind `-from` where that word is there.
@@ -44,11 +42,9 @@ pub(crate) fn tab_parts(
     ensures wrong { IfErr result (λ fault. IsWrongFor (sequence partition_words (sequence (the (codes "/")) (sequence partition_words (optional from_words)))) fault (map string_bytes words.now)) }
 {
     let (outer, rest) = numbers(words);
-    match behind(rest, "/") {
-        None => Err(RowsFault::Wrong { left: rest.len() }),
-        Some(more) => match list_and_rows(alloc, more) {
-            Err(fault) => Err(fault),
-            Ok((inner, rows)) => Ok((outer, inner, rows)),
-        },
-    }
+    let Some(more) = behind(rest, "/") else {
+        return Err(RowsFault::Wrong { left: rest.len() });
+    };
+    let (inner, rows) = list_and_rows(alloc, more)?;
+    Ok((outer, inner, rows))
 }

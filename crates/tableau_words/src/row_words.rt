@@ -70,15 +70,11 @@ pub fn last_rows(alloc: Global, words: &[String]) -> Result<Vec<&[String]>, Rows
     ensures ok { IfOk result (λ v. AreRows (map (λ r. map string_bytes r.now) v.items) (map string_bytes words.now)) }
     ensures wrong { IfErr result (λ fault. IsWrongFor tableau_words fault (map string_bytes words.now)) }
 {
-    match rows_first(alloc, words) {
-        Err(fault) => Err(fault),
-        Ok((rows, rest)) => {
-            if !rest.is_empty() {
-                return Err(RowsFault::Wrong { left: rest.len() });
-            }
-            Ok(rows)
-        }
+    let (rows, rest) = rows_first(alloc, words)?;
+    if !rest.is_empty() {
+        return Err(RowsFault::Wrong { left: rest.len() });
     }
+    Ok(rows)
 }
 
 /// The rows of two tableaux with `-` between them.
@@ -89,14 +85,10 @@ pub(crate) fn two_tableaux(
     ensures ok { IfOk result (λ p. AreTwoTableaux (map (λ r. map string_bytes r.now) p.0.items) (map (λ r. map string_bytes r.now) p.1.items) (map string_bytes words.now)) }
     ensures wrong { IfErr result (λ fault. IsWrongFor (sequence tableau_words (sequence (the (codes "-")) tableau_words)) fault (map string_bytes words.now)) }
 {
-    match rows_first(alloc, words) {
-        Err(fault) => Err(fault),
-        Ok((first, rest)) => match behind(rest, "-") {
-            None => Err(RowsFault::Wrong { left: rest.len() }),
-            Some(more) => match last_rows(alloc, more) {
-                Err(fault) => Err(fault),
-                Ok(second) => Ok((first, second)),
-            },
-        },
-    }
+    let (first, rest) = rows_first(alloc, words)?;
+    let Some(more) = behind(rest, "-") else {
+        return Err(RowsFault::Wrong { left: rest.len() });
+    };
+    let second = last_rows(alloc, more)?;
+    Ok((first, second))
 }

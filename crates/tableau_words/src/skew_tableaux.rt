@@ -2,6 +2,7 @@
 ghost use Rattle.std.specs.Prelude.{◌≡◌, ◌<◌, ◌+◌, ◌^◌, IfOk, true, [], ◌∷◌, Some, length, map, string_bytes};
 ghost use Rattle.sym_model.specs.Schur.{contains};
 ghost use Rattle.sym_model.specs.Tableau.{IsTableau};
+ghost use Rattle.sym_model.specs.Command.{rect};
 ghost use Rattle.sym_model.specs.CommandOffence.{first_offence, rows_in};
 ghost use Rattle.sym_model.specs.Form.{EachOf};
 ghost use Rattle.sym_model.specs.Grammar.{rect_entry};
@@ -10,10 +11,10 @@ ghost use Rattle.word_laws.specs.WrittenRows.{further_text};
 ghost use Rattle.tableau_words.specs.AskedLengths.{asked_lengths};
 ghost use Rattle.tableau_words.specs.FoundOffences.{at_most_entry};
 ghost use Rattle.calc_words.specs.NumberRuns.{IsNumber};
-ghost use Rattle.calc_commands.specs.Commands.{command_of};
+ghost use Rattle.calc_commands.specs.Commands.{StandsFor};
 ghost use Rattle.calc_words.specs.Reading.{IsRead, IsJudged};
 ghost use Rattle.tableau_words.specs.SkewTotals.{all_skew_offences};
-ghost use Rattle.tableau_words.specs.SkewWords.{AreSkewRows, skew_offences, rectified, rows_of};
+ghost use Rattle.tableau_words.specs.SkewWords.{AreSkewRows, skew_offences, rows_of};
 
 use crate::earlier::earlier;
 use crate::inner_partition::read_inner;
@@ -116,27 +117,27 @@ fn judge_skew(
 {
     let behind_outer = 2 + outer.len() as u64;
     let behind_inner = 3 + outer.len() as u64 + inner.len() as u64;
-    match read_partition(alloc, 1, outer) {
-        Err(fault) => Err(fault),
-        Ok(outer_shape) => match read_inner(alloc, behind_outer, outer_shape.parts(), inner) {
-            Err(fault) => Err(fault),
-            Ok(inner_shape) => judge_rows(alloc, behind_inner, outer_shape, inner_shape, rows),
-        },
-    }
+    let outer_shape = read_partition(alloc, 1, outer)?;
+    let inner_shape = read_inner(alloc, behind_outer, outer_shape.parts(), inner)?;
+    judge_rows(alloc, behind_inner, outer_shape, inner_shape, rows)
 }
 
-/// The two shapes and the rows of a tableau that are the words of `rect`.
-fn rect_rows(alloc: Global, words: &[String]) -> Result<SkewRows, WordsFault>
-    ensures read { IsRead (rect_entry ∷ []) rectified (map string_bytes words.now) result }
-    ensures tableau { IfOk result (λ s. IsTableau s.outer s.inner (rows_of s)) }
+/// The tableau of two shapes, the first of which begins at the second word, or the first offence.
+fn read_skew_tableau(
+    alloc: Global,
+    outer: &[String],
+    inner: &[String],
+    rows: &[&[String]],
+) -> Result<Command, WordsFault>
+    requires some { (0 < length rows.now) × EachOf (EachOf IsNumber) (map (λ r. map string_bytes r.now) rows.now) }
+    requires room { 3 + length outer.now + length inner.now + length (further_text (map (λ r. map string_bytes r.now) rows.now)) < 2 ^ 64 }
+    ensures { IsJudged (StandsFor (rect (partition (map string_bytes outer.now)) (partition (map string_bytes inner.now))
+        (rows_in (partition (map string_bytes outer.now)) (map (λ r. numbers_of (map string_bytes r.now)) rows.now))))
+        (first_offence (all_skew_offences (map string_bytes outer.now) (map string_bytes inner.now) (map (λ r. map string_bytes r.now) rows.now))) result }
 {
-    let Some(rest) = behind(words, "rect") else {
-        return Err(syntax(0));
-    };
-    match skew_parts(alloc, rest) {
-        Ok((outer, inner, rows)) => judge_skew(alloc, outer, inner, rows.as_slice()),
-        Err(fault) => Err(rows_refusal(words.len(), fault)),
-    }
+    let SkewRows { outer, inner, rows } = judge_skew(alloc, outer, inner, rows)?;
+    let tableau = tableau_of(alloc, outer, inner, rows.as_slice())?;
+    Ok(Command::Rect { tableau })
 }
 
 /// Reads the words of `rect`: that word, an outer and an inner partition with `/` between them, and, behind `-`, a tableau of
@@ -147,9 +148,13 @@ fn rect_rows(alloc: Global, words: &[String]) -> Result<SkewRows, WordsFault>
 /// row; an entry past 2^127 - 1 as `Literal`, one that is 0 or past 65,535 as `Range`; as `Shape` the word at which the tableau
 /// leaves the shape, an entry smaller than its left neighbour, and one not greater than the entry above it.
 pub fn read_rect(alloc: Global, words: &[String]) -> Result<Command, WordsFault>
-    ensures { IsRead (rect_entry ∷ []) command_of (map string_bytes words.now) result }
+    ensures { IsRead (rect_entry ∷ []) (map string_bytes words.now) result }
 {
-    let SkewRows { outer, inner, rows } = rect_rows(alloc, words)?;
-    let tableau = tableau_of(alloc, outer, inner, rows.as_slice())?;
-    Ok(Command::Rect { tableau })
+    let Some(rest) = behind(words, "rect") else {
+        return Err(syntax(0));
+    };
+    match skew_parts(alloc, rest) {
+        Ok((outer, inner, rows)) => read_skew_tableau(alloc, outer, inner, rows.as_slice()),
+        Err(fault) => Err(rows_refusal(words.len(), fault)),
+    }
 }

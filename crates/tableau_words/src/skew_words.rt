@@ -15,13 +15,11 @@ fn list_and_rows(alloc: Global, words: &[String]) -> Result<(&[String], Vec<&[St
     ensures wrong { IfErr result (λ fault. IsWrongFor (sequence partition_words (sequence (the (codes "-")) tableau_words)) fault (map string_bytes words.now)) }
 {
     let (list, rest) = numbers(words);
-    match behind(rest, "-") {
-        None => Err(RowsFault::Wrong { left: rest.len() }),
-        Some(more) => match last_rows(alloc, more) {
-            Err(fault) => Err(fault),
-            Ok(rows) => Ok((list, rows)),
-        },
-    }
+    let Some(more) = behind(rest, "-") else {
+        return Err(RowsFault::Wrong { left: rest.len() });
+    };
+    let rows = last_rows(alloc, more)?;
+    Ok((list, rows))
 }
 
 /// Two lists of numbers with `/` between them and, behind `-`, the rows of a tableau.
@@ -33,11 +31,9 @@ pub(crate) fn skew_parts(
     ensures wrong { IfErr result (λ fault. IsWrongFor (sequence partition_words (sequence (the (codes "/")) (sequence partition_words (sequence (the (codes "-")) tableau_words)))) fault (map string_bytes words.now)) }
 {
     let (outer, rest) = numbers(words);
-    match behind(rest, "/") {
-        None => Err(RowsFault::Wrong { left: rest.len() }),
-        Some(more) => match list_and_rows(alloc, more) {
-            Err(fault) => Err(fault),
-            Ok((inner, rows)) => Ok((outer, inner, rows)),
-        },
-    }
+    let Some(more) = behind(rest, "/") else {
+        return Err(RowsFault::Wrong { left: rest.len() });
+    };
+    let (inner, rows) = list_and_rows(alloc, more)?;
+    Ok((outer, inner, rows))
 }

@@ -5,7 +5,6 @@ ghost use Rattle.sym_model.specs.Form.{EachOf};
 ghost use Rattle.sym_model.specs.Grammar.{tab_entry};
 ghost use Rattle.sym_model.specs.WordForms.{numbers as numbers_of, partition};
 ghost use Rattle.calc_words.specs.NumberRuns.{IsNumber};
-ghost use Rattle.calc_commands.specs.Commands.{command_of};
 ghost use Rattle.calc_words.specs.Reading.{IsRead, IsJudged};
 ghost use Rattle.tableau_words.specs.TabWords.{last_of, from_offences, all_tab_offences};
 
@@ -78,7 +77,7 @@ fn judge_tab(
 /// refused: those of the partitions as `read_mult` says, and as `Shape`, at the word `-from`, a tableau that is none of the list
 /// of the lattice tableaux of the outer over the inner partition.
 pub fn read_tab(alloc: Global, words: &[String]) -> Result<Command, WordsFault>
-    ensures { IsRead (tab_entry ∷ []) command_of (map string_bytes words.now) result }
+    ensures { IsRead (tab_entry ∷ []) (map string_bytes words.now) result }
 {
     let Some(rest) = behind(words, "tab") else {
         return Err(syntax(0));

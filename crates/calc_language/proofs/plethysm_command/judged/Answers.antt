@@ -33,6 +33,6 @@ returns-else-degree-gt-PLETHYSM_DEGREE c =
     let y = c.in-Ok-read_inner.inner in
     let second = degree (tree_of y.tree) in
     let few = subst (λ n. n * second ≤ 10) c.degree.ensures (subst (λ n. c.degree.result * n ≤ 10) c.degree-in-Ok-read_inner.ensures c.if-degree-gt-PLETHYSM_DEGREE.false) in (
-      trees_said c.args.outer.now c.args.inner.now f g x y (basis_of c.args.target) r c.in-Ok.ensures.read s c.in-Ok-read_inner.ensures.read,
+      (trees_said c.args.outer.now c.args.inner.now f g x y (basis_of c.args.target) r c.in-Ok.ensures.read s c.in-Ok-read_inner.ensures.read, tt),
       both_fine c.args.outer.now c.args.inner.now f g x y r c.in-Ok.ensures.read s c.in-Ok-read_inner.ensures.read few,
     )

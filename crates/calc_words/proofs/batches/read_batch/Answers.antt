@@ -26,9 +26,11 @@ returns-then-not-is_empty c =
 
 pub returns : goal.returns
 returns c =
-    let none = no_more string_bytes c.in-Some.rest.now (sym c.is_empty.ensures ∙ c.if-not-is_empty.false) in
-    inl (record {
-      has = record { written = tt; allowed = tt; spelled = c.in-Some.ensures ∙ ap (λ ws. codes "batch" ∷ ws) none };
-      says_it = refl;
-      no_offence = refl;
-    })
+    let none = no_more string_bytes c.in-Some.rest.now (sym c.is_empty.ensures ∙ c.if-not-is_empty.false) in (
+      inl (record {
+        has = record { written = tt; allowed = tt; spelled = c.in-Some.ensures ∙ ap (λ ws. codes "batch" ∷ ws) none };
+        says_it = refl;
+        no_offence = refl;
+      }),
+      tt,
+    )

@@ -4,7 +4,6 @@ use Rattle.sym_model.specs.Form.{Form, sequence, word, number}
 use Rattle.sym_model.specs.Grammar.{work_words, work_entry}
 use Rattle.sym_model.specs.PrintedBlock.{decimal_value}
 use Rattle.word_laws.proofs.Classes.{number_sound}
-use Rattle.calc_commands.specs.Commands.{command_of}
 use Rattle.calc_commands.specs.declared.command.Command.TheVariants.{Work}
 use Rattle.calc_words.specs.NumberRuns.{narrow}
 use Rattle.calc_words.specs.Standing.{WrongAt}
@@ -85,8 +84,7 @@ returns c =
       allowed = (tt, (number_sound lines first.1, number_sound seed second.1));
       spelled = c.in-Some.ensures ∙ ap (λ ws. codes "work" ∷ ws) (first.0 ∙ ap (λ ws. lines ∷ ws) (second.0 ∙ ap (λ ws. seed ∷ ws) none));
     })
-    command_of (λ c. c ≡ Work (decimal_value lines) (decimal_value seed)) (λ c k. ap command_of k)
-    c.read_numbers.result
+    (Work (decimal_value lines) (decimal_value seed)) refl tt c.read_numbers.result
     (c.read_numbers.ensures (decimal_value lines) (decimal_value seed)
     (c.value_of.ensures ∙ ap (λ w. narrow (decimal_value w)) c.as_bytes.ensures.value)
     (c.value_of-2.ensures ∙ ap (λ w. narrow (decimal_value w)) c.as_bytes-2.ensures.value))

@@ -1,6 +1,7 @@
-use Rattle.std.proofs.Common.{◌≡◌, ℕ, ◌+◌, ◌++◌, List, [], ◌∷◌, map, length, length-append, refl, sym, ap, subst, arith, Err, None}
+use Rattle.std.proofs.Common.{◌≡◌, ℕ, ◌+◌, ◌++◌, List, map, length, length-append, refl, sym, ap, subst, arith, None}
 use Rattle.std.specs.Prelude.{string_bytes}
 use Rattle.std.proofs.lemmas.List.{append-nil, length-map}
+use Rattle.std.proofs.lemmas.Result.{err_from_is_err_and}
 use Rattle.sym_model.specs.CommandOffence.{first_offence, factor_offences}
 use Rattle.sym_model.specs.Form.{EachOf}
 use Rattle.sym_model.specs.WordForms.{numbers, partition}
@@ -36,26 +37,25 @@ read_later-requires t c =
       omega arith,
       (
         omega (arith, w, l, m, r, a, b, s, p),
-        subst (EachOf IsWritten) (sym c.in-Ok.ensures.0)
-            (next_written c.args.factors (length c.args.factors) c.args.at (map string_bytes list) c.requires.written c.in-Ok.ensures.1),
+        subst (EachOf IsWritten) (sym c.in_ok-factors.ensures.0)
+            (next_written c.args.factors (length c.args.factors) c.args.at (map string_bytes list) c.requires.written c.in_ok-factors.ensures.1),
       ),
     )
 
-pub returns-in-Err : goal.returns-in-Err
-returns-in-Err t c =
+pub returns-in_err-factors : goal.returns-in_err-factors
+returns-in_err-factors t c =
     λ others e n.
     let factors = c.args.factors in
     let list = map string_bytes c.numbers.result.0.now in
     let k = next_cut (map string_bytes c.args.words.now) (map string_bytes c.in-Some.later.now) list (map string_bytes c.numbers.result.1.now) others e n
     c.in-Some.ensures c.numbers.ensures.parts c.numbers.ensures.numbers c.numbers.ensures.rest in
-    subst
-    (λ os. IsFirst (first_offence (factor_offences (length factors) (c.args.at + 1) (map numbers os))) c.in-Err.fault)
-    (sym k.others_are)
-    (next_faulty (length factors) c.args.at list k.more
-    c.in-Err.fault c.in-Err.ensures)
+    let p = err_from_is_err_and c.from_residual.result c.from_residual.ensures.1 in
+    rw (p.1, p.2)
+    (subst (λ os. IsFirst (first_offence (factor_offences (length factors) (c.args.at + 1) (map numbers os))) c.in_err-factors.field-0.0) (sym k.others_are)
+    (next_faulty (length factors) c.args.at list k.more _ c.in_err-factors.ensures))
 
-pub returns-in-Ok : goal.returns-in-Ok
-returns-in-Ok t c =
+pub returns : goal.returns
+returns t c =
     λ others e n.
     let factors = c.args.factors in
     let list = map string_bytes c.numbers.result.0.now in
@@ -65,6 +65,6 @@ returns-in-Ok t c =
     subst
     (λ os. IsJudged (λ (f : List (List ℕ)). f ≡ factors ++ map partition os) (first_offence (factor_offences (length factors) (c.args.at + 1) (map numbers os))) c.read_later.result)
     (sym k.others_are)
-    (next_fine factors c.in-Ok.factors c.args.at after list k.more c.read_later.result c.in-Ok.ensures.0
-    (ap (λ m. c.args.at + 1 + m) (sym (length-map c.numbers.result.0.now string_bytes))) c.in-Ok.ensures.1
+    (next_fine factors c.in_ok-factors.factors c.args.at after list k.more c.read_later.result c.in_ok-factors.ensures.0
+    (ap (λ m. c.args.at + 1 + m) (sym (length-map c.numbers.result.0.now string_bytes))) c.in_ok-factors.ensures.1
     (c.read_later.ensures k.more k.rest_are k.more_numbers))

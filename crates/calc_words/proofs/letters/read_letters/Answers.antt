@@ -1,4 +1,4 @@
-use Rattle.std.proofs.Common.{◌≡◌, map, sym, ap, ◌∙◌, arith}
+use Rattle.std.proofs.Common.{map, sym, ap, ◌∙◌, arith}
 use Rattle.std.specs.Prelude.{string_bytes}
 use Rattle.sym_model.specs.PrintedBlock.{decimal_value}
 use Rattle.sym_model.specs.WordForms.{numbers}

@@ -5,7 +5,6 @@ use Rattle.std.proofs.lemmas.Result.{err_from_is_err_and}
 use Rattle.sym_model.specs.CommandOffence.{first_offence, offences_by, letter_rule}
 use Rattle.calc_base.specs.declared.words.WordsFault.{WordsFault}
 use Rattle.calc_words.specs.Reading.{IsRead, IsJudged}
-use Rattle.calc_commands.specs.Commands.{command_of}
 use Rattle.calc_commands.specs.declared.command.Command.{Command as Read}
 use Rattle.calc_commands.specs.declared.command.Command.TheVariants.{Rsk}
 use Rattle.sym_model.specs.Grammar.{rsk_words, rsk_entry}
@@ -25,11 +24,11 @@ returns-in_default c =
 
 -- the words with the letters that were judged
 rsk_read : (words ns : List (List ℕ)) (r : Result Read WordsFault) → words ≡ codes "rsk" ∷ ns → EachOf IsNumber ns
-    → IsJudged (λ c. c ≡ Rsk (numbers ns)) (first_offence (offences_by letter_rule 1 (numbers ns))) r → IsRead (rsk_entry ∷ []) command_of words r
+    → IsJudged (λ c. c ≡ Rsk (numbers ns)) (first_offence (offences_by letter_rule 1 (numbers ns))) r → IsRead (rsk_entry ∷ []) words r
 rsk_read words ns r e n h =
     read_judged rsk_entry words
     (record { written = (tt, ns); allowed = (tt, may_be ns n); spelled = e ∙ ap (λ ws. codes "rsk" ∷ ws) (sym (singles ns)) })
-    command_of (λ c. c ≡ Rsk (numbers ns)) (λ c k. ap command_of k) r h
+    (Rsk (numbers ns)) refl tt r h
 
 pub returns-in_err-letters-in-Ok : goal.returns-in_err-letters-in-Ok
 returns-in_err-letters-in-Ok c =

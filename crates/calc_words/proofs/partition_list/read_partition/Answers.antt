@@ -1,7 +1,7 @@
-use Rattle.std.proofs.Common.{◌≡◌, ◌<◌, ◌≤◌, length, map, take, sym, ap, ◌∙◌, subst, arith}
+use Rattle.std.proofs.Common.{◌<◌, ◌≤◌, length, map, take, sym, ap, ◌∙◌, subst, arith}
 use Rattle.std.specs.Prelude.{string_bytes}
 use Rattle.sym_model.specs.PrintedBlock.{decimal_value}
-use Rattle.sym_model.specs.WordForms.{numbers, partition}
+use Rattle.sym_model.specs.WordForms.{numbers}
 use Rattle.sym_model.specs.Partition.{without_last_zeros}
 use Rattle.partitions.specs.Limits.{IsWithinLimits}
 use Rattle.calc_words.proofs.Judging.{number_at, counted, wide_first, kind_first, goes_on, ends, all_parts}

@@ -1,4 +1,4 @@
-use Rattle.std.proofs.Common.{◌≡◌, ℕ, ◌++◌, map, [], ◌∷◌}
+use Rattle.std.proofs.Common.{◌++◌, map, [], ◌∷◌}
 use Rattle.std.specs.Prelude.{string_bytes}
 use Rattle.std.proofs.lemmas.Result.{err_from_is_err_and}
 use Rattle.sym_model.specs.CommandOffence.{offences_by, rows_rule, factor_offences}

@@ -7,4 +7,4 @@ returns-in_err-rows c =
     let p = err_from_is_err_and c.from_residual.result c.from_residual.ensures.1 in rw (p.1, p.2) (c.in_err-rows.ensures quantum)
 
 pub returns : goal.returns
-returns c = c.in_ok-rows.ensures quantum
+returns c = (c.in_ok-rows.ensures quantum, tt)

@@ -1,5 +1,6 @@
 use Rattle.std.proofs.Common.{length, map, ap, subst, arith}
 use Rattle.std.specs.Prelude.{string_bytes}
+use Rattle.std.proofs.lemmas.Result.{err_from_is_err_and}
 use Rattle.std.proofs.lemmas.List.{length-map}
 use Rattle.sym_model.specs.Form.{sequence}
 use Rattle.sym_model.specs.WordForms.{the, permutation_words}
@@ -21,20 +22,22 @@ returns-in_default-behind-clause-wrong c =
     (some_numbers ns (map string_bytes c.numbers.result.1.now) words _ _ c.in-Some.ensures.0 c.in-Some.ensures.1 c.numbers.ensures.parts c.numbers.ensures.rest)
     c.numbers.ensures.parts c.numbers.ensures.numbers c.numbers.ensures.rest c.in_default-behind.ensures
 
-pub returns-in-Err-clause-wrong : goal.returns-in-Err-clause-wrong
-returns-in-Err-clause-wrong c =
+pub returns-in_err-second-clause-wrong : goal.returns-in_err-second-clause-wrong
+returns-in_err-second-clause-wrong c =
     let words = map string_bytes c.args.words.now in
     let ns = map string_bytes c.numbers.result.0.now in
     let rest = map string_bytes c.numbers.result.1.now in
-    letters_behind_separator c.args.separator.now permutation_words words ns rest (map string_bytes c.in-Some-behind.second.now) c.in-Err.left c.requires
+    let p = err_from_is_err_and c.from_residual.result c.from_residual.ensures.1 in
+    rw (p.1, p.2)
+    (letters_behind_separator c.args.separator.now permutation_words words ns rest (map string_bytes c.in-Some-behind.second.now) _ c.requires
     (some_numbers ns rest words _ _ c.in-Some.ensures.0 c.in-Some.ensures.1 c.numbers.ensures.parts c.numbers.ensures.rest)
-    c.numbers.ensures.parts c.numbers.ensures.numbers c.numbers.ensures.rest c.in-Some-behind.ensures c.in-Err.ensures.wrong
+    c.numbers.ensures.parts c.numbers.ensures.numbers c.numbers.ensures.rest c.in-Some-behind.ensures c.in_err-second.ensures.wrong)
 
-pub returns-in-Ok-clause-some : goal.returns-in-Ok-clause-some
-returns-in-Ok-clause-some c =
+pub returns-clause-some : goal.returns-clause-some
+returns-clause-some c =
     let words = map string_bytes c.args.words.now in
     let ns = map string_bytes c.numbers.result.0.now in
     let l = length-map c.numbers.result.0.now string_bytes in
-    let k = ap length c.in-Ok.ensures.ok.0 in
+    let k = ap length c.in_ok-second.ensures.ok.0 in
     let s = some_numbers ns (map string_bytes c.numbers.result.1.now) words _ _ c.in-Some.ensures.0 c.in-Some.ensures.1 c.numbers.ensures.parts c.numbers.ensures.rest in
-    (omega (arith, l, s), omega (arith, k, c.in-Ok.ensures.ok.1))
+    (omega (arith, l, s), omega (arith, k, c.in_ok-second.ensures.ok.1))

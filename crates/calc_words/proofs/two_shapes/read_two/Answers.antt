@@ -1,4 +1,4 @@
-use Rattle.std.proofs.Common.{◌≡◌, ℕ, ◌+◌, List, length, map, refl}
+use Rattle.std.proofs.Common.{◌+◌, length, map, refl}
 use Rattle.std.specs.Prelude.{string_bytes}
 use Rattle.std.proofs.lemmas.Result.{err_from_is_err_and}
 use Rattle.calc_words.proofs.Commands.{first_faulty, second_faulty, both_fine, second_place}

@@ -1,6 +1,6 @@
 use Rattle.std.proofs.Common.{map, arith}
 use Rattle.tableau_words.proofs.ReadTableaux.{letters_as_shape}
-use Rattle.tableau_words.proofs.pairs.pair_of.Goals as goal
+use Rattle.tableau_words.proofs.pairs.tableaux_of.Goals as goal
 
 pub straight-requires-2-clause-few : goal.straight-requires-2-clause-few
 straight-requires-2-clause-few c =
