@@ -19,7 +19,7 @@ use Rattle.schubert_laws.proofs.FixedLetters.{In_schubert}
 use Rattle.schubert_laws.proofs.Members.{short_cover, short_transition, place_within, cover_inversions}
 use Rattle.schubert_transition.specs.Todo.{weigh}
 use Rattle.schubert_transition.specs.Transitions.{IsShort}
-use Rattle.schubert_transition.proofs.Descents.{transition_inversions}
+use Rattle.schubert_laws.proofs.LowerPermutations.{transition_inversions}
 use Rattle.schubert_transition.proofs.FinalSums.{restrict_pair}
 use Rattle.schubert_transition.proofs.Monomials.{unit, length-unit, pair_transition, pair_variable, schubert_monomials}
 use Rattle.double_schubert.specs.Walk.{ones, share}

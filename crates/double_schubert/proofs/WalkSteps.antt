@@ -14,9 +14,10 @@ use Rattle.sym_model.proofs.WholeTerms.{represents-whole}
 use Rattle.double_schubert_laws.specs.Factors.{acted}
 use Rattle.double_schubert_laws.proofs.ProductSteps.{product_identity, product_start}
 use Rattle.sparse_polys.specs.WholeTables.{over, mass, HaveLabels}
-use Rattle.schubert_transition.specs.Todo.{load}
+use Rattle.schubert_transition.specs.Todo.{load, AreInOrder}
 use Rattle.schubert_transition.specs.Transitions.{weight}
 use Rattle.schubert_transition.proofs.TodoLists.{load_append}
+use Rattle.schubert_transition.proofs.WaitingOrder.{order_rest, order_one}
 use Rattle.schubert_transition.proofs.Weights.{weigh_append}
 use Rattle.double_schubert.specs.Shifts.{IsWithin}
 use Rattle.double_schubert.specs.Walk.{WithList, value_of, growth, share, limit_of, IsWaiting, AreWaiting}
@@ -40,11 +41,12 @@ top_of w other = max (length w) (length other) + inversions w
 abbrev pub share_of : List ℕ → List ℕ → List ℕ → ℕ
 share_of w other = share (length w) (max (length w) (length other) + inversions w + 2)
 
--- what waits and the sum so far are the product
+-- what waits and the sum so far are the product, and no permutation waits twice
 pub record IsUnderWay (w other : List ℕ) (todo : List WithList) (sum : Terms (List ℕ × List ℕ)) : Type 0 where
   pub value : (n : ℕ) (φ : List ℕ → ℤ) → over (λ label. pair (shifted_in label n) φ) sum +ℤ value_of n φ todo ≡ acted n φ w (other, [])
   pub grows : mass sum + growth (share_of w other) todo ≤ limit_of w other
   pub waiting : AreWaiting (length w) (inversions w) (top_of w other) todo
+  pub order : AreInOrder todo
 
 pub start : (w other perm : List ℕ) (factor : Terms (List ℕ × List ℕ)) (before todo : List WithList) (sum : Terms (List ℕ × List ℕ)) → IsOneLine w → perm ≡ w
     → ((φ : List ℕ × List ℕ → ℤ) → over φ factor ≡ φ (other, [])) → mass factor ≤ 1 → HaveLabels (IsWithin (length other) 0) factor
@@ -74,6 +76,7 @@ start w other perm factor before todo sum one_line same one few labels none push
             })
         | inr k ↦ absurd k
       ];
+      order = order_one [] (first ∷ []) first refl refl;
     }))
   where
     first : WithList
@@ -118,8 +121,8 @@ module _ (w other : List ℕ) (todo rest : List WithList) (last : WithList) (sum
   pub next : (todo2 : List WithList) (sum2 : Terms (List ℕ × List ℕ))
       → ((n : ℕ) (φ : List ℕ → ℤ) → over (λ label. pair (shifted_in label n) φ) sum2 +ℤ value_of n φ todo2 ≡ over (λ label. pair (shifted_in label n) φ) sum +ℤ value_of n φ rest +ℤ over (acted n φ last.perm) last.factor)
       → mass sum2 + growth (share_of w other) todo2 ≤ mass sum + growth (share_of w other) rest + mass last.factor * share_of w other last.perm
-      → AreWaiting (length w) (inversions w) (top_of w other) todo2 → IsUnderWay w other todo2 sum2
-  next todo2 sum2 more grows waiting = record { value = λ n φ. more n φ ∙ popped_value n φ; grows = let a = popped_growth in omega arith; waiting = waiting }
+      → AreWaiting (length w) (inversions w) (top_of w other) todo2 → (AreInOrder rest → AreInOrder todo2) → IsUnderWay w other todo2 sum2
+  next todo2 sum2 more grows waiting order = record { value = λ n φ. more n φ ∙ popped_value n φ; grows = let a = popped_growth in omega arith; waiting = waiting; order = order (order_rest todo rest last popped is.order) }
 
 -- where nothing waits any more, the sum is the product
 pub finished : (w other : List ℕ) (todo rest : List WithList) (sum : Terms (List ℕ × List ℕ)) → IsUnderWay w other todo sum → AreWhole sum → todo ≡ rest ++ [] → rest ≡ []

@@ -7,7 +7,7 @@ ghost use Rattle.sym_model.specs.DoubleSchubert.{shifted_in};
 ghost use Rattle.sym_model.specs.Sum.{total, Among};
 ghost use Rattle.double_schubert_laws.specs.Factors.{over_factor, acted};
 ghost use Rattle.sparse_polys.specs.WholeTables.{over, mass, Gains, HaveLabels};
-ghost use Rattle.schubert_transition.specs.Todo.{load, weigh};
+ghost use Rattle.schubert_transition.specs.Todo.{load, weigh, AreInOrder};
 ghost use Rattle.schubert_transition.specs.Transitions.{IsShort, weight};
 ghost use Rattle.double_schubert.specs.Shifts.{IsWithin};
 ghost use Rattle.double_schubert.specs.Walk.{value_of, growth, share, IsWaiting, AreWaiting};
@@ -45,6 +45,7 @@ fn add_waiting(
         → growth share todo.new.items ≤ growth share todo.old.items + mass list.now * share perm) }
     ensures waiting { OnOk result ((n d top : ℕ) → IsWaiting n d top (record { perm = perm; factor = list.now })
         → AreWaiting n d top todo.old.items → AreWaiting n d top todo.new.items) }
+    ensures order { OnOk result (AreInOrder todo.old.items → AreInOrder todo.new.items) }
     ensures load { OnOk result (load todo.new.items ≤ load todo.old.items + weight perm) }
     ensures large { IsErrOf result SumFault.Large → (share : List ℕ → ℕ) → 1 ≤ share perm
         → 2 ^ 127 ≤ growth share todo.old.items + mass list.now * share perm }
@@ -76,6 +77,7 @@ fn add_waiting_times_factor(
     ensures waiting { OnOk result ((n d top letters degree : ℕ) → HaveLabels (IsWithin letters degree) list.now → r ≤ letters
         → IsShort n perm → letters + 1 + inversions perm ≡ top → degree + 1 + inversions perm ≡ d
         → AreWaiting n d top todo.old.items → AreWaiting n d top todo.new.items) }
+    ensures order { OnOk result (AreInOrder todo.old.items → AreInOrder todo.new.items) }
     ensures load { OnOk result (load todo.new.items ≤ load todo.old.items + weight perm) }
     ensures large { IsErrOf result SumFault.Large → (share : List ℕ → ℕ) (letters degree : ℕ)
         → HaveLabels (IsWithin letters degree) list.now → r ≤ letters → 1 ≤ share perm
@@ -101,6 +103,7 @@ fn add_covers(
     ensures waiting { OnOk result ((n d top : ℕ)
         → ((x : List ℕ) → Among x covers.now → IsWaiting n d top (record { perm = x; factor = list.now }))
         → AreWaiting n d top todo.old.items → AreWaiting n d top todo.new.items) }
+    ensures order { OnOk result (AreInOrder todo.old.items → AreInOrder todo.new.items) }
     ensures load { OnOk result (load todo.new.items ≤ load todo.old.items + weigh weight covers.now) }
     ensures large { IsErrOf result SumFault.Large → (share : List ℕ → ℕ)
         → ((x : List ℕ) → Among x covers.now → 1 ≤ share x)
@@ -131,6 +134,7 @@ fn expand(
         ≤ growth (share n base) todo.old.items + mass waiting.now.factor * share n base waiting.now.perm) }
     ensures waiting { OnOk result ((n d top : ℕ) → IsWaiting n d top waiting.now → n + d ≤ top
         → AreWaiting n d top todo.old.items → AreWaiting n d top todo.new.items) }
+    ensures order { OnOk result (AreInOrder todo.old.items → AreInOrder todo.new.items) }
     ensures load { OnOk result (load todo.new.items < load todo.old.items + weight waiting.now.perm) }
     ensures large { IsErrOf result SumFault.Large → (n d top base : ℕ) → IsWaiting n d top waiting.now → n + d ≤ top
         → top + 2 ≤ base → 2 ^ 127 ≤ growth (share n base) todo.old.items
@@ -163,6 +167,7 @@ pub(crate) fn work_off(
         + mass waiting.now.factor * share n base waiting.now.perm) }
     ensures waiting { OnOk result ((n d top : ℕ) → IsWaiting n d top waiting.now → n + d ≤ top
         → AreWaiting n d top todo.old.items → AreWaiting n d top todo.new.items) }
+    ensures order { OnOk result (AreInOrder todo.old.items → AreInOrder todo.new.items) }
     ensures load { OnOk result (load todo.new.items < load todo.old.items + weight waiting.now.perm) }
     ensures large { IsErrOf result SumFault.Large → (n d top base : ℕ) → IsWaiting n d top waiting.now → n + d ≤ top
         → top + 2 ≤ base → 2 ^ 127 ≤ mass sum.old + growth (share n base) todo.old.items

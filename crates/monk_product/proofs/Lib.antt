@@ -1,3 +1,4 @@
+pub mod PendingOrder
 pub mod Masses
 pub mod MassSums
 pub mod Dividing

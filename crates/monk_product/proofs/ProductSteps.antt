@@ -27,9 +27,10 @@ use Rattle.schubert_transition.proofs.Monomials.{schubert_monomials}
 use Rattle.schubert_laws.proofs.FixedLetters.{In_schubert}
 use Rattle.monk_product.specs.declared.pending.Pending.{Pending}
 use Rattle.monk_product.specs.Monk.{mass, AreShort}
-use Rattle.monk_product.specs.Pending.{value_of, growth, steps, IsPending, ArePending}
+use Rattle.monk_product.specs.Pending.{value_of, growth, steps, AreInOrder, IsPending, ArePending}
 use Rattle.schubert_transition.proofs.Weights.{weigh_append}
 use Rattle.monk_product.proofs.EntrySums.{power_positive}
+use Rattle.monk_product.proofs.PendingOrder.{order_rest}
 use native.Mathlib.Nat.{mul-le-mul_left}
 use lib.IntN.{+ℤ_idr, +ℤ_idl}
 
@@ -87,14 +88,15 @@ pub record IsUnderWay (w other : List ℕ) (todo : List Pending) (sum : Terms (L
   pub value : (n : ℕ) (φ : List ℕ → ℤ) → over (λ x. pair (schubert_in x n) φ) sum +ℤ value_of n φ todo ≡ product_value n φ w other
   pub grows : mass sum + growth (base_of w other) todo ≤ limit_of w other
   pub pending : ArePending (length w) (inversions w) (base_of w other) todo
+  pub order : AreInOrder todo
 
 pub start : (w other : List ℕ) (polynomial : Terms (List ℕ)) (todo : List Pending) (sum : Terms (List ℕ)) → sum ≡ [] → AreWhole polynomial → AreTerms (length w) (inversions w) polynomial
     → ((n : ℕ) → Represents (λ e. x_to_in e n) polynomial (schubert_in w n) 1) → 1 ≤ base_of w other
     → ((n : ℕ) (φ : List ℕ → ℤ) → value_of n φ todo ≡ over (acted n φ other) polynomial)
     → ((n d base : ℕ) → AreTerms n d polynomial → 1 ≤ base → growth base todo ≤ mass polynomial * base ^ d)
     → ((n d most : ℕ) → AreTerms n d polynomial → length other + d ≤ most → ArePending n d most todo)
-    → IsUnderWay w other todo sum
-start w other polynomial todo sum empty whole is represents some value grows pending = record {
+    → AreInOrder todo → IsUnderWay w other todo sum
+start w other polynomial todo sum empty whole is represents some value grows pending order = record {
   value = λ n φ.
       ap (λ (s : Terms (List ℕ)). over (λ x. pair (schubert_in x n) φ) s +ℤ value_of n φ todo) empty
       ∙ +ℤ_idl (value_of n φ todo) ∙ value n φ
@@ -105,6 +107,7 @@ start w other polynomial todo sum empty whole is represents some value grows pen
       let c = ap (λ k. k * base_of w other ^ inversions w) (mass_is w (inversions w) polynomial is (represents_pairs (length w) polynomial (schubert_in w (length w)) whole (represents (length w)))) in
       omega arith;
   pending = pending (length w) (inversions w) (base_of w other) is (omega arith);
+  order = order;
 }
 
 module _ (w other : List ℕ) (todo rest : List Pending) (last : Pending) (sum : Terms (List ℕ)) (is : IsUnderWay w other todo sum) (popped : todo ≡ rest ++ last ∷ []) where
@@ -138,8 +141,8 @@ module _ (w other : List ℕ) (todo rest : List Pending) (last : Pending) (sum :
   pub next : (todo2 : List Pending) (sum2 : Terms (List ℕ))
       → ((n : ℕ) (φ : List ℕ → ℤ) → over (λ x. pair (schubert_in x n) φ) sum2 +ℤ value_of n φ todo2 ≡ over (λ x. pair (schubert_in x n) φ) sum +ℤ value_of n φ rest +ℤ over (λ x. acted n φ x last.monomial) last.list)
       → mass sum2 + growth (base_of w other) todo2 ≤ mass sum + growth (base_of w other) rest + mass last.list * base_of w other ^ size last.monomial
-      → ArePending (length w) (inversions w) (base_of w other) todo2 → IsUnderWay w other todo2 sum2
-  next todo2 sum2 more grows pending = record { value = λ n φ. more n φ ∙ popped_value n φ; grows = let a = popped_growth in omega arith; pending = pending }
+      → ArePending (length w) (inversions w) (base_of w other) todo2 → (AreInOrder rest → AreInOrder todo2) → IsUnderWay w other todo2 sum2
+  next todo2 sum2 more grows pending order = record { value = λ n φ. more n φ ∙ popped_value n φ; grows = let a = popped_growth in omega arith; pending = pending; order = order (order_rest todo rest last popped is.order) }
 
 -- ---- the end
 

@@ -1,7 +1,12 @@
 -- Monomials that are still to act on lists of Schubert polynomials.
-use Rattle.std.specs.Prelude.{◌≡◌, ℕ, ◌+◌, ◌*◌, ◌^◌, ◌≤◌, ℤ, List, length, slice_index_or}
+use Rattle.std.specs.Prelude.{◌≡◌, ℕ, ◌+◌, ◌*◌, ◌^◌, ◌≤◌, ℤ, List, length, map, slice_index_or}
+use Rattle.std.specs.List.Sorted.{IsPartitionPoint, IsStrictlySortedBy}
+use Rattle.std.specs.declared.cmp.Ordering.{Ordering}
+use Rattle.std.specs.declared.cmp.Ordering.TheVariants.{Less, Greater}
+use Rattle.std.specs.Ordering.{nat_cmp, ordering_then}
 use Rattle.sym_model.specs.Sum.{total, Among}
 use Rattle.sym_model.specs.Partition.{size}
+use Rattle.sym_model.specs.PrintedOrder.{printed_order}
 use Rattle.schubert_transition.specs.TermLists.{over}
 use Rattle.schubert_transition.specs.Transitions.{acted}
 use Rattle.schubert_transition.specs.Todo.{weigh}
@@ -32,3 +37,20 @@ ArePending n d most todo = (p : Pending) → Among p todo → IsPending n d most
 -- the entry at an index, counted from 0, has this monomial
 abbrev pub HasMonomial : List ℕ → List Pending → ℕ → Type 0
 HasMonomial monomial todo at = (p : Pending) → p ≡ slice_index_or todo at p → p.monomial ≡ monomial
+
+-- the order in which monomials wait: by the number of variables and then by falling print order
+abbrev pub pending_order : List ℕ → List ℕ → Ordering
+pending_order v w = ordering_then (nat_cmp (length v) (length w)) (printed_order w v)
+
+-- the monomials that wait
+abbrev pub monomials : List Pending → List (List ℕ)
+monomials todo = map (λ (p : Pending). p.monomial) todo
+
+-- each monomial comes before those after it in this order, so that none stands twice
+abbrev pub AreInOrder : List Pending → Type 0
+AreInOrder todo = IsStrictlySortedBy pending_order (monomials todo)
+
+-- the monomials in front of the place come before this one, and those from the place on come after it
+abbrev pub IsGapFor : List ℕ → List Pending → ℕ → Type 0
+IsGapFor monomial todo at =
+    IsPartitionPoint (λ (p : Pending). pending_order p.monomial monomial ≡ Less) (λ (p : Pending). pending_order p.monomial monomial ≡ Greater) todo at

@@ -1,7 +1,8 @@
 //! What is still to do: monomials that act on lists.
-ghost use Rattle.std.specs.Prelude.{◌≡◌, ℕ, ◌+◌, ◌<◌, ◌≤◌, ℤ, List, length, MatchResult, IfOk, OnOk};
+ghost use Rattle.std.specs.Prelude.{◌≡◌, ℕ, ◌+◌, ◌<◌, ◌≤◌, ℤ, List, length, MatchResult, IfOk, IfErr, OnOk};
 ghost use Rattle.sym_model.specs.Partition.{size};
-ghost use Rattle.monk_product.specs.Pending.{value_of, growth, steps, ArePending, HasMonomial};
+ghost use Rattle.sym_model.specs.Sum.{Among};
+ghost use Rattle.monk_product.specs.Pending.{value_of, growth, steps, pending_order, monomials, AreInOrder, ArePending, HasMonomial, IsGapFor};
 
 use crate::monk::Sum;
 use calc_base::NoMemory;
@@ -17,7 +18,9 @@ pub(crate) struct Pending {
 }
 
 /// The order in which monomials are worked off from the greatest: by variables, then by falling print order.
-fn compare(first: &Monomial, second: &Monomial) -> Ordering {
+fn compare(first: &Monomial, second: &Monomial) -> Ordering
+    ensures { result ≡ pending_order first.now second.now }
+{
     first
         .exponents()
         .len()
@@ -25,21 +28,20 @@ fn compare(first: &Monomial, second: &Monomial) -> Ordering {
         .then(second.cmp_printed(first))
 }
 
-/// The place of a monomial in the list, or the place where it is to be put in.
+/// The place of a monomial in the list, or the place where it is to be put in. It is an `Err` exactly where the monomial
+/// is not there, if the list is in order.
 fn place_of(todo: &[Pending], monomial: &Monomial) -> Result<usize, usize>
-    ensures { MatchResult result
+    ensures place { MatchResult result
         (λ at. (at < length todo.now) × HasMonomial monomial.now todo.now at)
         (λ at. at ≤ length todo.now) }
+    ensures absent { IfErr result (λ _. AreInOrder todo.now → ¬ Among monomial.now (monomials todo.now)) }
+    ensures gap { IfErr result (λ at. AreInOrder todo.now → IsGapFor monomial.now todo.now at) }
 {
-    let place = todo.binary_search_by(|pending| compare(&pending.monomial, monomial));
-    match place {
-        Ok(at) if todo[at].monomial == *monomial => Ok(at),
-        Ok(at) => Err(at),
-        Err(at) => Err(at),
-    }
+    todo.binary_search_by(|pending| compare(&pending.monomial, monomial))
 }
 
-/// The index of a monomial in the list, which is put in with an empty list where it is not there.
+/// The index of a monomial in the list, which is put in with an empty list where it is not there. A list in order, in which
+/// no monomial stands twice, stays so.
 pub(crate) fn index_of(
     alloc: Global,
     todo: &mut Vec<Pending>,
@@ -50,6 +52,7 @@ pub(crate) fn index_of(
     ensures growth { OnOk result ((base : ℕ) → growth base todo.new.items ≡ growth base todo.old.items) }
     ensures pending { OnOk result ((n d most : ℕ) → length monomial ≤ n → size monomial ≤ d
         → ArePending n d most todo.old.items → ArePending n d most todo.new.items) }
+    ensures order { OnOk result (AreInOrder todo.old.items → AreInOrder todo.new.items) }
     ensures steps { OnOk result (steps todo.new.items ≤ steps todo.old.items + size monomial + 1) }
 {
     match place_of(todo.as_slice(), &monomial) {

@@ -16,7 +16,7 @@ ghost use Rattle.sparse_polys.specs.Raised.{raised};
 ghost use Rattle.schubert_transition.specs.TermLists.{over, AreTerms};
 ghost use Rattle.schubert_transition.specs.Transitions.{acted};
 ghost use Rattle.monk_product.specs.Monk.{mass, AreShort};
-ghost use Rattle.monk_product.specs.Pending.{value_of, growth, steps, IsPending, ArePending};
+ghost use Rattle.monk_product.specs.Pending.{value_of, growth, steps, AreInOrder, IsPending, ArePending};
 
 use crate::monk::{Sum, add_list, add_single, add_times_var, is_whole};
 use crate::pending::{Pending, index_of};
@@ -74,6 +74,7 @@ fn pending_terms(
         → growth base todo.items ≤ mass polynomial.now * base ^ d) }
     ensures pending { IfOk result (λ todo. (n d most : ℕ) → AreTerms n d polynomial.now → length other.now + d ≤ most
         → ArePending n d most todo.items) }
+    ensures order { IfOk result (λ todo. AreInOrder todo.items) }
     ensures large { IsErrOf result SumFault.Large → (n d base : ℕ) → AreTerms n d polynomial.now → 1 ≤ base
         → 2 ^ 127 ≤ mass polynomial.now * base ^ d }
 {
@@ -98,6 +99,7 @@ fn add_pending(
         ≤ growth base todo.old.items + nat_abs c * base ^ size monomial.now) }
     ensures pending { OnOk result ((n d most : ℕ) → length monomial.now ≤ n → size monomial.now ≤ d
         → length other.now + d ≤ most → ArePending n d most todo.old.items → ArePending n d most todo.new.items) }
+    ensures order { OnOk result (AreInOrder todo.old.items → AreInOrder todo.new.items) }
     ensures large { IsErrOf result SumFault.Large → (base : ℕ) → 1 ≤ base
         → 2 ^ 127 ≤ growth base todo.old.items + nat_abs c * base ^ size monomial.now }
 {
@@ -129,6 +131,7 @@ fn lower(alloc: Global, todo: &mut Vec<Pending>, pending: &Pending) -> Result<()
         → growth base todo.new.items ≤ growth base todo.old.items + mass pending.now.list * base ^ size pending.now.monomial) }
     ensures pending { OnOk result ((n d most : ℕ) → IsPending n d most pending.now → n + d ≤ most
         → ArePending n d most todo.old.items → ArePending n d most todo.new.items) }
+    ensures order { OnOk result (AreInOrder todo.old.items → AreInOrder todo.new.items) }
     ensures steps { OnOk result (steps todo.new.items < steps todo.old.items + size pending.now.monomial + 1) }
     ensures large { IsErrOf result SumFault.Large → (n d most base : ℕ) → IsPending n d most pending.now → n ≤ base → most ≤ base + 1
         → n + d ≤ most → 1 ≤ base
@@ -160,6 +163,7 @@ fn work_off(
         ≤ mass sum.old + growth base todo.old.items + mass pending.now.list * base ^ size pending.now.monomial) }
     ensures pending { OnOk result ((n d most : ℕ) → IsPending n d most pending.now → n + d ≤ most
         → ArePending n d most todo.old.items → ArePending n d most todo.new.items) }
+    ensures order { OnOk result (AreInOrder todo.old.items → AreInOrder todo.new.items) }
     ensures steps { OnOk result (steps todo.new.items < steps todo.old.items + size pending.now.monomial + 1) }
     ensures large { IsErrOf result SumFault.Large → (n d most base : ℕ) → IsPending n d most pending.now → n ≤ base → most ≤ base + 1
         → n + d ≤ most → 1 ≤ base → 2 ^ 127 ≤ mass sum.old + growth base todo.old.items

@@ -1,11 +1,13 @@
 -- What is kept stays kept, by what the store does with its entries.
-use Rattle.std.proofs.Common.{Bor, ◌≡◌, ◌≤◌, ◌⊎◌, ℕ, Bool, List, length, Option, Some, None, inl, inr, sym, subst, arith}
+use Rattle.std.proofs.Common.{Bor, ◌≡◌, ◌-◌, ◌≤◌, ◌⊎◌, ℕ, Bool, List, ◌∷◌, length, take, Option, Some, None, inl, inr, refl, sym, ap, ◌∙◌, subst, arith, option_map}
 use Rattle.std.specs.Prelude.{Contains, nat_eq, IfSome, option_copied, Result, Ok, Err, IfOk, OnOk, OnErr}
 use Rattle.std.specs.Cmp.Lexicographic.{pointwise}
-use Rattle.std.specs.Map.{lookup}
+use Rattle.std.specs.Map.{lookup, lookup_entry, remove_entry}
+use Rattle.std.specs.Option.{option_map_or}
 use Rattle.std.proofs.lemmas.Cmp.{nat_list_eq_equiv}
 use Rattle.lru.specs.LruCache.{LruCache, lru_cache, promoted, put_entries}
 use Rattle.lru.proofs.CallerLemmas.{Contains-lookup, Contains-promoted, Contains-put_entries, IsPut}
+use Rattle.lru.proofs.Pairs.{lookup-lookup_entry}
 use Rattle.sparse_polys.specs.Combination.{HasSameCoefficients, IsCombination}
 use Rattle.sparse_polys.specs.Labels.{same_partition}
 use Rattle.sparse_polys.proofs.Totals.{once, carried}
@@ -15,7 +17,7 @@ use Rattle.sym_model.specs.Expansion.{Terms}
 use Rattle.sym_model.specs.Sum.{Within}
 use Rattle.sym_model.proofs.Sums.{length_within}
 use Rattle.sym_model.specs.Schubert.{schubert_in}
-use Rattle.schubert_transition.specs.Kept.{IsSchubertOf, AreKept}
+use Rattle.schubert_transition.specs.Kept.{IsSchubertOf, AreKept, Store, kept_for, ComesFirst}
 
 -- a test for the permutation
 abbrev is : List ℕ → List ℕ → Bool
@@ -86,3 +88,22 @@ pub put_if : {T E : Type 0} (c new : LruCache (List ℕ) (Terms (List ℕ))) (w 
     → OnOk result (new ≡ lru_cache (put_entries (pointwise nat_eq) c w terms) cap) → OnErr result (new ≡ c) → AreKept new.entries
 put_if c new w terms cap (Ok x) kept h few well ill = subst (λ (n : LruCache (List ℕ) (Terms (List ℕ))). AreKept n.entries) (sym well) (put_kept c w terms kept h few)
 put_if c new w terms cap (Err e) kept h few well ill = subst (λ (n : LruCache (List ℕ) (Terms (List ℕ))). AreKept n.entries) (sym ill) kept
+
+-- what was put and was not kept before comes first
+pub comes_first : (w : List ℕ) (old new : Store) → kept_for w old ≡ None
+    → (new ≡ old) ⊎ ((polynomial : Terms (List ℕ)) × (new ≡ lru_cache (put_entries (pointwise nat_eq) old w polynomial) old.cap)) → (new ≡ old) ⊎ ComesFirst w old new
+comes_first w old new none (inl same) = inl same
+comes_first w old new none (inr (terms, put)) =
+    inr (record {
+      absent = none;
+      polynomial = terms;
+      entries =
+          put ∙ ap (λ (o : Option (List ℕ × Terms (List ℕ))). lru_cache (option_map_or (λ e. (e.0, terms) ∷ remove_entry (is w) old.entries) o ((w, terms) ∷ take (old.cap - 1) old.entries)) old.cap) no_entry;
+    })
+  where
+    no_value : (o : Option (List ℕ × Terms (List ℕ))) → option_map (λ e. e.1) o ≡ None → o ≡ None
+    no_value None h = refl
+    no_value (Some e) h = cc
+
+    no_entry : lookup_entry (is w) old.entries ≡ None
+    no_entry = no_value (lookup_entry (is w) old.entries) (lookup-lookup_entry (is w) old.entries ∙ none)

@@ -5,6 +5,8 @@ pub mod TermSums
 pub mod SumSteps
 pub mod Descents
 pub mod TodoLists
+pub mod SortedKeys
+pub mod WaitingOrder
 pub mod WaitingSums
 pub mod CoverSums
 pub mod CoverSteps

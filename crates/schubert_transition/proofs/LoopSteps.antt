@@ -13,17 +13,19 @@ use Rattle.sym_model.specs.LargeAnswer.{HasPastCoefficient}
 use Rattle.sym_model.proofs.Sums.{total_append, Among-append_left, Among-append_right}
 use Rattle.schubert_transition.specs.TermLists.{over, only, AreTerms}
 use Rattle.schubert_transition.specs.Transitions.{acted, shown, weight}
-use Rattle.schubert_transition.specs.Todo.{WithPolynomial, value_of, load, IsWaiting, AreWaiting, HasLargeValue}
+use Rattle.schubert_transition.specs.Todo.{WithPolynomial, value_of, load, AreInOrder, IsWaiting, AreWaiting, HasLargeValue}
 use Rattle.schubert_transition.proofs.Acted.{acted_start}
 use Rattle.schubert_transition.proofs.TodoLists.{load_append}
 use Rattle.schubert_transition.proofs.FinalSums.{past_from, few_inversions}
+use Rattle.schubert_transition.proofs.WaitingOrder.{order_rest, order_one}
 use lib.IntN.{+ℤ_idr, +ℤ_idl}
 
--- the state of the loop: what waits and the sum are the Schubert polynomial
+-- the state of the loop: what waits and the sum are the Schubert polynomial, and no permutation waits twice
 pub record IsUnderWay (w : List ℕ) (todo : List WithPolynomial) (sum : Terms (List ℕ)) : Type 0 where
   pub value : (n : ℕ) (φ : List ℕ → ℤ) → over (shown n φ) sum +ℤ value_of n φ todo ≡ pair (schubert_in w n) φ
   pub waiting : AreWaiting (length w) (inversions w) todo
   pub terms : AreTerms (length w) (inversions w) sum
+  pub order : AreInOrder todo
 
 pub start : (w perm : List ℕ) (factor : Terms (List ℕ)) (before todo : List WithPolynomial) (sum : Terms (List ℕ)) → IsOneLine w → perm ≡ w
     → ((φ : List ℕ → ℤ) → over φ factor ≡ φ []) → ((n d : ℕ) → AreTerms n d factor) → before ≡ [] → todo ≡ before ++ (record { perm = perm; factor = factor }) ∷ [] → sum ≡ []
@@ -44,6 +46,7 @@ start w perm factor before todo sum one_line same one bounded none pushed empty 
         | inr k ↦ absurd k
       ];
       terms = λ t m. absurd m;
+      order = order_one [] (first ∷ []) first refl refl;
     }))
   where
     first : WithPolynomial
@@ -80,8 +83,8 @@ module _ (w : List ℕ) (todo rest : List WithPolynomial) (last : WithPolynomial
 
   pub next : (todo2 : List WithPolynomial) (sum2 : Terms (List ℕ))
       → ((n : ℕ) (φ : List ℕ → ℤ) → over (shown n φ) sum2 +ℤ value_of n φ todo2 ≡ over (shown n φ) sum +ℤ value_of n φ rest +ℤ over (acted n φ last.perm) last.factor)
-      → AreWaiting (length w) (inversions w) todo2 → AreTerms (length w) (inversions w) sum2 → IsUnderWay w todo2 sum2
-  next todo2 sum2 more waiting terms = record { value = λ n φ. more n φ ∙ popped_value n φ; waiting = waiting; terms = terms }
+      → AreWaiting (length w) (inversions w) todo2 → AreTerms (length w) (inversions w) sum2 → (AreInOrder rest → AreInOrder todo2) → IsUnderWay w todo2 sum2
+  next todo2 sum2 more waiting terms order = record { value = λ n φ. more n φ ∙ popped_value n φ; waiting = waiting; terms = terms; order = order (order_rest todo rest last popped is.order) }
 
 -- where nothing waits any more, the sum is all
 pub finished : (w : List ℕ) (todo rest : List WithPolynomial) (sum : Terms (List ℕ)) → IsUnderWay w todo sum → todo ≡ rest ++ [] → rest ≡ []

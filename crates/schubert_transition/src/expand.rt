@@ -7,7 +7,7 @@ ghost use Rattle.sym_model.specs.PlaceOrders.{inversions};
 ghost use Rattle.sym_model.specs.Sum.{total, Among};
 ghost use Rattle.sparse_polys.specs.Raised.{raised};
 ghost use Rattle.schubert_transition.specs.TermLists.{over, AreTerms};
-ghost use Rattle.schubert_transition.specs.Todo.{value_of, load, IsWaiting, AreWaiting, HasLargeValue};
+ghost use Rattle.schubert_transition.specs.Todo.{value_of, load, AreInOrder, IsWaiting, AreWaiting, HasLargeValue};
 ghost use Rattle.schubert_transition.specs.Transitions.{IsShort, acted, weight};
 
 use crate::sums::{add_all, add_times_var};
@@ -29,6 +29,7 @@ fn add_waiting(
         → value_of n φ todo.new.items ≡ value_of n φ todo.old.items +ℤ over (acted n φ perm) terms.now) }
     ensures waiting { OnOk result ((n d : ℕ) → IsShort n perm → inversions perm ≤ d → AreTerms n (d - inversions perm) terms.now
         → AreWaiting n d todo.old.items → AreWaiting n d todo.new.items) }
+    ensures order { OnOk result (AreInOrder todo.old.items → AreInOrder todo.new.items) }
     ensures load { OnOk result (load todo.new.items ≤ load todo.old.items + weight perm) }
     ensures large { IsErrOf result SumFault.Large → (n d : ℕ) → IsShort n perm → inversions perm ≤ d
         → AreTerms n (d - inversions perm) terms.now → AreWaiting n d todo.old.items
@@ -54,6 +55,7 @@ fn add_waiting_times_var(
         → value_of n φ todo.new.items ≡ value_of n φ todo.old.items +ℤ over (λ e. acted n φ perm (raised r e)) terms.now) }
     ensures waiting { OnOk result ((n d : ℕ) → IsShort n perm → r ≤ n → inversions perm < d
         → AreTerms n (d - inversions perm - 1) terms.now → AreWaiting n d todo.old.items → AreWaiting n d todo.new.items) }
+    ensures order { OnOk result (AreInOrder todo.old.items → AreInOrder todo.new.items) }
     ensures load { OnOk result (load todo.new.items ≤ load todo.old.items + weight perm) }
     ensures large { IsErrOf result SumFault.Large → (n d : ℕ) → IsShort n perm → r ≤ n → inversions perm < d
         → AreTerms n (d - inversions perm - 1) terms.now → AreWaiting n d todo.old.items
@@ -78,6 +80,7 @@ fn add_covers(
         ≡ value_of n φ todo.old.items +ℤ total (λ x. over (acted n φ x) terms.now) (covers_down r lower.now)) }
     ensures waiting { OnOk result ((n d : ℕ) → IsShort n lower.now → r ≤ n → inversions lower.now < d
         → AreTerms n (d - inversions lower.now - 1) terms.now → AreWaiting n d todo.old.items → AreWaiting n d todo.new.items) }
+    ensures order { OnOk result (AreInOrder todo.old.items → AreInOrder todo.new.items) }
     ensures load { OnOk result ((most : ℕ) → ((x : List ℕ) → Among x (covers_down r lower.now) → weight x ≤ most)
         → load todo.new.items ≤ load todo.old.items + (r - 1) * most) }
     ensures large { IsErrOf result SumFault.Large → (n d : ℕ) → IsShort n lower.now → r ≤ n → inversions lower.now < d
@@ -110,6 +113,7 @@ pub(crate) fn expand(
         ≡ value_of n φ todo.old.items +ℤ over (acted n φ waiting.now.perm) waiting.now.factor) }
     ensures waiting { OnOk result ((n d : ℕ) → IsWaiting n d waiting.now → AreWaiting n d todo.old.items
         → AreWaiting n d todo.new.items) }
+    ensures order { OnOk result (AreInOrder todo.old.items → AreInOrder todo.new.items) }
     ensures load { OnOk result (load todo.new.items < load todo.old.items + weight waiting.now.perm) }
     ensures large { IsErrOf result SumFault.Large → (n d : ℕ) → IsWaiting n d waiting.now → AreWaiting n d todo.old.items
         → HasLargeValue (λ φ. value_of n φ todo.old.items +ℤ over (acted n φ waiting.now.perm) waiting.now.factor) }

@@ -1,14 +1,15 @@
 //! A bounded store of Schubert polynomials.
-ghost use Rattle.std.specs.Prelude.{◌≡◌, ◌≤◌, ◌^◌, ℕ, [], length, nat_eq, option_copied, List, IsSome, IfOk, OnOk, IfSome, IsErrOf};
+ghost use Rattle.std.specs.Prelude.{◌≡◌, ◌⊎◌, ◌<◌, ◌≤◌, ◌^◌, ℕ, [], length, nat_eq, option_copied, List, IsSome, IfOk, OnOk, OnErr, IfSome, MatchOption, IsErrOf};
 ghost use Rattle.std.specs.Cmp.Lexicographic.{pointwise};
 ghost use Rattle.std.specs.Map.{lookup};
 ghost use Rattle.sym_model.specs.Answer.{answer};
 ghost use Rattle.sym_model.specs.Command as commands;
+ghost use Rattle.sym_model.specs.Expansion.{Terms as TermList};
 ghost use Rattle.sym_model.specs.Kind.{polynomial};
 ghost use Rattle.sym_model.specs.LargeAnswer.{HasPastCoefficient};
 ghost use Rattle.sym_model.specs.Target.{Meets};
-ghost use Rattle.lru.specs.LruCache.{lru_cache};
-ghost use Rattle.schubert_transition.specs.Kept.{IsSchubertOf, IsSchubertStore};
+ghost use Rattle.lru.specs.LruCache.{lru_cache, promoted, put_entries};
+ghost use Rattle.schubert_transition.specs.Kept.{ComesFirst, GoesFirst, IsSchubertOf, IsSchubertStore, kept_for};
 
 use crate::schubert;
 use calc_base::{NoMemory, SumFault};
@@ -57,16 +58,21 @@ impl Memo {
         Ok(Memo { cache, alloc })
     }
 
-    /// The Schubert polynomial of a permutation. One with at most 4,096 terms is kept, but where there is no memory for that.
+    /// The Schubert polynomial of a permutation. One that is kept goes first. Another one with at most 4,096 terms is put
+    /// first, and the last of a full store goes; where there is no memory for that, or it has more terms, the store stays as it
+    /// is.
     ///
-    /// It is refused as `Large` exactly where a coefficient is past 2^127 - 1. Where it is refused, the store may keep other
-    /// polynomials than before, each of them that of its permutation.
+    /// It is refused as `Large` exactly where a coefficient is past 2^127 - 1. Where it is refused, the store stays as it is.
     pub fn schubert(&mut self, w: &Perm) -> Result<Poly<Int>, SumFault>
         ensures is { IfOk result (IsSchubertOf w.now) }
         ensures large { IsErrOf result SumFault.Large → HasPastCoefficient (commands.schubert w.now) }
         ensures fits { OnOk result (HasPastCoefficient (commands.schubert w.now) → ⊥) }
         ensures kept { IsSchubertStore self.new }
         ensures capacity { self.new.cap ≡ self.old.cap }
+        ensures found { IsSome (kept_for w.now self.old) → OnOk result (GoesFirst w.now self.old self.new) }
+        ensures made { kept_for w.now self.old ≡ None → (self.new ≡ self.old) ⊎ ComesFirst w.now self.old self.new }
+        ensures long { IfOk result (λ terms. kept_for w.now self.old ≡ None → 4096 < length terms → self.new ≡ self.old) }
+        ensures refused { OnErr result (self.new ≡ self.old) }
     {
         match self.copy_of(w) {
             Ok(Some(terms)) => {
@@ -96,6 +102,9 @@ impl Memo {
         ensures fits { OnOk result (HasPastCoefficient (commands.schubert w.now) → ⊥) }
         ensures kept { IsSchubertStore self.new }
         ensures capacity { self.new.cap ≡ self.old.cap }
+        ensures found { IsSome (kept_for w.now self.old) → OnOk result (GoesFirst w.now self.old self.new) }
+        ensures made { kept_for w.now self.old ≡ None → (self.new ≡ self.old) ⊎ ComesFirst w.now self.old self.new }
+        ensures large_leaves { IsErrOf result SumFault.Large → self.new ≡ self.old }
     {
         let terms = self.schubert(w)?;
         // This tells the proof that no label stands twice in it.
@@ -109,6 +118,7 @@ impl Memo {
     /// A copy of the polynomial that is kept for a permutation, where one is.
     fn copy_of(&self, w: &Perm) -> Result<Option<Poly<Int>>, NoMemory>
         ensures is { IfOk result (λ kept. IfSome kept (IsSchubertOf w.now)) }
+        ensures found { IfOk result (λ kept. MatchOption kept (kept_for w.now self.now ≡ None) (λ _. IsSome (kept_for w.now self.now))) }
         ensures kept { IsSchubertStore self.now }
     {
         match self.kept(w) {
@@ -121,6 +131,7 @@ impl Memo {
     fn promote(&mut self, w: &Perm)
         ensures kept { IsSchubertStore self.new }
         ensures capacity { self.new.cap ≡ self.old.cap }
+        ensures first { self.new ≡ lru_cache (promoted (pointwise nat_eq w.now) self.old.entries) self.old.cap }
     {
         self.cache.promote(w);
         // This tells the proof that no more are kept than may be.
@@ -134,6 +145,10 @@ impl Memo {
         ensures fits { OnOk result (HasPastCoefficient (commands.schubert w.now) → ⊥) }
         ensures kept { IsSchubertStore self.new }
         ensures capacity { self.new.cap ≡ self.old.cap }
+        ensures put { (self.new ≡ self.old) ⊎ ((polynomial : TermList (List ℕ))
+            × (self.new ≡ lru_cache (put_entries (pointwise nat_eq) self.old w.now polynomial) self.old.cap)) }
+        ensures long { IfOk result (λ terms. 4096 < length terms → self.new ≡ self.old) }
+        ensures refused { OnErr result (self.new ≡ self.old) }
     {
         match self.fresh(w) {
             Ok(terms) => {
@@ -162,6 +177,8 @@ impl Memo {
         requires few { length terms.now ≤ 4096 }
         ensures kept { IsSchubertStore self.new }
         ensures capacity { self.new.cap ≡ self.old.cap }
+        ensures put { (self.new ≡ self.old) ⊎ ((polynomial : TermList (List ℕ))
+            × (self.new ≡ lru_cache (put_entries (pointwise nat_eq) self.old w.now polynomial) self.old.cap)) }
     {
         if let Ok(perm) = w.copy() {
             if let Ok(copy) = copy(terms) {
@@ -188,6 +205,8 @@ fn put(cache: &mut LruCache<Perm, Poly<Int>>, w: Perm, terms: Poly<Int>)
     requires few { length terms ≤ 4096 }
     ensures kept { IsSchubertStore cache.new }
     ensures capacity { cache.new.cap ≡ cache.old.cap }
+    ensures put { (cache.new ≡ cache.old)
+        ⊎ (cache.new ≡ lru_cache (put_entries (pointwise nat_eq) cache.old w terms) cache.old.cap) }
 {
     let _ = cache.put(w, terms);
     // This tells the proof that no more are kept than may be.

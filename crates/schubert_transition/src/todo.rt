@@ -1,8 +1,9 @@
 //! What is still to do: permutations that wait for the transition rule.
-ghost use Rattle.std.specs.Prelude.{◌≡◌, ◌+◌, ◌<◌, ◌≤◌, ℕ, ℤ, List, length, MatchResult, IfOk, OnOk};
+ghost use Rattle.std.specs.Prelude.{◌≡◌, ◌+◌, ◌<◌, ◌≤◌, ℕ, ℤ, List, length, MatchResult, IfOk, IfErr, OnOk};
 ghost use Rattle.sym_model.specs.PlaceOrders.{inversions};
+ghost use Rattle.sym_model.specs.Sum.{Among};
 ghost use Rattle.schubert_transition.specs.Transitions.{IsShort, weight};
-ghost use Rattle.schubert_transition.specs.Todo.{value_of, load, AreWaiting, HasPermutation, MayGain};
+ghost use Rattle.schubert_transition.specs.Todo.{value_of, load, waiting_order, permutations, AreInOrder, AreWaiting, HasPermutation, IsGapFor, MayGain};
 
 use calc_base::NoMemory;
 use coeff_rings::Int;
@@ -21,28 +22,29 @@ pub struct Waiting<F> {
 }
 
 /// An order that the transition rule lowers: by inversions and then by falling order of the letters.
-fn compare(first: &Perm, second: &Perm) -> Ordering {
+fn compare(first: &Perm, second: &Perm) -> Ordering
+    ensures { result ≡ waiting_order first.now second.now }
+{
     first
         .inversions()
         .cmp(&second.inversions())
         .then(second.letters().cmp(first.letters()))
 }
 
-/// The place of a permutation in the list, or the place where it is to be put in.
+/// The place of a permutation in the list, or the place where it is to be put in. It is an `Err` exactly where the
+/// permutation is not there, if the list is in order.
 fn place_of<F>(todo: &[Waiting<F>], perm: &Perm) -> Result<usize, usize>
-    ensures { MatchResult result
+    ensures place { MatchResult result
         (λ at. (at < length todo.now) × HasPermutation perm.now todo.now at)
         (λ at. at ≤ length todo.now) }
+    ensures absent { IfErr result (λ _. AreInOrder todo.now → ¬ Among perm.now (permutations todo.now)) }
+    ensures gap { IfErr result (λ at. AreInOrder todo.now → IsGapFor perm.now todo.now at) }
 {
-    let place = todo.binary_search_by(|waiting| compare(&waiting.perm, perm));
-    match place {
-        Ok(at) if todo[at].perm == *perm => Ok(at),
-        Ok(at) => Err(at),
-        Err(at) => Err(at),
-    }
+    todo.binary_search_by(|waiting| compare(&waiting.perm, perm))
 }
 
-/// The index of a permutation in the list, which is put in with the factor where it is not there.
+/// The index of a permutation in the list, which is put in with the factor where it is not there. A list in order, in
+/// which no permutation stands twice, stays so.
 pub fn entry_at<F: Drop>(
     todo: &mut Vec<Waiting<F>>,
     perm: Perm,
@@ -50,6 +52,7 @@ pub fn entry_at<F: Drop>(
 ) -> Result<usize, NoMemory>
     ensures found { IfOk result (λ at. (at < length todo.new.items) × HasPermutation perm todo.new.items at) }
     ensures list { OnOk result (MayGain todo.old.items (record { perm = perm; factor = factor }) todo.new.items) }
+    ensures order { OnOk result (AreInOrder todo.old.items → AreInOrder todo.new.items) }
 {
     match place_of(todo.as_slice(), &perm) {
         Ok(at) => Ok(at),
@@ -70,6 +73,7 @@ pub(crate) fn index_of(
     ensures value { OnOk result ((n : ℕ) (φ : List ℕ → ℤ) → value_of n φ todo.new.items ≡ value_of n φ todo.old.items) }
     ensures waiting { OnOk result ((n d : ℕ) → IsShort n perm → inversions perm ≤ d
         → AreWaiting n d todo.old.items → AreWaiting n d todo.new.items) }
+    ensures order { OnOk result (AreInOrder todo.old.items → AreInOrder todo.new.items) }
     ensures load { OnOk result (load todo.new.items ≤ load todo.old.items + weight perm) }
 {
     let none = Lin::new(alloc);

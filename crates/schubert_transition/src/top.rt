@@ -12,7 +12,7 @@ ghost use Rattle.sym_model.specs.Schubert.{schubert_in};
 ghost use Rattle.sym_model.specs.Sum.{Among};
 ghost use Rattle.sym_model.specs.Target.{Meets};
 ghost use Rattle.schubert_transition.specs.TermLists.{over, AreTerms};
-ghost use Rattle.schubert_transition.specs.Todo.{value_of, load, IsWaiting, AreWaiting, HasLargeValue};
+ghost use Rattle.schubert_transition.specs.Todo.{value_of, load, AreInOrder, IsWaiting, AreWaiting, HasLargeValue};
 ghost use Rattle.schubert_transition.specs.Transitions.{acted, shown, weight};
 
 use crate::expand::expand;
@@ -88,6 +88,7 @@ fn work_off(
         ≡ over (shown n φ) sum.old +ℤ value_of n φ todo.old.items +ℤ over (acted n φ waiting.now.perm) waiting.now.factor) }
     ensures terms { OnOk result ((n d : ℕ) → IsWaiting n d waiting.now → AreWaiting n d todo.old.items → AreTerms n d sum.old
         → AreWaiting n d todo.new.items × AreTerms n d sum.new) }
+    ensures order { OnOk result (AreInOrder todo.old.items → AreInOrder todo.new.items) }
     ensures load { OnOk result (load todo.new.items < load todo.old.items + weight waiting.now.perm) }
     ensures large { IsErrOf result SumFault.Large → (n d : ℕ) → IsWaiting n d waiting.now → AreWaiting n d todo.old.items
         → AreTerms n d sum.old → HasLargeValue (λ φ. over (shown n φ) sum.old +ℤ value_of n φ todo.old.items

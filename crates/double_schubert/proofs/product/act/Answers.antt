@@ -56,6 +56,7 @@ loop-waiting-preserved c =
     c.work_off.new.todo.items c.work_off.new.sum c.in_ok-work_off.ensures.value
     (c.in_ok-work_off.ensures.growth (length w) (inversions w) (top_of c.args.w.now c.args.other.now) (max (length w) (length c.args.other.now) + inversions w + 2) last (omega arith) (omega arith))
     (c.in_ok-work_off.ensures.waiting (length w) (inversions w) (top_of c.args.w.now c.args.other.now) last (omega arith) rest)
+    c.in_ok-work_off.ensures.order
 
 pub returns-clause-value : goal.returns-clause-value
 returns-clause-value c n =

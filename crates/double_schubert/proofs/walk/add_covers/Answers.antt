@@ -20,6 +20,7 @@ loop-cover-init c = record {
   value = λ n φ. sym (+ℤ_idr (value_of n φ c.args.todo.now.items));
   growth = λ share. omega arith;
   waiting = λ n d top is old. old;
+  order = λ old. old;
   load = omega arith;
 }
 
@@ -48,6 +49,7 @@ loop-cover-preserved c =
           c.in_ok-add_waiting.ensures.waiting n d top
           (subst (λ (y : List ℕ). IsWaiting n d top (record { perm = y; factor = c.args.list.now })) (sym same) (is x (Among-get_or c.args.covers.now i x inside c.cover-item.is)))
           (inv.waiting n d top is old);
+      order = λ old. c.in_ok-add_waiting.ensures.order (inv.order old);
       load =
           let a = inv.load in
           let b = c.in_ok-add_waiting.ensures.load in

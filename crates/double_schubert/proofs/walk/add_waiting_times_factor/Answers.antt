@@ -3,6 +3,7 @@ use Rattle.double_schubert_laws.specs.Factors.{over_factor}
 use Rattle.sparse_polys.specs.WholeTables.{over, mass, HaveLabels}
 use Rattle.sparse_polys.proofs.ClearedSums.{on_ok}
 use Rattle.schubert_transition.proofs.TodoLists.{load_gain, load_set}
+use Rattle.schubert_transition.proofs.WaitingOrder.{order_set}
 use Rattle.double_schubert.specs.Shifts.{IsWithin}
 use Rattle.double_schubert.proofs.WaitingLists.{entry, added_value, added_growth, added_large, added_waiting}
 use Rattle.double_schubert.proofs.walk.add_waiting_times_factor.Goals as goal
@@ -33,6 +34,13 @@ returns-clause-waiting c =
     (subst (λ (i : ℕ). HaveLabels (IsWithin i (degree + 1)) c.index_mut-waiting.result.now.factor) x
     (subst (λ (j : ℕ). HaveLabels (IsWithin l j) c.index_mut-waiting.result.now.factor) y more)))))
     old)
+
+pub returns-clause-order : goal.returns-clause-order
+returns-clause-order c =
+    on_ok c.add_times_factor.result c.add_times_factor.ensures.gains
+    (λ _ old.
+    order_set c.entry_at.new.todo.items c.in_ok-at.at c.index_mut-waiting.result.now (entry c.index_mut-waiting.result.now c.add_times_factor.new.sum) c.in_ok-at.ensures.found.0 c.index_mut-waiting.ensures.value refl
+    (c.in_ok-at.ensures.order old))
 
 pub returns-clause-load : goal.returns-clause-load
 returns-clause-load c =

@@ -14,7 +14,7 @@ use Rattle.sparse_polys.proofs.ClearedSums.{on_ok}
 use Rattle.sparse_polys.proofs.Steps.{error_is}
 use Rattle.schubert_transition.specs.Todo.{weigh}
 use Rattle.schubert_transition.specs.Transitions.{IsShort, weight}
-use Rattle.schubert_transition.proofs.Descents.{transition_inversions}
+use Rattle.schubert_laws.proofs.LowerPermutations.{transition_inversions}
 use Rattle.double_schubert.specs.Shifts.{IsWithin}
 use Rattle.double_schubert.specs.Walk.{share, IsWaiting}
 use Rattle.double_schubert.proofs.Shares.{share_positive, share_step}
@@ -170,6 +170,10 @@ returns-clause-waiting c =
     (λ x m. cover_waits n d top c.args.r c.args.s c.args.waiting.now.perm c.args.waiting.now.factor c.requires.places is fits x
     (subst (Among x) (c.down.ensures ∙ c.in_ok-covers.ensures.down ∙ ap (covers_down c.args.r) e) m))
     old))
+
+pub returns-clause-order : goal.returns-clause-order
+returns-clause-order c =
+    on_ok c.add_waiting_times_factor.result c.add_waiting_times_factor.ensures.order (λ more old. more (c.in_ok-add_covers.ensures.order old))
 
 pub returns-clause-load : goal.returns-clause-load
 returns-clause-load c =

@@ -4,7 +4,6 @@ use Rattle.sym_model.specs.DoubleSchubert.{shifted_in}
 use Rattle.sym_model.specs.Polynomial.{pair}
 use Rattle.sparse_polys.specs.WholeTables.{mass}
 use Rattle.sparse_polys.proofs.ClearedSums.{on_ok}
-use Rattle.schubert_transition.proofs.Descents.{transition_inversions}
 use Rattle.schubert_transition.proofs.Ranks.{weight_positive}
 use Rattle.double_schubert.specs.Walk.{share}
 use Rattle.double_schubert.proofs.Shares.{share_positive}
@@ -14,7 +13,7 @@ use native.Mathlib.Nat.{mul-le-mul_left}
 
 pub expand-requires-clause-labels : goal.expand-requires-clause-labels
 expand-requires-clause-labels c =
-    let i = transition_inversions c.args.waiting.now.perm c.in-Some.r c.in-Some.s c.requires.permutation.one_line c.in-Some.ensures.places in
+    let i = c.in-Some.ensures.fewer in
     c.requires.labels (omega arith)
 
 pub returns-in-Some-clause-growth : goal.returns-in-Some-clause-growth
@@ -45,6 +44,9 @@ returns-in-None-clause-growth c =
 
 pub returns-in-None-clause-waiting : goal.returns-in-None-clause-waiting
 returns-in-None-clause-waiting c = on_ok c.add_list.result c.add_list.ensures.gains (λ _ n d top is fits old. old)
+
+pub returns-in-None-clause-order : goal.returns-in-None-clause-order
+returns-in-None-clause-order c = on_ok c.add_list.result c.add_list.ensures.gains (λ _ old. old)
 
 pub returns-in-None-clause-load : goal.returns-in-None-clause-load
 returns-in-None-clause-load c = on_ok c.add_list.result c.add_list.ensures.gains (λ _. let p = weight_positive c.args.waiting.now.perm in omega arith)

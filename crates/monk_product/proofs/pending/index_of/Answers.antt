@@ -10,6 +10,7 @@ use Rattle.monk_product.specs.declared.pending.Pending.{Pending}
 use Rattle.monk_product.specs.Monk.{mass}
 use Rattle.monk_product.specs.Pending.{value_of, growth, steps, IsPending}
 use Rattle.schubert_transition.proofs.Weights.{weigh_insert}
+use Rattle.monk_product.proofs.PendingOrder.{order_insert}
 use Rattle.monk_product.proofs.pending.index_of.Goals as goal
 use lib.IntN.{+ℤ_idr}
 
@@ -21,7 +22,7 @@ new_items c =
 pub returns-in_ok-insert-in-Err-clause-found : goal.returns-in_ok-insert-in-Err-clause-found
 returns-in_ok-insert-in-Err-clause-found c =
     let entry : Pending = record { monomial = c.args.monomial; list = [] } in
-    let within : c.in-Err.at ≤ length c.args.todo.now.items = omega (arith, c.in-Err.ensures, ap length c.as_slice.ensures.value) in
+    let within : c.in-Err.at ≤ length c.args.todo.now.items = omega (arith, c.in-Err.ensures.place, ap length c.as_slice.ensures.value) in
     let long = ap length (new_items c) in
     let more = length_insert c.args.todo.now.items c.in-Err.at entry within in (
       omega arith,
@@ -52,3 +53,8 @@ returns-in_ok-insert-in-Err-clause-steps c =
     let a = ap steps (new_items c) in
     let b = weigh_insert (λ (p : Pending). size p.monomial + 1) c.args.todo.now.items c.in-Err.at (record { monomial = c.args.monomial; list = [] }) in
     omega arith
+
+pub returns-in_ok-insert-in-Err-clause-order : goal.returns-in_ok-insert-in-Err-clause-order
+returns-in_ok-insert-in-Err-clause-order c =
+    order_insert c.args.todo.now.items c.as_slice.result.now c.insert.new.self.items c.in-Err.at (record { monomial = c.args.monomial; list = [] }) c.as_slice.ensures.value c.in-Err.ensures.place c.in-Err.ensures.gap
+    (new_items c)

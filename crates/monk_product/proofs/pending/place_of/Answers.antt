@@ -1,14 +1,18 @@
-use Rattle.std.proofs.Common.{sym, ap, ◌∙◌}
-use Rattle.monk_product.specs.declared.pending.Pending.{Pending}
-use Rattle.schubert_transition.proofs.TermSums.{equal_tells}
-use Rattle.schubert_transition.proofs.TodoLists.{same_at}
+use Rattle.std.proofs.Common.{rules, of_calls}
+use Rattle.std.proofs.lemmas.Fn.{always_returns_same}
+use Rattle.monk_product.specs.Pending.{pending_order}
+use Rattle.monk_product.proofs.PendingOrder.{found_place, found_gap, found_absent}
 use Rattle.monk_product.proofs.pending.place_of.Goals as goal
 
-pub returns-in-Ok : goal.returns-in-Ok
-returns-in-Ok c =
-    let inside = c.in-Ok.ensures.bound in (
-      inside,
-      λ w e.
-          ap (λ (x : Pending). x.monomial) (same_at c.args.todo.now c.in-Ok.at c.index-todo-at.result w inside c.index-todo-at.is e ∙ c.index-todo-at.is)
-          ∙ equal_tells _ c.args.monomial.now (sym c.if-eq.ensures),
-    )
+pub returns-clause-place : goal.returns-clause-place
+returns-clause-place c =
+    found_place c.args.todo.now c.args.monomial.now c.binary_search_by.result c.binary_search_by.ensures.bound
+    (c.binary_search_by.ensures.position (λ p. pending_order p.monomial c.args.monomial.now) (always_returns_same _ _ _ (λ a r f called. search (rules, of_calls))))
+
+pub returns-clause-gap : goal.returns-clause-gap
+returns-clause-gap c =
+    found_gap c.args.todo.now c.args.monomial.now c.binary_search_by.result
+    (c.binary_search_by.ensures.position (λ p. pending_order p.monomial c.args.monomial.now) (always_returns_same _ _ _ (λ a r f called. search (rules, of_calls))))
+
+pub returns-clause-absent : goal.returns-clause-absent
+returns-clause-absent c = found_absent c.args.todo.now c.args.monomial.now c.binary_search_by.result (returns-clause-gap c)

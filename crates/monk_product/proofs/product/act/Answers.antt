@@ -31,7 +31,7 @@ pub loop-pending-init : goal.loop-pending-init
 loop-pending-init c =
     let some = c.len.ensures.limits.kept.some in
     start c.args.w.now c.args.other.now c.in_ok-polynomial.polynomial c.in_ok-todo.todo.items c.new-sum.result c.new-sum.ensures c.is_polynomial.ensures c.in_ok-polynomial.ensures.terms c.in_ok-polynomial.ensures.represents
-    (omega arith) c.in_ok-todo.ensures.value c.in_ok-todo.ensures.growth c.in_ok-todo.ensures.pending
+    (omega arith) c.in_ok-todo.ensures.value c.in_ok-todo.ensures.growth c.in_ok-todo.ensures.pending c.in_ok-todo.ensures.order
 
 pub work_off-requires-clause-few : goal.work_off-requires-clause-few
 work_off-requires-clause-few c h =
@@ -77,6 +77,7 @@ loop-pending-preserved c =
     c.work_off.new.todo.items c.work_off.new.sum c.in_ok-work_off.ensures.value
     (c.in_ok-work_off.ensures.growth (length w) (inversions w) (base_of c.args.w.now c.args.other.now) (base_of c.args.w.now c.args.other.now) p (omega arith) (omega arith) (omega arith))
     (c.in_ok-work_off.ensures.pending (length w) (inversions w) (base_of c.args.w.now c.args.other.now) p (omega arith) r)
+    c.in_ok-work_off.ensures.order
 
 pub returns-clause-value : goal.returns-clause-value
 returns-clause-value c n =

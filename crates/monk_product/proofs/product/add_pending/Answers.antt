@@ -1,11 +1,12 @@
-use Rattle.std.proofs.Common.{◌*◌, ◌^◌, length, ap, ◌∙◌, arith, ◌*ℤ◌}
+use Rattle.std.proofs.Common.{◌*◌, ◌^◌, length, refl, ap, ◌∙◌, arith, ◌*ℤ◌}
 use Rattle.std.specs.Prelude.{nat_abs}
 use Rattle.std.proofs.lemmas.Int.{ints}
 use Rattle.sym_model.specs.Partition.{size}
 use Rattle.sym_model.proofs.Sums.{Among-get_or}
 use Rattle.sparse_polys.proofs.ClearedSums.{on_ok}
 use Rattle.schubert_transition.specs.Transitions.{acted}
-use Rattle.monk_product.proofs.EntrySums.{set_value, set_growth, set_large, set_pending}
+use Rattle.monk_product.proofs.PendingOrder.{order_set}
+use Rattle.monk_product.proofs.EntrySums.{entry, set_value, set_growth, set_large, set_pending}
 use Rattle.monk_product.proofs.product.add_pending.Goals as goal
 
 pub returns-clause-value : goal.returns-clause-value
@@ -40,6 +41,13 @@ returns-clause-pending c =
     let was = mid c.index_mut-pending.result.now (Among-get_or c.index_of.new.todo.items c.in_ok-at.at c.index_mut-pending.result.now c.in_ok-at.ensures.found.0 c.index_mut-pending.ensures.value) in
     set_pending c.index_of.new.todo.items c.in_ok-at.at c.index_mut-pending.result.now c.add_single.new.sum c.in_ok-at.ensures.found.0 c.index_mut-pending.ensures.value n d most mid
     (λ k e. more k (was.short k e) (omega arith)))
+
+pub returns-clause-order : goal.returns-clause-order
+returns-clause-order c =
+    on_ok c.add_single.result c.add_single.ensures.value
+    (λ _ old.
+    order_set c.index_of.new.todo.items c.in_ok-at.at c.index_mut-pending.result.now (entry c.index_mut-pending.result.now c.add_single.new.sum) c.in_ok-at.ensures.found.0 c.index_mut-pending.ensures.value refl
+    (c.in_ok-at.ensures.order old))
 
 pub returns-clause-large : goal.returns-clause-large
 returns-clause-large c err base some =

@@ -1,4 +1,4 @@
-use Rattle.std.proofs.Common.{◌≡◌, ℕ, ◌+◌, ◌-◌, ◌*◌, ◌^◌, ◌<◌, ◌≤◌, List, length, sym, ap, subst, arith}
+use Rattle.std.proofs.Common.{◌≡◌, ℕ, ◌+◌, ◌-◌, ◌*◌, ◌^◌, ◌<◌, ◌≤◌, List, length, refl, sym, ap, subst, arith}
 use Rattle.std.proofs.lemmas.Int.{ints}
 use Rattle.sym_model.specs.Partition.{size}
 use Rattle.sym_model.specs.Expansion.{Terms}
@@ -12,7 +12,8 @@ use Rattle.monk_product.specs.declared.pending.Pending.{Pending}
 use Rattle.monk_product.specs.Monk.{mass, AreShort, over_covers}
 use Rattle.monk_product.specs.Pending.{IsPending}
 use Rattle.monk_product.proofs.MonkSteps.{over_monk}
-use Rattle.monk_product.proofs.EntrySums.{set_value, set_growth, set_large, set_pending, set_steps, grow_step}
+use Rattle.monk_product.proofs.PendingOrder.{order_set}
+use Rattle.monk_product.proofs.EntrySums.{entry, set_value, set_growth, set_large, set_pending, set_steps, grow_step}
 use Rattle.monk_product.proofs.Bounds.{mass_large}
 use Rattle.monk_product.proofs.product.lower.Goals as goal
 
@@ -105,6 +106,13 @@ returns-clause-pending c =
     let up : most - size e + 1 ≡ k = omega arith in
     subst (λ j. AreShort j c.add_times_var.new.sum) up
     (more (most - size e) l.short (omega arith) (subst (λ j. AreShort j c.index_mut-target.result.now.list) (sym up) (was.short k s)))))
+
+pub returns-clause-order : goal.returns-clause-order
+returns-clause-order c =
+    on_ok c.add_times_var.result c.add_times_var.ensures.value
+    (λ _ old.
+    order_set c.index_of.new.todo.items c.in_ok-at.at c.index_mut-target.result.now (entry c.index_mut-target.result.now c.add_times_var.new.sum) c.in_ok-at.ensures.found.0 c.index_mut-target.ensures.value refl
+    (c.in_ok-at.ensures.order old))
 
 pub returns-clause-steps : goal.returns-clause-steps
 returns-clause-steps c =

@@ -1,19 +1,21 @@
-use Rattle.std.proofs.Common.{◌≡◌, ℕ, ◌+◌, ◌*◌, ◌^◌, ◌≤◌, List, [], ◌∷◌, ◌++◌, map, sym, ap, ◌∙◌, subst, arith, ℤ}
+use Rattle.std.proofs.Common.{◌≡◌, ℕ, ◌+◌, ◌*◌, ◌^◌, ◌≤◌, List, [], ◌∷◌, ◌++◌, map, refl, sym, ap, ◌∙◌, subst, arith, ℤ}
 use Rattle.std.specs.Prelude.{Err, nat_abs}
 use Rattle.std.specs.Map.Iter.{deref_pair}
 use Rattle.std.proofs.lemmas.Int.{ints}
 use Rattle.std.proofs.lemmas.List.{map-append}
 use Rattle.coeff_rings.specs.Fractions.{whole}
 use Rattle.sym_model.specs.Partition.{size}
+use Rattle.sym_model.specs.Sum.{Among}
 use Rattle.sym_model.specs.Expansion.{Terms}
 use Rattle.sparse_polys.proofs.Steps.{error_is, all_done}
 use Rattle.schubert_transition.specs.TermLists.{over}
 use Rattle.schubert_transition.specs.Transitions.{acted}
 use Rattle.schubert_transition.proofs.SumSteps.{terms, whole_list, here_among, so_far_next}
 use Rattle.monk_product.specs.Monk.{mass}
-use Rattle.monk_product.specs.Pending.{growth}
+use Rattle.monk_product.specs.Pending.{value_of, growth}
 use Rattle.monk_product.proofs.MassSums.{over_pairs_next, mass_pairs_next, mass_pairs_within}
 use Rattle.monk_product.proofs.EntrySums.{power_within}
+use Rattle.monk_product.proofs.PendingOrder.{order_none}
 use Rattle.monk_product.proofs.product.pending_terms.Goals as goal
 use native.Mathlib.Nat.{mul-le-mul_left}
 
@@ -25,6 +27,17 @@ grown done v b c old new h a n =
 
 more_mass : (a b c : ℕ) → a ≤ b → a * c ≤ b * c
 more_mass a b c h = let m = mul-le-mul_left c h in omega arith
+
+pub loop-monomial-init : goal.loop-monomial-init
+loop-monomial-init c =
+    let none = c.new-todo.ensures.items in
+    record {
+      value = λ n φ. ap (value_of n φ) none;
+      grows = λ n d base is some. let a = ap (growth base) none in omega arith;
+      pending = λ n d most is letters p m. absurd (subst (Among p) none m);
+      order = order_none c.new-todo.result.items none;
+      so_far = refl;
+    }
 
 pub loop-monomial-preserved : goal.loop-monomial-preserved
 loop-monomial-preserved c =
@@ -54,6 +67,7 @@ loop-monomial-preserved c =
       pending = λ n d most is letters.
           let t = is (k, whole v) here in
           c.in_ok-add_pending.ensures.pending n d most t.few t.small letters (inv.pending n d most is letters);
+      order = c.in_ok-add_pending.ensures.order inv.order;
       so_far = so_far_next done rest c.loop-monomial.monomial-iterator _ k v _ pushed c.in-Some.ensures.steps inv.so_far;
     }
 

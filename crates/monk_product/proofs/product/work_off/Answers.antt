@@ -32,6 +32,9 @@ returns-then-degree-eq0-clause-growth c =
     let p = ap (λ s. mass c.args.pending.now.list * base ^ s) zero ∙ ap (λ b. mass c.args.pending.now.list * b) (pow-zero base) in
     omega arith)
 
+pub returns-then-degree-eq0-clause-order : goal.returns-then-degree-eq0-clause-order
+returns-then-degree-eq0-clause-order c = on_ok c.add_list.result c.add_list.ensures.value (λ _ old. old)
+
 pub returns-then-degree-eq0-clause-large : goal.returns-then-degree-eq0-clause-large
 returns-then-degree-eq0-clause-large c err n d most base is last high fits some =
     let a = c.add_list.ensures.large err in

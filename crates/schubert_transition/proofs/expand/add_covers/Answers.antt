@@ -29,6 +29,7 @@ loop-i-preserved-then-from c =
       value = λ n φ. inv.value n φ ∙ ap (λ xs. value_of n φ c.args.todo.now.items +ℤ all_of n φ c.args.terms.now xs) (sym same);
       waiting = inv.waiting;
       load = λ most h. let a = inv.load most (λ x m. h x (subst (Among x) (sym same) m)) in let b = more_load i most (omega arith) in omega arith;
+      order = inv.order;
       within = omega arith;
     }
 
@@ -60,6 +61,7 @@ loop-i-preserved c =
           let p = ap weight swapped in
           let q = c.in_ok-add_waiting.ensures.load in
           omega arith;
+      order = λ old. c.in_ok-add_waiting.ensures.order (inv.order old);
       within = omega arith;
     }
 

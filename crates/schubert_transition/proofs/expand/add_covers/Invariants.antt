@@ -3,7 +3,7 @@ use Rattle.sym_model.specs.Sum.{total, Among}
 use Rattle.sym_model.specs.PlaceOrders.{inversions}
 use Rattle.schubert_transition.specs.TermLists.{over, AreTerms}
 use Rattle.schubert_transition.specs.Transitions.{IsShort, acted, weight}
-use Rattle.schubert_transition.specs.Todo.{value_of, load, AreWaiting}
+use Rattle.schubert_transition.specs.Todo.{value_of, load, AreInOrder, AreWaiting}
 use Rattle.schubert_transition.proofs.CoverSums.{covers_before}
 use Rattle.schubert_transition.proofs.expand.add_covers.Given as goal
 
@@ -17,5 +17,6 @@ invariant-loop-i l = record {
   load :
       (most : ℕ) → ((x : List ℕ) → Among x (covers_before l.i l.r l.lower) → weight x ≤ most)
       → load l.todo.items ≤ load l.initial.todo.items + (l.i - 1) * most;
+  order : AreInOrder l.initial.todo.items → AreInOrder l.todo.items;
   within : l.i ≤ l.r;
 }

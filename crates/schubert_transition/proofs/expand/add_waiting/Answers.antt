@@ -6,6 +6,7 @@ use Rattle.schubert_transition.specs.TermLists.{over, AreTerms}
 use Rattle.schubert_transition.specs.Transitions.{acted}
 use Rattle.schubert_transition.specs.Todo.{value_of}
 use Rattle.schubert_transition.proofs.TodoLists.{load_set}
+use Rattle.schubert_transition.proofs.WaitingOrder.{order_set}
 use Rattle.schubert_transition.proofs.WaitingSums.{entry, set_value, set_waiting, set_large, large_as}
 use Rattle.schubert_transition.proofs.expand.add_waiting.Goals as goal
 
@@ -29,6 +30,13 @@ returns-clause-waiting c =
     let q : d - inversions c.index_mut-waiting.result.now.perm ≡ d - inversions c.args.perm = ap (λ x. d - inversions x) p in
     set_waiting n d c.index_of.new.todo.items c.in_ok-at.at c.index_mut-waiting.result.now c.add_all.new.sum c.in_ok-at.ensures.found.0 c.index_mut-waiting.ensures.value mid
     (subst (λ k. AreTerms n k c.add_all.new.sum) (sym q) (kept n (d - inversions c.args.perm) (subst (λ k. AreTerms n k c.index_mut-waiting.result.now.factor) q was) terms)))
+
+pub returns-clause-order : goal.returns-clause-order
+returns-clause-order c =
+    on_ok c.add_all.result c.add_all.ensures.sum
+    (λ _ old.
+    order_set c.index_of.new.todo.items c.in_ok-at.at c.index_mut-waiting.result.now (entry c.index_mut-waiting.result.now c.add_all.new.sum) c.in_ok-at.ensures.found.0 c.index_mut-waiting.ensures.value refl
+    (c.in_ok-at.ensures.order old))
 
 pub returns-clause-load : goal.returns-clause-load
 returns-clause-load c =

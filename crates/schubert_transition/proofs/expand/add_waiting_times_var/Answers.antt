@@ -7,6 +7,7 @@ use Rattle.schubert_transition.specs.Todo.{value_of}
 use Rattle.sparse_polys.specs.Raised.{raised}
 use Rattle.sparse_polys.proofs.ClearedSums.{on_ok}
 use Rattle.schubert_transition.proofs.TodoLists.{load_set}
+use Rattle.schubert_transition.proofs.WaitingOrder.{order_set}
 use Rattle.schubert_transition.proofs.WaitingSums.{entry, set_value, set_waiting, set_large, large_as}
 use Rattle.schubert_transition.proofs.expand.add_waiting_times_var.Goals as goal
 
@@ -30,6 +31,13 @@ returns-clause-waiting c =
     let q : d - inversions c.index_mut-waiting.result.now.perm ≡ d - inversions c.args.perm - 1 + 1 = ap (λ x. d - inversions x) p ∙ (let s : d - inversions c.args.perm ≡ d - inversions c.args.perm - 1 + 1 = omega arith in s) in
     set_waiting n d c.index_of.new.todo.items c.in_ok-at.at c.index_mut-waiting.result.now c.add_times_var.new.sum c.in_ok-at.ensures.found.0 c.index_mut-waiting.ensures.value mid
     (subst (λ k. AreTerms n k c.add_times_var.new.sum) (sym q) (kept n (d - inversions c.args.perm - 1) within (subst (λ k. AreTerms n k c.index_mut-waiting.result.now.factor) q was) terms)))
+
+pub returns-clause-order : goal.returns-clause-order
+returns-clause-order c =
+    on_ok c.add_times_var.result c.add_times_var.ensures.sum
+    (λ _ old.
+    order_set c.index_of.new.todo.items c.in_ok-at.at c.index_mut-waiting.result.now (entry c.index_mut-waiting.result.now c.add_times_var.new.sum) c.in_ok-at.ensures.found.0 c.index_mut-waiting.ensures.value refl
+    (c.in_ok-at.ensures.order old))
 
 pub returns-clause-load : goal.returns-clause-load
 returns-clause-load c =

@@ -104,6 +104,10 @@ returns-clause-waiting c =
     let k = lower_step n d c.args.r c.args.s w c.in_ok-lower.lower f c.in_ok-lower.ensures c.requires.places is.short is.inside is.terms in
     more n d k.short k.last k.inside k.terms (c.in_ok-add_covers.ensures.waiting n d k.short k.last k.inside k.terms old))
 
+pub returns-clause-order : goal.returns-clause-order
+returns-clause-order c =
+    on_ok c.add_waiting_times_var.result c.add_waiting_times_var.ensures.order (λ more old. more (c.in_ok-add_covers.ensures.order old))
+
 pub returns-clause-load : goal.returns-clause-load
 returns-clause-load c =
     on_ok c.add_waiting_times_var.result c.add_waiting_times_var.ensures.load

@@ -1,8 +1,18 @@
-use Rattle.std.proofs.Common.{sym}
-use Rattle.schubert_transition.proofs.TermSums.{equal_tells}
-use Rattle.schubert_transition.proofs.TodoLists.{has_found}
+use Rattle.std.proofs.Common.{rules, of_calls}
+use Rattle.std.proofs.lemmas.Fn.{always_returns_same}
+use Rattle.schubert_transition.specs.Todo.{waiting_order}
+use Rattle.schubert_transition.proofs.WaitingOrder.{found_place, found_gap, found_absent}
 use Rattle.schubert_transition.proofs.todo.place_of.Goals as goal
 
-pub returns-in-Ok : goal.returns-in-Ok
-returns-in-Ok g c =
-    (c.in-Ok.ensures.bound, has_found c.args.todo.now c.in-Ok.at c.index-todo-at.result c.args.perm.now c.in-Ok.ensures.bound c.index-todo-at.is (equal_tells _ c.args.perm.now (sym c.if-eq.ensures)))
+pub returns-clause-place : goal.returns-clause-place
+returns-clause-place g c =
+    found_place c.args.todo.now c.args.perm.now c.binary_search_by.result c.binary_search_by.ensures.bound
+    (c.binary_search_by.ensures.position (λ w. waiting_order w.perm c.args.perm.now) (always_returns_same _ _ _ (λ a r f called. search (rules, of_calls))))
+
+pub returns-clause-gap : goal.returns-clause-gap
+returns-clause-gap g c =
+    found_gap c.args.todo.now c.args.perm.now c.binary_search_by.result
+    (c.binary_search_by.ensures.position (λ w. waiting_order w.perm c.args.perm.now) (always_returns_same _ _ _ (λ a r f called. search (rules, of_calls))))
+
+pub returns-clause-absent : goal.returns-clause-absent
+returns-clause-absent g c = found_absent c.args.todo.now c.args.perm.now c.binary_search_by.result (returns-clause-gap g c)

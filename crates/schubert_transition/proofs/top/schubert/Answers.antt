@@ -39,7 +39,7 @@ loop-waiting-preserved c =
     (popped_rest c.args.w.now c.loop-waiting.todo.items c.pop.new.self.items c.in-Some.waiting c.loop-waiting.sum c.loop-waiting.invariant c.in-Some.ensures.items)
     c.loop-waiting.invariant.terms in
     next c.args.w.now c.loop-waiting.todo.items c.pop.new.self.items c.in-Some.waiting c.loop-waiting.sum c.loop-waiting.invariant c.in-Some.ensures.items
-    c.work_off.new.todo.items c.work_off.new.sum c.in_ok-work_off.ensures.value kept.0 kept.1
+    c.work_off.new.todo.items c.work_off.new.sum c.in_ok-work_off.ensures.value kept.0 kept.1 c.in_ok-work_off.ensures.order
 
 pub returns-clause-represents : goal.returns-clause-represents
 returns-clause-represents c n =

@@ -44,6 +44,9 @@ returns-in-None-clause-terms c =
     (λ kept n d is waiting terms.
     (waiting, kept n d terms (terms_weaker n (d - inversions c.args.waiting.now.perm) d c.args.waiting.now.factor (omega arith) is.terms)))
 
+pub returns-in-None-clause-order : goal.returns-in-None-clause-order
+returns-in-None-clause-order c = on_ok c.add_all.result c.add_all.ensures.sum (λ _ old. old)
+
 pub returns-in-None-clause-load : goal.returns-in-None-clause-load
 returns-in-None-clause-load c = on_ok c.add_all.result c.add_all.ensures.sum (λ _. let p = weight_positive c.args.waiting.now.perm in omega arith)
 
