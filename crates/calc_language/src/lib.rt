@@ -9,7 +9,9 @@ mod plethysm_command;
 mod refusal;
 mod words;
 
+pub use calc_base::WordsFault;
 pub use calc_commands::Command;
 pub use calc_expressions::{Basis, Expr, Formula, Weight, degree_limit};
 pub use lines::read_line;
+pub use partitions::Factors;
 pub use words::read_words;
