@@ -1,0 +1,15 @@
+pub mod TableLists
+pub mod RowSteps
+pub mod PlacedLists
+pub mod NewtonSteps
+pub mod PowerSteps
+pub mod AtomLists
+pub mod AtomNodes
+pub mod ClearedLists
+pub mod WholeSteps
+pub mod Nodes
+pub mod NodeSums
+pub mod Endings
+pub mod SmallNumbers
+pub mod MonomialAtoms
+pub mod Weights

@@ -1,0 +1,14 @@
+//! Expressions expanded in e, h and p, node by node in the target.
+#![tactic(auto)]
+
+mod atoms;
+mod conversion;
+mod expansion;
+mod factorials;
+mod newton;
+mod node;
+mod operations;
+mod products;
+mod whole_terms;
+
+pub use expansion::to_family;
