@@ -12,4 +12,4 @@ pub mod TreeFacts
 pub mod StripLists
 pub mod StripTerms
 pub mod StripTables
-pub mod SchurTerms
+pub mod ContentCounts

@@ -1,5 +1,5 @@
 -- Tables of shapes with what led to them: their pairings with Kostka numbers, and what bounds them.
-use Rattle.std.proofs.Common.{◌≡◌, ℕ, ◌^◌, ◌≤◌, Bool, true, false, cond, List, [], ◌∷◌, ◌++◌, replicate, sym, ◌∙◌, ap, subst, refl, inl, arith, append_assoc, append-nil, ℤ, pos, ◌+ℤ◌, ◌*ℤ◌}
+use Rattle.std.proofs.Common.{◌≡◌, ℕ, ◌^◌, ◌≤◌, Bool, true, false, cond, List, [], ◌∷◌, ◌++◌, replicate, sym, ◌∙◌, ap, subst, refl, inl, arith, append_assoc, ℤ, pos, ◌+ℤ◌, ◌*ℤ◌}
 use Rattle.std.specs.Prelude.{◌≤ℤ◌, nat_abs}
 use Rattle.std.proofs.lemmas.Int.{ints}
 use Rattle.sym_model.specs.Sum.{total}
@@ -7,27 +7,20 @@ use Rattle.sym_model.specs.Partition.{IsPartition, size}
 use Rattle.sym_model.specs.Polynomial.{Term, same, coefficient, pair, Same}
 use Rattle.sym_model.specs.Expansion.{Basis, Terms}
 use Rattle.sym_model.specs.Weight.{growth}
-use Rattle.sym_model.specs.WholeTerms.{WholeTerms, AreWhole, numerators}
+use Rattle.sym_model.specs.WholeTerms.{WholeTerms, numerators}
 use Rattle.sym_model.proofs.Ring.{one-product}
 use Rattle.sym_model.proofs.Sums.{total_map, total_scale, total_ext, Among_from_each, Among_from_map}
 use Rattle.sym_model.proofs.Exponents.{same_true}
-use Rattle.coeff_rings.specs.Fractions.{whole}
-use Rattle.coeff_rings.specs.Proved.Whole.{same_whole}
-use Rattle.basis_expand.specs.Tables.{found, IsTable}
-use Rattle.basis_expand.proofs.WholeLists.{coefficient-whole}
+use Rattle.basis_expand.specs.Tables.{IsTable}
 use Rattle.basis_expand.proofs.StripTerms.{natural-rest, natural-table, coefficient-strip_terms}
-use Rattle.sym_model.proofs.Polynomials.{coefficient_pair, pair_each, pair_determined}
+use Rattle.sym_model.proofs.Polynomials.{pair_each, pair_determined}
 use Rattle.sym_model.proofs.Integers.{product-at_least, product-nonnegative}
 use Rattle.schur_laws.specs.Kostka.{strips_off, kostka}
 use Rattle.schur_laws.proofs.SchurLists.{kostka-not_negative, kostka-within, kostka-ones}
 use Rattle.basis_expand.specs.Large.{HasLarge}
+use Rattle.basis_expand.specs.Contents.{Leads}
 use Rattle.basis_expand.specs.Strips.{terms_at, strip_terms, AreNatural}
 use lib.IntN.{+ℤ_idr}
-
--- with so many ways to each shape of the list, these are the ways to take the first shape off with this content and any
--- further one
-abbrev pub Leads : List ℕ → List ℕ → WholeTerms → Type 0
-Leads shape content terms = (rest : List ℕ) → pair terms (λ left. kostka left rest) ≡ kostka shape (content ++ rest)
 
 pub leads-none : (shape : List ℕ) (terms : WholeTerms) → Same terms ((shape, pos 1) ∷ []) → Leads shape [] terms
 leads-none shape terms e rest =
@@ -35,7 +28,7 @@ leads-none shape terms e rest =
     ∙ +ℤ_idr (pos 1 *ℤ kostka shape rest) ∙ one-product (kostka shape rest)
 
 -- the ways after one strip more
-pair-strip_terms : (k : ℕ) (terms : WholeTerms) (φ : List ℕ → ℤ) → pair (strip_terms k terms) φ ≡ pair terms (λ shape. total φ (strips_off k shape))
+pub pair-strip_terms : (k : ℕ) (terms : WholeTerms) (φ : List ℕ → ℤ) → pair (strip_terms k terms) φ ≡ pair terms (λ shape. total φ (strips_off k shape))
 pair-strip_terms k terms φ =
     pair_each (λ (t : Term). terms_at t.1 (strips_off k t.0)) terms φ
     ∙ total_ext (λ (t : Term). pair (terms_at t.1 (strips_off k t.0)) φ) (λ (t : Term). t.1 *ℤ total φ (strips_off k t.0))
@@ -49,10 +42,6 @@ leads-next shape content k old new h e rest =
     ∙ pair-strip_terms k old (λ left. kostka left rest)
     ∙ h (k ∷ rest)
     ∙ ap (kostka shape) (sym (append_assoc content (k ∷ []) rest))
-
--- at the end the ways to nothing are the Kostka number
-pub leads-end : (shape content : List ℕ) (terms : WholeTerms) → Leads shape content terms → coefficient terms [] ≡ kostka shape content
-leads-end shape content terms h = coefficient_pair terms [] ∙ h [] ∙ ap (kostka shape) (append-nil content)
 
 -- ---- bounds
 
@@ -98,10 +87,3 @@ natural-single shape terms is e =
     by : (b : Bool) → pos 0 ≤ℤ (cond b (pos 1) (pos 0) +ℤ pos 0)
     by true = omega (arith, ints)
     by false = omega (arith, ints)
-
--- what a look-up of the empty shape finds at the end
-pub number-found : (shape content : List ℕ) (terms : Terms (List ℕ)) (nothing : List ℕ) (number : ℤ) → IsTable terms → AreWhole terms → Leads shape content (numerators terms) → nothing ≡ []
-    → whole number ≡ found terms nothing → number ≡ kostka shape content
-number-found shape content terms nothing number is w h e f =
-    same_whole number (coefficient (numerators terms) []) (f ∙ ap (found terms) e ∙ coefficient-whole terms is w [])
-    ∙ leads-end shape content (numerators terms) h

@@ -4,3 +4,4 @@ pub mod Large
 pub mod Clearing
 pub mod Families
 pub mod Strips
+pub mod Contents

@@ -1,14 +1,15 @@
 -- Horizontal strips taken off the shapes of a list of terms (this project's own).
-use Rattle.std.specs.Prelude.{ℕ, ℤ, pos, ◌≤ℤ◌, List, map}
+use Rattle.std.specs.Prelude.{ℕ, ℤ, pos, ◌≤ℤ◌, ◌≤◌, List, length, map}
 use Rattle.sym_model.specs.Sum.{each, Among}
-use Rattle.sym_model.specs.Partition.{IsPartition, in_front}
+use Rattle.sym_model.specs.Partition.{Falls, IsPartition, size}
 use Rattle.sym_model.specs.WholeTerms.{WholeTerms}
-use Rattle.partitions.specs.Limits.{IsWithinLimits}
 use Rattle.schur_laws.specs.Kostka.{strips_off}
 
--- each shape is within the limits, and is so with a row of this length above its first one
-abbrev pub AreBelow : ℕ → List (List ℕ) → Type 0
-AreBelow row shapes = (rest : List ℕ) → Among rest shapes → IsWithinLimits (in_front row rest)
+-- the numbers are the rows of a shape within the limits, maybe with empty rows at its end
+pub record AreRows (numbers : List ℕ) : Type 0 where
+  pub falls : Falls numbers
+  pub few : length numbers ≤ 512
+  pub small : size numbers ≤ 4096
 
 -- the shapes with one coefficient
 abbrev pub terms_at : ℤ → List (List ℕ) → WholeTerms
