@@ -34,7 +34,8 @@ fn place_of(todo: &[Pending], monomial: &Monomial) -> Result<usize, usize>
     ensures place { MatchResult result
         (λ at. (at < length todo.now) × HasMonomial monomial.now todo.now at)
         (λ at. at ≤ length todo.now) }
-    ensures absent { IfErr result (λ _. AreInOrder todo.now → ¬ Among monomial.now (monomials todo.now)) }
+    ensures absent { IfErr result (λ _.
+        AreInOrder todo.now → ¬ Among monomial.now (monomials todo.now)) }
     ensures gap { IfErr result (λ at. AreInOrder todo.now → IsGapFor monomial.now todo.now at) }
 {
     todo.binary_search_by(|pending| compare(&pending.monomial, monomial))

@@ -37,7 +37,8 @@ pub fn transition_order_law()
     ensures exists { (w : List ℕ) (r : ℕ) → IsOneLine w → last_descent w ≡ Some r → (s : ℕ) × IsTransition w r s }
     ensures identity { (w : List ℕ) (n : ℕ) → IsOneLine w → last_descent w ≡ None
         → Same (schubert_in w n) (one n) }
-    ensures kept { (w : List ℕ) → IsOneLine w → 0 < length w → (last_descent w ≡ None) ↔ (kept w ≡ 1 ∷ []) }
+    ensures kept { (w : List ℕ) → IsOneLine w → 0 < length w
+        → (last_descent w ≡ None) ↔ (kept w ≡ 1 ∷ []) }
 {}
 
 /// Permutations may be kept without their last fixed letters: these change neither the Schubert

@@ -69,9 +69,12 @@ impl Memo {
         ensures fits { OnOk result (HasPastCoefficient (commands.schubert w.now) → ⊥) }
         ensures kept { IsSchubertStore self.new }
         ensures capacity { self.new.cap ≡ self.old.cap }
-        ensures found { IsSome (kept_for w.now self.old) → OnOk result (GoesFirst w.now self.old self.new) }
-        ensures made { kept_for w.now self.old ≡ None → (self.new ≡ self.old) ⊎ ComesFirst w.now self.old self.new }
-        ensures long { IfOk result (λ terms. kept_for w.now self.old ≡ None → 4096 < length terms → self.new ≡ self.old) }
+        ensures found { IsSome (kept_for w.now self.old)
+            → OnOk result (GoesFirst w.now self.old self.new) }
+        ensures asked { (self.new ≡ self.old) ⊎ (GoesFirst w.now self.old self.new)
+            ⊎ (ComesFirst w.now self.old self.new) }
+        ensures long { IfOk result (λ terms. kept_for w.now self.old ≡ None
+            → 4096 < length terms → self.new ≡ self.old) }
         ensures refused { OnErr result (self.new ≡ self.old) }
     {
         match self.copy_of(w) {
@@ -102,8 +105,10 @@ impl Memo {
         ensures fits { OnOk result (HasPastCoefficient (commands.schubert w.now) → ⊥) }
         ensures kept { IsSchubertStore self.new }
         ensures capacity { self.new.cap ≡ self.old.cap }
-        ensures found { IsSome (kept_for w.now self.old) → OnOk result (GoesFirst w.now self.old self.new) }
-        ensures made { kept_for w.now self.old ≡ None → (self.new ≡ self.old) ⊎ ComesFirst w.now self.old self.new }
+        ensures found { IsSome (kept_for w.now self.old)
+            → OnOk result (GoesFirst w.now self.old self.new) }
+        ensures asked { (self.new ≡ self.old) ⊎ (GoesFirst w.now self.old self.new)
+            ⊎ (ComesFirst w.now self.old self.new) }
         ensures large_leaves { IsErrOf result SumFault.Large → self.new ≡ self.old }
     {
         let terms = self.schubert(w)?;
@@ -118,7 +123,8 @@ impl Memo {
     /// A copy of the polynomial that is kept for a permutation, where one is.
     fn copy_of(&self, w: &Perm) -> Result<Option<Poly<Int>>, NoMemory>
         ensures is { IfOk result (λ kept. IfSome kept (IsSchubertOf w.now)) }
-        ensures found { IfOk result (λ kept. MatchOption kept (kept_for w.now self.now ≡ None) (λ _. IsSome (kept_for w.now self.now))) }
+        ensures found { IfOk result (λ kept. MatchOption kept
+            (kept_for w.now self.now ≡ None) (λ _. IsSome (kept_for w.now self.now))) }
         ensures kept { IsSchubertStore self.now }
     {
         match self.kept(w) {
@@ -131,7 +137,8 @@ impl Memo {
     fn promote(&mut self, w: &Perm)
         ensures kept { IsSchubertStore self.new }
         ensures capacity { self.new.cap ≡ self.old.cap }
-        ensures first { self.new ≡ lru_cache (promoted (pointwise nat_eq w.now) self.old.entries) self.old.cap }
+        ensures first { self.new
+            ≡ lru_cache (promoted (pointwise nat_eq w.now) self.old.entries) self.old.cap }
     {
         self.cache.promote(w);
         // This tells the proof that no more are kept than may be.
@@ -145,8 +152,8 @@ impl Memo {
         ensures fits { OnOk result (HasPastCoefficient (commands.schubert w.now) → ⊥) }
         ensures kept { IsSchubertStore self.new }
         ensures capacity { self.new.cap ≡ self.old.cap }
-        ensures put { (self.new ≡ self.old) ⊎ ((polynomial : TermList (List ℕ))
-            × (self.new ≡ lru_cache (put_entries (pointwise nat_eq) self.old w.now polynomial) self.old.cap)) }
+        ensures put { (self.new ≡ self.old) ⊎ ((polynomial : TermList (List ℕ)) × (self.new
+            ≡ lru_cache (put_entries (pointwise nat_eq) self.old w.now polynomial) self.old.cap)) }
         ensures long { IfOk result (λ terms. 4096 < length terms → self.new ≡ self.old) }
         ensures refused { OnErr result (self.new ≡ self.old) }
     {
@@ -177,8 +184,8 @@ impl Memo {
         requires few { length terms.now ≤ 4096 }
         ensures kept { IsSchubertStore self.new }
         ensures capacity { self.new.cap ≡ self.old.cap }
-        ensures put { (self.new ≡ self.old) ⊎ ((polynomial : TermList (List ℕ))
-            × (self.new ≡ lru_cache (put_entries (pointwise nat_eq) self.old w.now polynomial) self.old.cap)) }
+        ensures put { (self.new ≡ self.old) ⊎ ((polynomial : TermList (List ℕ)) × (self.new
+            ≡ lru_cache (put_entries (pointwise nat_eq) self.old w.now polynomial) self.old.cap)) }
     {
         if let Ok(perm) = w.copy() {
             if let Ok(copy) = copy(terms) {

@@ -10,7 +10,8 @@ use perm_codes::Perm;
 /// identity. The letters at these places in each other's place make one inversion less.
 pub fn transition_places(w: &Perm) -> Option<(u16, u16)>
     ensures places { IfSome result (λ p. IsTransition w.now p.0 p.1) }
-    ensures fewer { IfSome result (λ p. inversions w.now ≡ inversions (times_swap p.0 p.1 w.now) + 1) }
+    ensures fewer { IfSome result (λ p.
+        inversions w.now ≡ inversions (times_swap p.0 p.1 w.now) + 1) }
     ensures short { IsShort 255 w.now }
     ensures identity { (result ≡ None) ↔ (w.now ≡ 1 ∷ []) }
     ensures none { IfNone result (last_descent w.now ≡ None) }

@@ -37,7 +37,8 @@ fn place_of<F>(todo: &[Waiting<F>], perm: &Perm) -> Result<usize, usize>
     ensures place { MatchResult result
         (λ at. (at < length todo.now) × HasPermutation perm.now todo.now at)
         (λ at. at ≤ length todo.now) }
-    ensures absent { IfErr result (λ _. AreInOrder todo.now → ¬ Among perm.now (permutations todo.now)) }
+    ensures absent { IfErr result (λ _.
+        AreInOrder todo.now → ¬ Among perm.now (permutations todo.now)) }
     ensures gap { IfErr result (λ at. AreInOrder todo.now → IsGapFor perm.now todo.now at) }
 {
     todo.binary_search_by(|waiting| compare(&waiting.perm, perm))
