@@ -179,23 +179,28 @@ exchanged_meets shape inner inners at terms o listed there later w l =
         no_label terms parts (λ t k e. n (subst (λ (ν : List ℕ). Among ν (take at inners)) e (l.labels t k)))
         ∙ sym (ap pos (zero_unless_taken shape inner inners at parts o listed there later p few n))
 
--- the coefficient in the list of the other partition
-pub exchanged_term : (shape inner second : List ℕ) (list : Terms (List ℕ)) (c : ℤ) → IsPartition shape → IsPartition inner → IsPartition second → Holds shape inner → Holds shape second
-    → AreWhole list → IsCanonicalList printed_order is_label list → Meets (skew None false shape second) (answer product list) → c ≡ coefficient (numerators list) inner
-    → c ≡ pos (skew_count shape inner second)
-exchanged_term shape inner second list c o i s h k w canonical meets e =
+-- the coefficients of a list are counts
+pub listed_count : (shape second inner : List ℕ) (list : Terms (List ℕ)) → IsPartition shape → IsPartition inner → IsPartition second → Holds shape second
+    → AreWhole list → IsCanonicalList printed_order is_label list → Meets (skew None false shape second) (answer product list)
+    → coefficient (numerators list) inner ≡ pos (skew_count shape second inner)
+listed_count shape second inner list o i s k w canonical meets =
     let n = rows inner in
-    let holds = contains-from shape inner h in
-    let has = contains-from shape second k in
-    e
-    ∙ listed_coefficient n (numerators list) (skew_schur shape second n) inner labels (sum_of_terms (λ (label : List ℕ). schur label n) list (skew_schur shape second n) w (meets n)) i (omega arith)
-    ∙ skew_coefficients n shape second inner o s has i (omega arith)
-    ∙ ap pos (skew_exchanged shape second inner o s i has holds)
+    listed_coefficient n (numerators list) (skew_schur shape second n) inner labels (sum_of_terms (λ (label : List ℕ). schur label n) list (skew_schur shape second n) w (meets n)) i (omega arith)
+    ∙ skew_coefficients n shape second inner o s (contains-from shape second k) i (omega arith)
   where
     labels : (t : Term) → Among t (numerators list) → IsPartition t.0
     labels t m =
         let u = Among_from_map (λ (v : List ℕ × Fraction). (v.0, v.1.0)) t list m in
         subst IsPartition (sym (ap (λ (v : Term). v.0) u.2)) (label_in list canonical u.0 u.1)
+
+-- the coefficient in the list of the other partition
+pub exchanged_term : (shape inner second : List ℕ) (list : Terms (List ℕ)) (c : ℤ) → IsPartition shape → IsPartition inner → IsPartition second → Holds shape inner → Holds shape second
+    → AreWhole list → IsCanonicalList printed_order is_label list → Meets (skew None false shape second) (answer product list) → c ≡ coefficient (numerators list) inner
+    → c ≡ pos (skew_count shape inner second)
+exchanged_term shape inner second list c o i s h k w canonical meets e =
+    e
+    ∙ listed_count shape second inner list o i s k w canonical meets
+    ∙ ap pos (skew_exchanged shape second inner o s i (contains-from shape second k) (contains-from shape inner h))
 
 -- ---- coefficients past the limit
 

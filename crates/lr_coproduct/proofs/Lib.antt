@@ -1,6 +1,7 @@
 mod Prefixes
 mod InnerLists
 mod OrderedPairs
+mod PairCounts
 mod SortedShapes
 mod Answering
 mod ExchangedCounts

@@ -1,8 +1,10 @@
 //! The coproduct of a Schur polynomial.
-ghost use Rattle.std.specs.Prelude.{◌≡◌, ℕ, ◌+◌, List, ◌⊎◌, true, false, None, length, IfOk, OnOk, IsErrOf};
+ghost use Rattle.std.specs.Prelude.{◌≡◌, ℕ, ◌+◌, pos, List, ◌⊎◌, true, false, None, length, IfOk, OnOk, IsErrOf};
 ghost use Rattle.coeff_rings.specs.Fractions.{whole};
 ghost use Rattle.sym_model.specs.Sum.{Among};
+ghost use Rattle.sym_model.specs.GoodTableau.{skew_count};
 ghost use Rattle.sym_model.specs.LabelLimits.{is_label, is_pair_label};
+ghost use Rattle.sym_model.specs.Partition.{IsPartition};
 ghost use Rattle.sym_model.specs.Polynomial.{Same, plus};
 ghost use Rattle.sym_model.specs.PrintedOrder.{pair_order};
 ghost use Rattle.sym_model.specs.Schur.{schur, skew_schur};
@@ -15,7 +17,7 @@ ghost use Rattle.sym_model.specs.LargeAnswer.{HasPastCoefficient};
 ghost use Rattle.sparse_polys.specs.Combination.{terms_of, IsCanonicalList};
 ghost use Rattle.lr_coproduct.specs.InnerShapeList.{ListsShapesInside, IsAt};
 ghost use Rattle.lr_coproduct.specs.SkewLists.{HaveSkewLists};
-ghost use Rattle.lr_coproduct.specs.PairTerms.{pair_sum, AreBefore};
+ghost use Rattle.lr_coproduct.specs.PairTerms.{pair_sum, pair_coefficient, HavePairCounts, AreBefore};
 
 use crate::exchange::exchanged;
 use crate::inner_shapes::inner_shapes;
@@ -27,11 +29,13 @@ use partitions::Partition;
 use sparse_polys::{Pair, Terms};
 use std::alloc::Global;
 
-/// The Schur polynomial of `shape` in two sets of variables, as pairs of Schur polynomials of the first and of the second.
+/// The Schur polynomial of `shape` in two sets of variables, as pairs of Schur polynomials of the first and of the second. The
+/// coefficient of a pair is the number of lattice tableaux of the shape by the first partition with the second as content.
 ///
 /// It is refused as `Large` exactly where a coefficient is past 2^127 - 1.
 pub fn coprod(alloc: Global, shape: &Partition) -> Result<Terms<Pair, Int>, SumFault>
     ensures meets { IfOk result (λ terms. Meets (commands.coprod shape.now) (answer kinds.pairs terms)) }
+    ensures counts { IfOk result (HavePairCounts shape.now) }
     ensures large { IsErrOf result SumFault.Large → HasPastCoefficient (commands.coprod shape.now) }
     ensures fits { OnOk result (HasPastCoefficient (commands.coprod shape.now) → ⊥) }
 {
@@ -71,6 +75,11 @@ fn add_inner(
         → IsCanonicalList pair_order is_pair_label (terms_of whole pairs.new.items)) }
     ensures firsts { OnOk result ((t : (List ℕ × List ℕ) × Fraction) → Among t (terms_of whole pairs.new.items)
         → Among t (terms_of whole pairs.old.items) ⊎ (t.0.0 ≡ inner.now)) }
+    ensures counts { OnOk result (IsPartition shape.now → AreBefore (terms_of whole pairs.old.items) inner.now
+        → (second : List ℕ) → IsPartition second
+        → pair_coefficient (terms_of whole pairs.new.items) inner.now second ≡ pos (skew_count shape.now inner.now second)) }
+    ensures others { OnOk result ((first second : List ℕ) → (inner.now ≡ first → ⊥)
+        → pair_coefficient (terms_of whole pairs.new.items) first second ≡ pair_coefficient (terms_of whole pairs.old.items) first second) }
     ensures count { OnOk result (length lists.new.items ≡ length lists.old.items + 1) }
     ensures lists { OnOk result (HaveSkewLists shape.now inners.now lists.new.items) }
     ensures fits { OnOk result (HasPastCoefficient (commands.skew None false shape.now inner.now) → ⊥) }

@@ -1,6 +1,6 @@
 -- The classical product as a list of terms: its labels, and its weight.
 --     canonical_once      a canonical list has each label once
---     classical_labels    the labels of the classical product are partitions with few rows
+--     classical_sizes     the labels of the classical product are partitions of its degree with few rows
 --     classical_long_left, classical_long_right    it is empty where a factor has more rows than there are variables
 --     weight_within       its weight is at least that of a canonical list with its coefficients
 use Rattle.std.proofs.Common.{◌≡◌, ℕ, ◌<◌, ◌≤◌, cond, inl, inr, Bool, nat_le, nat_lt, List, [], ◌∷◌, map, refl, sym, ◌∙◌, ap, subst, ℤ, pos}
@@ -58,11 +58,6 @@ from_product k d f t m =
     let e : t.0 ≡ b.0 = ap (λ (u : List ℕ × ℤ). u.0) b.2 in
     let p = partitions_of-tells d b.0 c.0 in
     (subst IsPartition (sym e) p.0, subst (λ parts. rows parts ≤ k) (sym e) (leb-true (rows b.0) k c.1), ap size e ∙ p.1)
-
-pub classical_labels : (k : ℕ) (factors : List (List ℕ)) → EachLabel (λ shape. IsPartition shape × (rows shape ≤ k)) (classical_product k factors)
-classical_labels k factors =
-    each_label (λ shape. IsPartition shape × (rows shape ≤ k)) (classical_product k factors)
-    (λ t m. let p = from_product k (size (map size factors)) (λ parts. schur_coefficient k parts (schur_product factors k)) t m in (p.0, p.1))
 
 pub classical_sizes : (k : ℕ) (factors : List (List ℕ)) → EachLabel (λ shape. IsPartition shape × (rows shape ≤ k) × (size shape ≡ size (map size factors))) (classical_product k factors)
 classical_sizes k factors =

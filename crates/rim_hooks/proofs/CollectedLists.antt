@@ -1,16 +1,14 @@
--- Collected lists: those of tables, and one for every list of terms.
+-- Collected lists, as those of tables are.
 --     collected_table     the terms of a table are collected
 --     table_once          and have each label once
 --     table_read          they have the coefficients that the table collects
 --     label_there         a label with a coefficient stands in every list with the same coefficients
---     gathered            the list with equal labels put together, and its coefficients
-use Rattle.std.proofs.Common.{◌≡◌, ◌⊎◌, zero, suc, ◌≤◌, ◌&&◌, Bool, true, false, cond, nat_lt, [], ◌∷◌, ◌++◌, map, refl, sym, ◌∙◌, ap, subst, inl, inr, arith, ℤ, pos, negsuc, ◌+ℤ◌}
+use Rattle.std.proofs.Common.{◌≡◌, ◌⊎◌, ◌≤◌, ◌&&◌, Bool, true, false, cond, nat_lt, [], ◌∷◌, ◌++◌, map, refl, sym, ◌∙◌, ap, subst, inl, inr, arith, ℤ, pos, ◌+ℤ◌}
 use Rattle.std.specs.Prelude.{nat_abs}
 use Rattle.std.specs.List.{IsDistinct, AllByRecursion}
 use Rattle.std.specs.Map.{keys_of}
 use Rattle.std.proofs.lemmas.Bool.{and_parts, both_ways}
 use Rattle.std.proofs.lemmas.Bool.Decides.{nat_tests}
-use Rattle.std.proofs.lemmas.Int.{ints}
 use Rattle.std.proofs.lemmas.Map.Keys.{IsDistinct-head, IsDistinct-tail}
 use Rattle.std.proofs.Math.IntN.{+ℤ_idl, +ℤ_idr}
 use Rattle.sym_model.specs.Canonical.{is_reduced}
@@ -159,98 +157,3 @@ each_from P (t ∷ terms) h = (h t (inl refl), each_from P terms (λ u m. h u (i
 
 pub numerator_among : {L : Type 0} (t : L × Fraction) (terms : Terms L) → Among t terms → Among (t.0, t.1.0) (numerators terms)
 numerator_among {L} t terms m = Among-map (λ (u : L × Fraction). let pair : L × ℤ = (u.0, u.1.0) in pair) t terms m
-
--- ---- lists of terms
-
-module _ {L : Type 0} (test : L → L → Bool) (test_true : (a b : L) → test a b ≡ true → a ≡ b) (test_self : (a : L) → test a a ≡ true) where
-  -- the term in front, where it is not 0
-  abbrev kept : L → ℤ → WholeTermsOf L → WholeTermsOf L
-  kept label (pos zero) xs = xs
-  kept label (pos (suc n)) xs = (label, pos (suc n)) ∷ xs
-  kept label (negsuc n) xs = (label, negsuc n) ∷ xs
-
-  -- the term added to the one with its label
-  abbrev put : L → ℤ → WholeTermsOf L → WholeTermsOf L
-  put label c [] = kept label c []
-  put label c (x ∷ xs) = cond (test x.0 label) (kept x.0 (x.1 +ℤ c) xs) (x ∷ put label c xs)
-
-  abbrev pub gathered : WholeTermsOf L → WholeTermsOf L
-  gathered [] = []
-  gathered (x ∷ xs) = put x.0 x.1 (gathered xs)
-
-  -- its coefficients
-
-  coefficient-kept : (label : L) (c : ℤ) (xs : WholeTermsOf L) (other : L) → coefficient_by test (kept label c xs) other ≡ cond (test label other) c (pos 0) +ℤ coefficient_by test xs other
-  coefficient-kept label (pos zero) xs other = by (test label other)
-    where
-      by : (b : Bool) → coefficient_by test xs other ≡ cond b (pos 0) (pos 0) +ℤ coefficient_by test xs other
-      by true = sym (+ℤ_idl (coefficient_by test xs other))
-      by false = sym (+ℤ_idl (coefficient_by test xs other))
-  coefficient-kept label (pos (suc n)) xs other = refl
-  coefficient-kept label (negsuc n) xs other = refl
-
-  coefficient-put : (label : L) (c : ℤ) (xs : WholeTermsOf L) (other : L) → coefficient_by test (put label c xs) other ≡ cond (test label other) c (pos 0) +ℤ coefficient_by test xs other
-  coefficient-put label c [] other = coefficient-kept label c [] other
-  coefficient-put label c (x ∷ xs) other = by (test x.0 label) refl (coefficient-put label c xs other)
-    where
-      joined : (b : Bool) (y z r : ℤ) → cond b (y +ℤ z) (pos 0) +ℤ r ≡ cond b z (pos 0) +ℤ (cond b y (pos 0) +ℤ r)
-      joined true y z r = omega (arith, ints)
-      joined false y z r = omega (arith, ints)
-
-      moved : (a b r : ℤ) → a +ℤ (b +ℤ r) ≡ b +ℤ (a +ℤ r)
-      moved a b r = omega (arith, ints)
-
-      by : (b : Bool) → test x.0 label ≡ b → coefficient_by test (put label c xs) other ≡ cond (test label other) c (pos 0) +ℤ coefficient_by test xs other
-          → coefficient_by test (cond b (kept x.0 (x.1 +ℤ c) xs) (x ∷ put label c xs)) other
-          ≡ cond (test label other) c (pos 0) +ℤ (cond (test x.0 other) x.1 (pos 0) +ℤ coefficient_by test xs other)
-      by true e r =
-          coefficient-kept x.0 (x.1 +ℤ c) xs other
-          ∙ joined (test x.0 other) x.1 c (coefficient_by test xs other)
-          ∙ ap (λ (l : L). cond (test l other) c (pos 0) +ℤ (cond (test x.0 other) x.1 (pos 0) +ℤ coefficient_by test xs other)) (test_true x.0 label e)
-      by false e r =
-          ap (λ z. cond (test x.0 other) x.1 (pos 0) +ℤ z) r
-          ∙ moved (cond (test x.0 other) x.1 (pos 0)) (cond (test label other) c (pos 0)) (coefficient_by test xs other)
-
-  pub coefficient-gathered : (xs : WholeTermsOf L) (other : L) → coefficient_by test (gathered xs) other ≡ coefficient_by test xs other
-  coefficient-gathered [] other = refl
-  coefficient-gathered (x ∷ xs) other = coefficient-put x.0 x.1 (gathered xs) other ∙ ap (λ z. cond (test x.0 other) x.1 (pos 0) +ℤ z) (coefficient-gathered xs other)
-
-  -- it is collected
-
-  collected-kept : (label : L) (c : ℤ) (xs : WholeTermsOf L) → ((u : L × ℤ) → Among u xs → test label u.0 ≡ false) → AreCollected test xs → AreCollected test (kept label c xs)
-  collected-kept label (pos zero) xs apart h = h
-  collected-kept label (pos (suc n)) xs apart h = ((λ e. absurd (omega (arith, ints))), apart, h)
-  collected-kept label (negsuc n) xs apart h = ((λ e. absurd (omega (arith, ints))), apart, h)
-
-  among-kept : (label : L) (c : ℤ) (xs : WholeTermsOf L) (u : L × ℤ) → Among u (kept label c xs) → (u.0 ≡ label) ⊎ Among u xs
-  among-kept label (pos zero) xs u m = inr m
-  among-kept label (pos (suc n)) xs u (inl e) = inl (ap (λ (v : L × ℤ). v.0) e)
-  among-kept label (pos (suc n)) xs u (inr m) = inr m
-  among-kept label (negsuc n) xs u (inl e) = inl (ap (λ (v : L × ℤ). v.0) e)
-  among-kept label (negsuc n) xs u (inr m) = inr m
-
-  -- the labels of the list with a term put into it are that of the term and its own
-  among-put : (label : L) (c : ℤ) (xs : WholeTermsOf L) (u : L × ℤ) → Among u (put label c xs) → (u.0 ≡ label) ⊎ ((v : L × ℤ) × Among v xs × (u.0 ≡ v.0))
-  among-put label c [] u m = elim (among-kept label c [] u m) [ inl e ↦ inl e | inr n ↦ absurd n ]
-  among-put label c (x ∷ xs) u m = by (test x.0 label) (among-put label c xs u) m
-    where
-      by : (b : Bool) → (Among u (put label c xs) → (u.0 ≡ label) ⊎ ((v : L × ℤ) × Among v xs × (u.0 ≡ v.0))) → Among u (cond b (kept x.0 (x.1 +ℤ c) xs) (x ∷ put label c xs)) → (u.0 ≡ label) ⊎ ((v : L × ℤ) × Among v (x ∷ xs) × (u.0 ≡ v.0))
-      by true r m = elim (among-kept x.0 (x.1 +ℤ c) xs u m) [ inl e ↦ inr (x, inl refl, e) | inr n ↦ inr (u, inr n, refl) ]
-      by false r (inl e) = inr (x, inl refl, ap (λ (v : L × ℤ). v.0) e)
-      by false r (inr m) = elim (r m) [ inl e ↦ inl e | inr v ↦ inr (v.0, inr v.1, v.2) ]
-
-  collected-put : (label : L) (c : ℤ) (xs : WholeTermsOf L) → AreCollected test xs → AreCollected test (put label c xs)
-  collected-put label c [] h = collected-kept label c [] (λ u m. absurd m) tt
-  collected-put label c (x ∷ xs) h = by (test x.0 label) refl (collected-put label c xs h.2)
-    where
-      apart : test x.0 label ≡ false → (u : L × ℤ) → (u.0 ≡ label) ⊎ ((v : L × ℤ) × Among v xs × (u.0 ≡ v.0)) → test x.0 u.0 ≡ false
-      apart e u (inl d) = ap (test x.0) d ∙ e
-      apart e u (inr v) = ap (test x.0) v.2 ∙ h.1 v.0 v.1
-
-      by : (b : Bool) → test x.0 label ≡ b → AreCollected test (put label c xs) → AreCollected test (cond b (kept x.0 (x.1 +ℤ c) xs) (x ∷ put label c xs))
-      by true e r = collected-kept x.0 (x.1 +ℤ c) xs h.1 h.2
-      by false e r = (h.0, (λ u m. apart e u (among-put label c xs u m)), r)
-
-  pub collected-gathered : (xs : WholeTermsOf L) → AreCollected test (gathered xs)
-  collected-gathered [] = tt
-  collected-gathered (x ∷ xs) = collected-put x.0 x.1 (gathered xs) (collected-gathered xs)

@@ -2,12 +2,10 @@
 --     collects-more       one term more
 --     refused_product     a sign times a coefficient that does not fit
 --     refused_sum         a sum that does not fit
-use Rattle.std.proofs.Common.{◌≡◌, ◌+◌, ◌^◌, ◌≤◌, inl, inr, Bool, true, false, cond, [], ◌∷◌, ◌++◌, refl, sym, ◌∙◌, ap, subst, arith, ℤ, pos, negsuc, ◌+ℤ◌, ◌*ℤ◌, FitsSigned, to_z, of_z, w8}
+use Rattle.std.proofs.Common.{◌≡◌, ◌+◌, ◌^◌, ◌≤◌, inl, inr, Bool, true, false, cond, [], ◌∷◌, ◌++◌, refl, sym, ◌∙◌, ap, subst, arith, ℤ, pos, ◌+ℤ◌, ◌*ℤ◌, FitsSigned, to_z, of_z, w8}
 use Rattle.std.specs.Prelude.{nat_abs}
 use Rattle.std.specs.Int.{w128}
-use Rattle.std.proofs.lemmas.Bool.Decides.{nat_tests}
 use Rattle.std.proofs.Math.IntN.{+ℤ_idr}
-use Rattle.sym_model.specs.Canonical.{fits_128_bits}
 use Rattle.sym_model.specs.Expansion.{Terms, Fraction}
 use Rattle.sym_model.specs.WholeTerms.{WholeTermsOf, coefficient_by, absolute_total}
 use Rattle.sym_model.proofs.Sums.{total_append}

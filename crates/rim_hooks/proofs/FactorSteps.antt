@@ -1,5 +1,4 @@
 -- Steps from factor to factor, whatever a step is.
---     last_changed        the last list of the steps may be changed
 --     vanishes            where a factor has more than k rows, the steps can lead to 0
 --     factor_at           the factors from a place on
 --     lead_on, heavy_here, heavy_later    one step more in front
@@ -17,11 +16,6 @@ use Rattle.rim_hooks.specs.FactorRows.{HasLong, AreFew}
 use Rattle.rim_hooks.specs.HeavySteps.{HasHeavyStep}
 
 module _ {L : Type 0} (step : List ℕ → WholeTermsOf L → WholeTermsOf L → Type 0) where
-  pub last_changed : (last other : WholeTermsOf L) → ((factor : List ℕ) (terms : WholeTermsOf L) → step factor terms last → step factor terms other)
-      → (factors : List (List ℕ)) (factor : List ℕ) (start : WholeTermsOf L) → StepsLead step start (factor ∷ factors) last → StepsLead step start (factor ∷ factors) other
-  last_changed last other f [] factor start lead = (other, f factor start (subst (step factor start) lead.2 lead.1), refl)
-  last_changed last other f (next ∷ factors) factor start lead = (lead.0, lead.1, last_changed last other f factors next lead.0 lead.2)
-
   module _ (k : ℕ) (none : (factor : List ℕ) → step factor [] [])
       (long : (factor : List ℕ) (terms : WholeTermsOf L) → IsPartition factor → k < rows factor → step factor terms [])
       (some : (factor : List ℕ) (terms : WholeTermsOf L) → (next : WholeTermsOf L) × step factor terms next) where

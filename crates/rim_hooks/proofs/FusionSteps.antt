@@ -1,14 +1,13 @@
 -- The steps of a fusion product.
 --     fusion_step_table    what makes a step
 --     shapes_left          the shapes after a step have room
---     fusion_steps_meet    steps through all factors make the fusion product
---     fusion_none          where a factor has more than k rows, they can lead to 0
-use Rattle.std.proofs.Common.{◌≡◌, ◌⊎◌, ℕ, ◌+◌, ◌*◌, ◌^◌, ◌<◌, ◌≤◌, nat_le, Bool, true, cond, List, [], ◌∷◌, ◌++◌, map, length, drop, refl, sym, ◌∙◌, ap, subst, inl, inr, arith, append-nil, append_assoc, ℤ, pos, Option, Some, None}
+--     fusion_none          where a factor has more than k rows, steps can lead to 0
+use Rattle.std.proofs.Common.{◌≡◌, ◌⊎◌, ℕ, ◌+◌, ◌*◌, ◌^◌, ◌<◌, ◌≤◌, nat_le, Bool, true, cond, List, [], ◌∷◌, ◌++◌, map, length, drop, refl, sym, ◌∙◌, ap, subst, inl, inr, arith, append-nil, ℤ, pos, Option, Some, None}
 use Rattle.std.specs.Prelude.{nat_eq, slice_get}
 use Rattle.std.specs.Cmp.Lexicographic.{pointwise}
 use Rattle.std.proofs.lemmas.Bool.Decides.{nat_tests}
 use Rattle.sym_model.specs.Sum.{Among}
-use Rattle.sym_model.specs.Polynomial.{Same, same, coefficient, scale}
+use Rattle.sym_model.specs.Polynomial.{same, coefficient, scale}
 use Rattle.sym_model.specs.Partition.{IsPartition, size, rows}
 use Rattle.sym_model.specs.Alternant.{staircase}
 use Rattle.sym_model.specs.BetaList.{beta}
@@ -18,14 +17,13 @@ use Rattle.sym_model.specs.Expansion.{Terms}
 use Rattle.sym_model.specs.WholeTerms.{WholeTerms, numerators, EachLabel}
 use Rattle.sym_model.specs.Target.{classical_product, reflected_term, reflected_terms}
 use Rattle.sym_model.specs.ReductionSteps.{classical_weight, step_weight, IsFusionStep, StepsLead, IsReflectedInSteps}
-use Rattle.sym_model.proofs.Ring.{one-product}
-use Rattle.sym_model.proofs.Sums.{Among-append_left, Among-append_right}
 use Rattle.sym_model.proofs.Exponents.{same_refl, same_true}
 use Rattle.beta_list_laws.proofs.BetaLists.{beta_strict, length-beta, rows-from_beta, size-from_beta, size-beta}
 use Rattle.beta_list_laws.proofs.Windows.{length-end}
 use Rattle.beta_list_laws.proofs.AlcoveEnds.{Reduced, alcove_reduced}
 use Rattle.product_laws.specs.FactorSteps.{ArePartitions, fused}
-use Rattle.product_laws.proofs.Fusion.{fusion_step}
+use Rattle.product_laws.proofs.FusionSteps.{fusion_step_some}
+use Rattle.product_laws.proofs.LeadingSteps.{last_changed}
 use Rattle.sparse_polys.specs.Combination.{IsCombination, HasSameCoefficients}
 use Rattle.sparse_polys.specs.Labels.{same_partition}
 use Rattle.sparse_polys.proofs.Accumulating.{at_same}
@@ -34,8 +32,8 @@ use Rattle.rim_hooks.specs.Collected.{Collects}
 use Rattle.rim_hooks.specs.FactorRows.{AreFew, HasLong, HaveShapeRoom}
 use Rattle.rim_hooks.specs.HeavySteps.{HasHeavyShapes, IsHeavyFusion}
 use Rattle.rim_hooks.proofs.ClassicalLists.{classical_sizes, classical_long_left, classical_long_right}
-use Rattle.rim_hooks.proofs.CollectedLists.{collected_table, table_read, same_read, label_there, each_append, each_among, each_from, numerator_among, gathered, coefficient-gathered, collected-gathered}
-use Rattle.rim_hooks.proofs.FactorSteps.{last_changed, none_stays, vanishes, factor_at}
+use Rattle.rim_hooks.proofs.CollectedLists.{collected_table, table_read, same_read, label_there, each_append, each_among, each_from, numerator_among}
+use Rattle.rim_hooks.proofs.FactorSteps.{none_stays, vanishes, factor_at}
 
 -- ---- one step
 
@@ -147,48 +145,6 @@ shapes_room_next k n at factors factor terms next g e h c t =
     shapes_left k n (cells_of (drop (at + 1) factors)) factor (numerators terms) next g
     (shapes_table k (size factor + cells_of (drop (at + 1) factors)) terms (room_here k at factors factor terms e h)) c t
 
--- ---- all steps
-
-pub are_front : (front back : List (List ℕ)) → ArePartitions (front ++ back) → ArePartitions front
-are_front front back p parts m = p parts (Among-append_left parts front back m)
-
-later_steps : (k n : ℕ) (front factors : List (List ℕ)) (terms last : WholeTerms) → 1 ≤ n → ArePartitions (front ++ factors)
-    → Same terms (reflected_terms k n (classical_product k front)) → StepsLead (IsFusionStep k n) terms factors last
-    → Same last (reflected_terms k n (classical_product k (front ++ factors)))
-later_steps k n front [] terms last h p e lead label =
-    ap (λ (l : WholeTerms). coefficient l label) (sym lead)
-    ∙ e label
-    ∙ ap (λ (l : List (List ℕ)). coefficient (reflected_terms k n (classical_product k l)) label) (sym (append-nil front))
-later_steps k n front (factor ∷ factors) terms last h p e lead label =
-    let whole : (front ++ (factor ∷ [])) ++ factors ≡ front ++ (factor ∷ factors) = append_assoc front (factor ∷ []) factors in
-    let q : ArePartitions ((front ++ (factor ∷ [])) ++ factors) = subst ArePartitions (sym whole) p in
-    later_steps k n (front ++ (factor ∷ [])) factors lead.0 last h q
-    (λ l.
-    lead.1.sums l
-    ∙ fusion_step k n front factor terms h (are_front front (factor ∷ factors) p) (p factor (Among-append_right factor front (factor ∷ factors) (inl refl))) e l)
-    lead.2 label
-    ∙ ap (λ (l : List (List ℕ)). coefficient (reflected_terms k n (classical_product k l)) label) whole
-
--- a list times 1
-scale_one : (xs : WholeTerms) → scale (pos 1) xs ≡ xs
-scale_one [] = refl
-scale_one (x ∷ xs) =
-    let term : ℤ → WholeTerms → WholeTerms = λ c l. (x.0, c) ∷ l in
-    ap (λ c. term c (scale (pos 1) xs)) (one-product x.1) ∙ ap (term x.1) (scale_one xs)
-
-first_step : (k n : ℕ) (first second : List ℕ) → fused k n second ((first, pos 1) ∷ []) ≡ reflected_terms k n (classical_product k (first ∷ second ∷ []))
-first_step k n first second =
-    append-nil (scale (pos 1) (reflected_terms k n (classical_product k (first ∷ second ∷ [])))) ∙ scale_one (reflected_terms k n (classical_product k (first ∷ second ∷ [])))
-
-pub fusion_steps_meet : (k n : ℕ) (factors : List (List ℕ)) (terms : WholeTerms) → 1 ≤ n → 2 ≤ length factors → ArePartitions factors
-    → IsReflectedInSteps k n factors terms → Same terms (reflected_terms k n (classical_product k factors))
-fusion_steps_meet k n [] terms h l p s = absurd (omega arith)
-fusion_steps_meet k n (first ∷ []) terms h l p s = absurd (omega arith)
-fusion_steps_meet k n (first ∷ second ∷ factors) terms h l p s =
-    later_steps k n (first ∷ second ∷ []) factors s.0 terms h p
-    (λ label. s.1.sums label ∙ ap (λ (xs : WholeTerms). coefficient xs label) (first_step k n first second))
-    s.2
-
 -- ---- the product 0
 
 step_none : (k n : ℕ) (factor : List ℕ) → IsFusionStep k n factor [] []
@@ -206,15 +162,6 @@ step_long k n factor terms p l = record {
   sums = λ label. ap (λ (xs : WholeTerms). coefficient xs label) (sym (nothing_fused k n factor terms p l));
 }
 
-step_some : (k n : ℕ) (factor : List ℕ) (terms : WholeTerms) → (next : WholeTerms) × IsFusionStep k n factor terms next
-step_some k n factor terms = (
-  gathered same same_true same_refl (fused k n factor terms),
-  record {
-    collected = collected-gathered same same_true same_refl (fused k n factor terms);
-    sums = coefficient-gathered same same_true same_refl (fused k n factor terms);
-  },
-)
-
 pub fusion_none : (k n : ℕ) (factors : List (List ℕ)) → 2 ≤ length factors → ArePartitions factors → HasLong k factors → IsReflectedInSteps k n factors []
 fusion_none k n [] l p g = absurd (omega arith)
 fusion_none k n (first ∷ []) l p g = absurd (omega arith)
@@ -228,9 +175,9 @@ fusion_none k n (first ∷ second ∷ factors) l p g = by g.1
           sums = λ label.
               ap (λ (xs : WholeTerms). coefficient (scale (pos 1) (reflected_terms k n xs) ++ []) label) (sym (classical_long_left k first second (p first (inl refl)) long));
         } in
-        ([], made, none_stays (IsFusionStep k n) k (step_none k n) (step_long k n) (step_some k n) factors)
+        ([], made, none_stays (IsFusionStep k n) k (step_none k n) (step_long k n) (fusion_step_some k n) factors)
     by (inr m) =
-        vanishes (IsFusionStep k n) k (step_none k n) (step_long k n) (step_some k n) (second ∷ factors) ((first, pos 1) ∷ [])
+        vanishes (IsFusionStep k n) k (step_none k n) (step_long k n) (fusion_step_some k n) (second ∷ factors) ((first, pos 1) ∷ [])
         (λ parts q. p parts (inr q)) (g.0, m, g.2)
 
 -- ---- the last list, sorted

@@ -1,10 +1,8 @@
 -- The steps of a quantum product.
---     quantum_step_made    what makes a step
---     quantum_step_is      and what a step makes
+--     quantum_step_table   what makes a step
 --     room_left            the shapes after a step have room
---     quantum_steps_meet   steps through all factors make the quantum product
---     quantum_none         where a factor has more than k rows, they can lead to 0
-use Rattle.std.proofs.Common.{◌≡◌, ◌⊎◌, ℕ, ◌+◌, ◌*◌, ◌^◌, ◌<◌, ◌≤◌, List, [], ◌∷◌, ◌++◌, map, length, drop, refl, sym, ◌∙◌, ap, ap₂, subst, inl, inr, arith, append-nil, append_assoc, ℤ, pos, Some, None}
+--     quantum_none         where a factor has more than k rows, steps can lead to 0
+use Rattle.std.proofs.Common.{◌≡◌, ◌⊎◌, ℕ, ◌+◌, ◌*◌, ◌^◌, ◌<◌, ◌≤◌, List, [], ◌∷◌, ◌++◌, map, length, drop, refl, sym, ◌∙◌, ap, subst, inl, inr, arith, append-nil, ℤ, pos, Some, None}
 use Rattle.std.specs.Prelude.{slice_get}
 use Rattle.std.proofs.Math.Nat.{mul-le-mul_left}
 use Rattle.sym_model.specs.Sum.{Among}
@@ -13,77 +11,24 @@ use Rattle.sym_model.specs.LabelLimits.{is_power_label}
 use Rattle.sym_model.specs.Expansion.{Terms}
 use Rattle.sym_model.specs.WholeTerms.{WholeTerms, coefficient_by, same_power, numerators, EachLabel}
 use Rattle.sym_model.specs.RimHookReduction.{ReducesTo}
-use Rattle.sym_model.specs.Target.{Reduction, AreReductions, IsRimHookReduction, classical_product, reduced_terms}
-use Rattle.sym_model.specs.ReductionSteps.{classical_weight, shape_of, step_weight, AreCollected, ReduceEach, reduced_each, IsQuantumStep, StepsLead, IsReducedInSteps}
-use Rattle.sym_model.proofs.Ring.{one-product}
-use Rattle.sym_model.proofs.Sums.{Among-append_right}
+use Rattle.sym_model.specs.Target.{Reduction, classical_product, reduced_terms}
+use Rattle.sym_model.specs.ReductionSteps.{classical_weight, shape_of, step_weight, IsQuantumStep, StepsLead, IsReducedInSteps}
 use Rattle.beta_list_laws.specs.LowestList.{reduction_by_remainders}
 use Rattle.beta_list_laws.specs.ReductionLists.{reductions_of}
-use Rattle.beta_list_laws.proofs.Ends.{goes_cells, goes_rows, reduces_by_remainders, reduces_only}
-use Rattle.beta_list_laws.proofs.ReducedSums.{are_reductions}
+use Rattle.beta_list_laws.proofs.Ends.{goes_cells, goes_rows, reduces_by_remainders}
 use Rattle.product_laws.specs.FactorSteps.{ArePartitions, raised, reduced_product, quantized}
-use Rattle.product_laws.proofs.Quantum.{quantum_step}
+use Rattle.product_laws.proofs.QuantumSteps.{power_true, power_self, quantum_step_made, quantum_step_some}
+use Rattle.product_laws.proofs.LeadingSteps.{last_changed}
 use Rattle.sparse_polys.specs.Combination.{IsCombination, HasSameCoefficients}
 use Rattle.partitions.specs.FactorList.{cells_of}
 use Rattle.rim_hooks.specs.Collected.{Collects}
 use Rattle.rim_hooks.specs.FactorRows.{AreFew, HasLong, HaveRoom}
 use Rattle.rim_hooks.specs.HeavySteps.{HasHeavyPowers, IsHeavyQuantum}
 use Rattle.rim_hooks.specs.ReducedLists.{PowerTerms, reduced_list, same_power_label}
-use Rattle.rim_hooks.proofs.Reducing.{equal_power, power_label_self, power_true, power_self}
-use Rattle.rim_hooks.proofs.ClassicalLists.{classical_labels, classical_sizes, classical_long_left, classical_long_right}
-use Rattle.rim_hooks.proofs.CollectedLists.{collected_table, table_read, same_read, label_there, each_append, each_among, each_from, numerator_among, gathered, coefficient-gathered, collected-gathered}
-use Rattle.rim_hooks.proofs.FactorSteps.{last_changed, none_stays, vanishes, factor_at}
-use Rattle.rim_hooks.proofs.FusionSteps.{are_front}
-
--- ---- reductions at each term
-
-abbrev reductions_each : ℕ → ℕ → List ℕ → PowerTerms → List (List Reduction)
-reductions_each k n factor terms = map (λ (t : (ℕ × List ℕ) × ℤ). reductions_of k n (classical_product k (t.0.1 ∷ factor ∷ []))) terms
-
-reduce_each : (k n : ℕ) (factor : List ℕ) (terms : PowerTerms) → 1 ≤ n → ReduceEach k n factor terms (reductions_each k n factor terms)
-reduce_each k n factor [] h = tt
-reduce_each k n factor (t ∷ terms) h =
-    (are_reductions k n (classical_product k (t.0.1 ∷ factor ∷ [])) h (classical_labels k (t.0.1 ∷ factor ∷ [])), reduce_each k n factor terms h)
-
-reduced_each-quantized : (k n : ℕ) (factor : List ℕ) (terms : PowerTerms) → reduced_each k factor terms (reductions_each k n factor terms) ≡ quantized k n factor terms
-reduced_each-quantized k n factor [] = refl
-reduced_each-quantized k n factor (t ∷ terms) =
-    ap (λ (l : PowerTerms). raised t.0.0 t.1 (reduced_product k n (t.0.1 ∷ factor ∷ [])) ++ l) (reduced_each-quantized k n factor terms)
-
--- reductions of labels are the reductions by remainders
-are_only : (k n : ℕ) (terms : WholeTerms) (reductions : List Reduction) → 1 ≤ n → EachLabel (λ shape. IsPartition shape × (rows shape ≤ k)) terms
-    → AreReductions k n terms reductions → reductions ≡ reductions_of k n terms
-are_only k n [] [] h p a = refl
-are_only k n [] (r ∷ reductions) h p a = absurd a
-are_only k n (t ∷ terms) [] h p a = absurd a
-are_only k n (t ∷ terms) (r ∷ reductions) h p a = ap₂ ◌∷◌ (reduces_only k n t.0 r h p.0.0 a.0) (are_only k n terms reductions h p.1 a.1)
-
-each_only : (k n : ℕ) (factor : List ℕ) (terms : PowerTerms) (reductions : List (List Reduction)) → 1 ≤ n → ReduceEach k n factor terms reductions
-    → reductions ≡ reductions_each k n factor terms
-each_only k n factor [] [] h a = refl
-each_only k n factor [] (r ∷ reductions) h a = absurd a
-each_only k n factor (t ∷ terms) [] h a = absurd a
-each_only k n factor (t ∷ terms) (r ∷ reductions) h a =
-    ap₂ ◌∷◌ (are_only k n (classical_product k (t.0.1 ∷ factor ∷ [])) r h (classical_labels k (t.0.1 ∷ factor ∷ [])) a.0) (each_only k n factor terms reductions h a.1)
-
--- ---- one step
-
-pub quantum_step_made : (k n : ℕ) (factor : List ℕ) (terms next : PowerTerms) → 1 ≤ n → AreCollected same_power next
-    → ((label : ℕ × List ℕ) → coefficient_by same_power next label ≡ coefficient_by same_power (quantized k n factor terms) label)
-    → IsQuantumStep k n factor terms next
-quantum_step_made k n factor terms next h c e = record {
-  reductions = reductions_each k n factor terms;
-  reduce = reduce_each k n factor terms h;
-  collected = c;
-  sums = λ label. e label ∙ ap (λ (l : PowerTerms). coefficient_by same_power l label) (sym (reduced_each-quantized k n factor terms));
-}
-
-pub quantum_step_is : (k n : ℕ) (factor : List ℕ) (terms next : PowerTerms) → 1 ≤ n → IsQuantumStep k n factor terms next
-    → (label : ℕ × List ℕ) → coefficient_by same_power next label ≡ coefficient_by same_power (quantized k n factor terms) label
-quantum_step_is k n factor terms next h s label =
-    s.sums label
-    ∙ ap (λ (r : List (List Reduction)). coefficient_by same_power (reduced_each k factor terms r) label) (each_only k n factor terms s.reductions h s.reduce)
-    ∙ ap (λ (l : PowerTerms). coefficient_by same_power l label) (reduced_each-quantized k n factor terms)
+use Rattle.rim_hooks.proofs.Reducing.{equal_power, power_label_self}
+use Rattle.rim_hooks.proofs.ClassicalLists.{classical_sizes, classical_long_left, classical_long_right}
+use Rattle.rim_hooks.proofs.CollectedLists.{collected_table, table_read, same_read, label_there, each_append, each_among, each_from, numerator_among}
+use Rattle.rim_hooks.proofs.FactorSteps.{none_stays, vanishes, factor_at}
 
 -- the table that collects the product with the factor
 pub quantum_step_table : (k n : ℕ) (factor : List ℕ) (terms : PowerTerms) (next : Terms (ℕ × List ℕ)) → 1 ≤ n
@@ -182,53 +127,6 @@ powers_room_next k n at factors factor terms next g e h c t =
     room_left k n (cells_of (drop (at + 1) factors)) factor (numerators terms) next g
     (room_table k (size factor + cells_of (drop (at + 1) factors)) terms (room_here k at factors factor terms e h)) c t
 
--- ---- all steps
-
-later_steps : (k n : ℕ) (front factors : List (List ℕ)) (terms last : PowerTerms) → 1 ≤ n → ArePartitions (front ++ factors)
-    → ((label : ℕ × List ℕ) → coefficient_by same_power terms label ≡ coefficient_by same_power (reduced_product k n front) label)
-    → StepsLead (IsQuantumStep k n) terms factors last
-    → (label : ℕ × List ℕ) → coefficient_by same_power last label ≡ coefficient_by same_power (reduced_product k n (front ++ factors)) label
-later_steps k n front [] terms last h p e lead label =
-    ap (λ (l : PowerTerms). coefficient_by same_power l label) (sym lead)
-    ∙ e label
-    ∙ ap (λ (l : List (List ℕ)). coefficient_by same_power (reduced_product k n l) label) (sym (append-nil front))
-later_steps k n front (factor ∷ factors) terms last h p e lead label =
-    let whole : (front ++ (factor ∷ [])) ++ factors ≡ front ++ (factor ∷ factors) = append_assoc front (factor ∷ []) factors in
-    let q : ArePartitions ((front ++ (factor ∷ [])) ++ factors) = subst ArePartitions (sym whole) p in
-    later_steps k n (front ++ (factor ∷ [])) factors lead.0 last h q
-    (λ l.
-    quantum_step_is k n factor terms lead.0 h lead.1 l
-    ∙ quantum_step k n front factor terms h (are_front front (factor ∷ factors) p) (p factor (Among-append_right factor front (factor ∷ factors) (inl refl))) e l)
-    lead.2 label
-    ∙ ap (λ (l : List (List ℕ)). coefficient_by same_power (reduced_product k n l) label) whole
-
--- a list that is not raised
-raised_itself : (xs : PowerTerms) → raised 0 (pos 1) xs ≡ xs
-raised_itself [] = refl
-raised_itself (x ∷ xs) =
-    let zero_more : 0 + x.0.0 ≡ x.0.0 = omega arith in
-    let term : ℕ → ℤ → (ℕ × List ℕ) × ℤ = λ p c. ((p, x.0.1), c) in
-    ap₂ ◌∷◌ (ap₂ term zero_more (one-product x.1)) (raised_itself xs)
-
-first_step : (k n : ℕ) (first second : List ℕ) → quantized k n second (((0, first), pos 1) ∷ []) ≡ reduced_product k n (first ∷ second ∷ [])
-first_step k n first second =
-    append-nil (raised 0 (pos 1) (reduced_product k n (first ∷ second ∷ []))) ∙ raised_itself (reduced_product k n (first ∷ second ∷ []))
-
-pub quantum_steps_meet : (k n : ℕ) (factors : List (List ℕ)) (terms : Terms (ℕ × List ℕ)) → 1 ≤ n → 2 ≤ length factors → ArePartitions factors
-    → IsReducedInSteps k n factors (numerators terms) → IsRimHookReduction k n (classical_product k factors) terms
-quantum_steps_meet k n [] terms h l p s = absurd (omega arith)
-quantum_steps_meet k n (first ∷ []) terms h l p s = absurd (omega arith)
-quantum_steps_meet k n (first ∷ second ∷ factors) terms h l p s = record {
-  reductions = reductions_of k n (classical_product k (first ∷ second ∷ factors));
-  reduce = are_reductions k n (classical_product k (first ∷ second ∷ factors)) h (classical_labels k (first ∷ second ∷ factors));
-  sums =
-      later_steps k n (first ∷ second ∷ []) factors s.0 (numerators terms) h p
-      (λ label.
-      quantum_step_is k n second (((0, first), pos 1) ∷ []) s.0 h s.1 label
-      ∙ ap (λ (xs : PowerTerms). coefficient_by same_power xs label) (first_step k n first second))
-      s.2;
-}
-
 -- ---- the product 0
 
 step_none : (k n : ℕ) → 1 ≤ n → (factor : List ℕ) → IsQuantumStep k n factor [] []
@@ -244,14 +142,6 @@ step_long : (k n : ℕ) → 1 ≤ n → (factor : List ℕ) (terms : PowerTerms)
 step_long k n h factor terms p l =
     quantum_step_made k n factor terms [] h tt (λ label. ap (λ (xs : PowerTerms). coefficient_by same_power xs label) (sym (nothing_quantized k n factor terms p l)))
 
-step_some : (k n : ℕ) → 1 ≤ n → (factor : List ℕ) (terms : PowerTerms) → (next : PowerTerms) × IsQuantumStep k n factor terms next
-step_some k n h factor terms =
-    let next = gathered same_power power_true power_self (quantized k n factor terms) in (
-      next,
-      quantum_step_made k n factor terms next h (collected-gathered same_power power_true power_self (quantized k n factor terms))
-          (coefficient-gathered same_power power_true power_self (quantized k n factor terms)),
-    )
-
 pub quantum_none : (k n : ℕ) (factors : List (List ℕ)) → 1 ≤ n → 2 ≤ length factors → ArePartitions factors → HasLong k factors → IsReducedInSteps k n factors []
 quantum_none k n [] h l p g = absurd (omega arith)
 quantum_none k n (first ∷ []) h l p g = absurd (omega arith)
@@ -265,9 +155,9 @@ quantum_none k n (first ∷ second ∷ factors) h l p g = by g.1
         (λ label.
         ap (λ (xs : WholeTerms). coefficient_by same_power (raised 0 (pos 1) (reduced_terms xs (reductions_of k n xs)) ++ []) label)
         (sym (classical_long_left k first second (p first (inl refl)) long))) in
-        ([], made, none_stays (IsQuantumStep k n) k (step_none k n h) (step_long k n h) (step_some k n h) factors)
+        ([], made, none_stays (IsQuantumStep k n) k (step_none k n h) (step_long k n h) (quantum_step_some k n h) factors)
     by (inr m) =
-        vanishes (IsQuantumStep k n) k (step_none k n h) (step_long k n h) (step_some k n h) (second ∷ factors) (((0, first), pos 1) ∷ [])
+        vanishes (IsQuantumStep k n) k (step_none k n h) (step_long k n h) (quantum_step_some k n h) (second ∷ factors) (((0, first), pos 1) ∷ [])
         (λ parts q. p parts (inr q)) (g.0, m, g.2)
 
 -- ---- the last list, sorted

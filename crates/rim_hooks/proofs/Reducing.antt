@@ -14,10 +14,10 @@ use Rattle.sym_model.specs.Sum.{Among, Once}
 use Rattle.sym_model.specs.Partition.{columns}
 use Rattle.sym_model.specs.PlaceOrders.{minus_one_to}
 use Rattle.sym_model.specs.Expansion.{Terms, Fraction}
-use Rattle.sym_model.specs.WholeTerms.{WholeTerms, WholeTermsOf, coefficient_by, same_power, absolute_total, numerators}
+use Rattle.sym_model.specs.WholeTerms.{WholeTerms, WholeTermsOf, coefficient_by, absolute_total, numerators}
 use Rattle.sym_model.specs.Target.{Reduction, reduced_terms}
 use Rattle.sym_model.proofs.Sums.{total_ext}
-use Rattle.sym_model.proofs.Exponents.{same_refl, same_true, tests_agree}
+use Rattle.sym_model.proofs.Exponents.{tests_agree}
 use Rattle.coeff_rings.specs.Fractions.{whole}
 use Rattle.sparse_polys.specs.Combination.{coefficient, terms_of, HasSameCoefficients}
 use Rattle.sparse_polys.specs.Labels.{same_partition}
@@ -142,15 +142,6 @@ module _ {L : Type 0} (eq test : L → L → Bool) (eq_true : (a b : L) → eq a
       ∙ collected_same terms label
 
 -- ---- labels of both kinds
-
-pub power_true : (a b : ℕ × List ℕ) → same_power a b ≡ true → a ≡ b
-power_true a b e =
-    let p = and_parts _ _ e in
-    let pair : ℕ → List ℕ → ℕ × List ℕ = λ x y. (x, y) in
-    ap₂ pair (eqb-true a.0 b.0 p.0) (same_true a.1 b.1 p.1)
-
-pub power_self : (a : ℕ × List ℕ) → same_power a a ≡ true
-power_self a = and_from _ _ (eq-eqb a.0 a.0 refl) (same_refl a.1)
 
 pub equal_power : (a b : ℕ × List ℕ) → same_power_label a b ≡ true → a ≡ b
 equal_power a b h =

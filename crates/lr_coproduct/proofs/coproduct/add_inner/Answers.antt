@@ -1,3 +1,4 @@
+use Rattle.std.proofs.Common.{length, ◌∙◌}
 use Rattle.coeff_rings.specs.Fractions.{whole}
 use Rattle.sym_model.specs.Schur.{schur, skew_schur}
 use Rattle.sym_model.specs.Expansion.{beside}
@@ -5,7 +6,9 @@ use Rattle.sparse_polys.specs.Combination.{terms_of}
 use Rattle.lr_coproduct.specs.PairTerms.{pair_sum, second_sum}
 use Rattle.lr_coproduct.proofs.Answering.{second_is, plus_same}
 use Rattle.lr_coproduct.proofs.OrderedPairs.{sum_added, canonical_added, firsts_added}
-use Rattle.lr_coproduct.proofs.Exchanging.{lists_next}
+use Rattle.lr_coproduct.proofs.Exchanging.{lists_next, listed_count}
+use Rattle.lr_coproduct.proofs.Prefixes.{at_among}
+use Rattle.lr_coproduct.proofs.PairCounts.{count_here, count_kept}
 use Rattle.lr_coproduct.proofs.coproduct.add_inner.Goals as goal
 
 pub returns-in-Ok-add_list-clause-adds : goal.returns-in-Ok-add_list-clause-adds
@@ -29,3 +32,16 @@ pub returns-in-Ok-add_list-clause-lists : goal.returns-in-Ok-add_list-clause-lis
 returns-in-Ok-add_list-clause-lists c =
     lists_next c.args.shape.now c.args.inners.now c.args.lists.now.items c.add_list.new.lists.items c.args.inner.now c.in-Ok.list c.requires.here
     (record { meets = c.in-Ok.ensures.meets; fits = c.in-Ok.ensures.fits }) c.in-Ok-add_list.ensures.kept c.requires.lists
+
+pub returns-in-Ok-add_list-clause-counts : goal.returns-in-Ok-add_list-clause-counts
+returns-in-Ok-add_list-clause-counts c = λ o before second q.
+    let inner = c.args.inner.now in
+    let list = c.in-Ok.list in
+    let there = at_among c.args.inners.now (length c.args.lists.now.items) inner c.requires.here in
+    count_here inner second list (terms_of whole c.args.pairs.now.items) (terms_of whole c.add_list.new.pairs.items) c.in-Ok-add_list.ensures.adds before
+    ∙ listed_count c.args.shape.now inner second list o q (c.requires.listed.partitions inner there) (c.requires.listed.inside inner there)
+    c.add_list.ensures.whole c.add_list.ensures.canonical c.in-Ok.ensures.meets
+
+pub returns-in-Ok-add_list-clause-others : goal.returns-in-Ok-add_list-clause-others
+returns-in-Ok-add_list-clause-others c = λ first second other.
+    count_kept c.args.inner.now first second c.in-Ok.list (terms_of whole c.args.pairs.now.items) (terms_of whole c.add_list.new.pairs.items) c.in-Ok-add_list.ensures.adds other

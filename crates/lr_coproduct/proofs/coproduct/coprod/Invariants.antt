@@ -1,8 +1,10 @@
-use Rattle.std.proofs.Common.{◌≡◌, ℕ, List, length, take}
+use Rattle.std.proofs.Common.{◌≡◌, ℕ, List, length, take, pos}
 use Rattle.std.specs.Prelude.{None, false}
 use Rattle.coeff_rings.specs.Fractions.{whole}
 use Rattle.sym_model.specs.Sum.{Among, each}
+use Rattle.sym_model.specs.Partition.{IsPartition}
 use Rattle.sym_model.specs.Polynomial.{Same}
+use Rattle.sym_model.specs.GoodTableau.{skew_count}
 use Rattle.sym_model.specs.Schur.{schur, skew_schur}
 use Rattle.sym_model.specs.Expansion.{Fraction, beside}
 use Rattle.sym_model.specs.Command.{skew}
@@ -10,7 +12,7 @@ use Rattle.sym_model.specs.LabelLimits.{is_pair_label}
 use Rattle.sym_model.specs.LargeAnswer.{HasPastCoefficient}
 use Rattle.sym_model.specs.PrintedOrder.{pair_order}
 use Rattle.sparse_polys.specs.Combination.{terms_of, IsCanonicalList}
-use Rattle.lr_coproduct.specs.PairTerms.{pair_sum}
+use Rattle.lr_coproduct.specs.PairTerms.{pair_sum, pair_coefficient}
 use Rattle.lr_coproduct.specs.SkewLists.{HaveSkewLists}
 use Rattle.lr_coproduct.proofs.coproduct.coprod.Given as goal
 
@@ -22,5 +24,7 @@ invariant-loop-at l = record {
   adds : (n k : ℕ) → Same (pair_sum n k (terms_of whole l.pairs.items)) (each (λ inner. beside (schur inner n) (skew_schur l.shape inner k)) (take l.at l.inners.items));
   canonical : IsCanonicalList pair_order is_pair_label (terms_of whole l.pairs.items);
   firsts : (t : (List ℕ × List ℕ) × Fraction) → Among t (terms_of whole l.pairs.items) → Among t.0.0 (take l.at l.inners.items);
+  counts : (first : List ℕ) → Among first (take l.at l.inners.items) → (second : List ℕ) → IsPartition second
+      → pair_coefficient (terms_of whole l.pairs.items) first second ≡ pos (skew_count l.shape first second);
   fits : (inner : List ℕ) → Among inner (take l.at l.inners.items) → HasPastCoefficient (skew None false l.shape inner) → ⊥;
 }

@@ -2,7 +2,8 @@ use Rattle.std.proofs.Common.{◌+◌, refl, ap, arith}
 use Rattle.std.specs.Prelude.{Err}
 use Rattle.sym_model.specs.WholeTerms.{numerators}
 use Rattle.sparse_polys.proofs.Steps.{error_is}
-use Rattle.rim_hooks.proofs.FusionSteps.{fusion_steps_meet, fusion_sorted}
+use Rattle.product_laws.proofs.FusionSteps.{fusion_steps_meet}
+use Rattle.rim_hooks.proofs.FusionSteps.{fusion_sorted}
 use Rattle.rim_hooks.proofs.fusion_product.fusion.Goals as goal
 
 pub returns-in-Err-clause-large : goal.returns-in-Err-clause-large

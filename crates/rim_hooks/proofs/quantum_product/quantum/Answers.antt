@@ -1,7 +1,8 @@
 use Rattle.std.proofs.Common.{◌+◌, refl, ap, arith}
 use Rattle.std.specs.Prelude.{Err}
 use Rattle.sparse_polys.proofs.Steps.{error_is}
-use Rattle.rim_hooks.proofs.QuantumSteps.{quantum_steps_meet, quantum_sorted}
+use Rattle.product_laws.proofs.QuantumSteps.{quantum_steps_meet}
+use Rattle.rim_hooks.proofs.QuantumSteps.{quantum_sorted}
 use Rattle.rim_hooks.proofs.quantum_product.quantum.Goals as goal
 
 pub returns-in-Err-clause-large : goal.returns-in-Err-clause-large
