@@ -19,6 +19,7 @@ use Rattle.sym_model.specs.LabelLimits.{is_label}
 use Rattle.sym_model.proofs.CanonicalLists.{each_term-among}
 use Rattle.sym_model.proofs.Orders.{is_reduced-tells}
 use Rattle.sym_model.proofs.Exponents.{same_true, same_from, same_apart, same_or_not}
+use Rattle.monomial_laws.specs.ExpressionTerms.{over}
 use Rattle.monomial_laws.proofs.DividedTerms.{labels_of}
 use Rattle.sparse_polys.specs.MonomialProducts.{greatest_size}
 use Rattle.sparse_polys.proofs.Rows.{greatest_size-among}
@@ -104,6 +105,11 @@ greatest_is d terms within least =
     omega arith
 
 -- ---- the answer
+
+-- times a number that clears it
+pub absolute-over : (m : ℕ) (terms : Terms (List ℕ)) → absolute_total (over m terms) ≡ absolute_sum m terms
+absolute-over m [] = refl
+absolute-over m (t ∷ terms) = ap₂ ◌+◌ (unsigned_abs-mul t.1.0 (pos (m / t.1.1))) (absolute-over m terms)
 
 module _ (m d : ℕ) (es : Mixed) (answer : Terms (List ℕ)) (some : 0 < m) (is : IsTable answer) (q : Quotients m answer (converted_terms es)) where
   quotient : (t : List ℕ × Fraction) → Among t answer → t.1 ≡ lowest_terms (coefficient (converted_terms es) t.0) m

@@ -17,6 +17,7 @@ use Rattle.sym_model.proofs.Monomials.{total_exponent_lists-zero}
 use Rattle.sym_model.proofs.AfterLists.{after_among, after-last}
 use Rattle.monomial_laws.proofs.Powers.{In-product_over, In-power_sum_of}
 use Rattle.basis_change_laws.specs.AugmentedMonomial.{augmented}
+use Rattle.basis_change_laws.proofs.NewtonLists.{one-monomials, zeros_low}
 use Rattle.basis_change_laws.proofs.NewtonIdentities.{newton_complete, newton_elementary}
 use Rattle.basis_change.specs.declared.mixed.MixedLabel.{MixedLabel}
 use Rattle.basis_change.specs.declared.factors.Family.{Family}
@@ -67,18 +68,6 @@ each-last h k =
     each-append (y ∷ xs) x = ap (λ m. h y ++ m) (each-append xs x) ∙ assoc (h y) (each h xs) (h x)
 
 -- ---- polynomials of the number 0
-
-zeros_low : (n : ℕ) → at_most_one (replicate n 0) ≡ true
-zeros_low zero = refl
-zeros_low (suc n) = zeros_low n
-
-one-monomials : (test : List ℕ → Bool) (n : ℕ) → test (replicate n 0) ≡ true → Same (monomials test n 0) (one n)
-one-monomials test n e = same_from_pair (monomials test n 0) (one n) (λ φ.
-    pair_monomials (select test (exponent_lists n 0)) φ
-    ∙ total_select φ test (exponent_lists n 0)
-    ∙ total_exponent_lists-zero (λ α. cond (test α) (φ α) (pos 0)) n
-    ∙ ap (λ b. cond b (φ (replicate n 0)) (pos 0)) e
-    ∙ sym (pair_one n φ))
 
 times-zero_th : (f : ℕ → ℕ → Poly) (k n : ℕ) → Same (f 0 n) (one n) → Same (times (power_sum_of k n) (f 0 n)) (power_sum_of k n)
 times-zero_th f k n h =

@@ -14,6 +14,7 @@ use Rattle.sym_model.proofs.Sums.{total_ext, total_among, total_each, total_map,
 use Rattle.sym_model.proofs.Polynomials.{pair_ext, pair_factor, pair_plus, pair_scale, pair_times, pair_determined, Same_refl, Same_sym, Same_trans, times_respects, In_one}
 use Rattle.sym_model.proofs.PolynomialLaws.{times_comm, times-one}
 use Rattle.monomial_laws.proofs.Powers.{In-product_over}
+use Rattle.monomial_laws.proofs.PowerSumLists.{EachLabel-append, EachLabel-scale}
 use Rattle.basis_change_laws.specs.JoinedLists.{merged, joined, IsLow, Stands}
 use Rattle.basis_change_laws.proofs.MergedParts.{IsPartition-merged, size-merged, product_over-merged}
 
@@ -28,17 +29,9 @@ label-among P [] h t m = absurd m
 label-among P (u ∷ W) h t (inl e) = subst (λ (v : List ℕ × ℤ). P v.0) (sym e) h.0
 label-among P (u ∷ W) h t (inr m) = label-among P W h.1 t m
 
-each-append : (P : List ℕ → Type 0) (W V : WholeTerms) → EachLabel P W → EachLabel P V → EachLabel P (W ++ V)
-each-append P [] V h k = k
-each-append P (t ∷ W) V h k = (h.0, each-append P W V h.1 k)
-
-pub each-scale : (P : List ℕ → Type 0) (c : ℤ) (W : WholeTerms) → EachLabel P W → EachLabel P (scale c W)
-each-scale P c [] h = tt
-each-scale P c (t ∷ W) h = (h.0, each-scale P c W h.1)
-
 low-joined : (a b : ℕ) (W V : WholeTerms) → EachLabel (IsLow a) W → EachLabel (IsLow b) V → EachLabel (IsLow (a + b)) (joined W V)
 low-joined a b [] V h k = tt
-low-joined a b (s ∷ W) V h k = each-append _ (map (λ (t : List ℕ × ℤ). (merged s.0 t.0, s.1 *ℤ t.1)) V) (joined W V) (row V k) (low-joined a b W V h.1 k)
+low-joined a b (s ∷ W) V h k = EachLabel-append _ (map (λ (t : List ℕ × ℤ). (merged s.0 t.0, s.1 *ℤ t.1)) V) (joined W V) (row V k) (low-joined a b W V h.1 k)
   where
     row : (U : WholeTerms) → EachLabel (IsLow b) U → EachLabel (IsLow (a + b)) (map (λ (t : List ℕ × ℤ). (merged s.0 t.0, s.1 *ℤ t.1)) U)
     row [] k = tt
@@ -131,7 +124,7 @@ module _ (P : ℕ → ℕ → Poly) (places : (n k : ℕ) → In n (P k n)) wher
         let y = absolute-scale (pos c) W in
         let u = mul-le (absolute_total W) (absolute_total V) A B h.few k.few in
         closing (absolute_total (joined (scale (pos c) W) V)) (absolute_total (scale (pos c) W)) c (absolute_total W) (absolute_total V) (A * B) M x y u m;
-    labels = low-joined a b (scale (pos c) W) V (each-scale _ (pos c) W h.labels) k.labels;
+    labels = low-joined a b (scale (pos c) W) V (EachLabel-scale _ (pos c) W h.labels) k.labels;
   }
     where
       regroup : (c r q x : ℤ) → c *ℤ (r *ℤ (q *ℤ x)) ≡ (c *ℤ (q *ℤ r)) *ℤ x
@@ -153,7 +146,7 @@ stands-plus P q A B M d f g W V h k m = record {
       pair_plus W V (λ l. pair (product_over P l n) φ) ∙ ap₂ ◌+ℤ◌ (h.value n φ) (k.value n φ)
       ∙ spread (pos q) (pair (f n) φ) (pair (g n) φ) ∙ ap (λ z. pos q *ℤ z) (sym (pair_plus (f n) (g n) φ));
   few = let x = absolute-append W V in let y = h.few in let z = k.few in omega arith;
-  labels = each-append _ W V h.labels k.labels;
+  labels = EachLabel-append _ W V h.labels k.labels;
 }
   where
     spread : (q x y : ℤ) → q *ℤ x +ℤ q *ℤ y ≡ q *ℤ (x +ℤ y)
@@ -166,7 +159,7 @@ stands-scale P q A M d c f W h m = record {
       pair_scale c W (λ l. pair (product_over P l n) φ) ∙ ap (λ z. c *ℤ z) (h.value n φ)
       ∙ turned c (pos q) (pair (f n) φ) ∙ ap (λ z. pos q *ℤ z) (sym (pair_scale c (f n) φ));
   few = let x = absolute-scale c W in let y = mul-le (nat_abs c) (absolute_total W) (nat_abs c) A (omega arith) h.few in omega arith;
-  labels = each-scale _ c W h.labels;
+  labels = EachLabel-scale _ c W h.labels;
 }
   where
     turned : (c q x : ℤ) → c *ℤ (q *ℤ x) ≡ q *ℤ (c *ℤ x)
@@ -179,7 +172,7 @@ stands-raised P q A M d r c f W h e m = record {
       pair_scale (pos c) W (λ l. pair (product_over P l n) φ) ∙ ap (λ z. pos c *ℤ z) (h.value n φ)
       ∙ grouped (pos c) (pos q) (pair (f n) φ) ∙ ap (λ (k : ℕ). pos k *ℤ pair (f n) φ) e;
   few = let x = absolute-scale (pos c) W in let y = mul-le c (absolute_total W) c A (omega arith) h.few in omega arith;
-  labels = each-scale _ (pos c) W h.labels;
+  labels = EachLabel-scale _ (pos c) W h.labels;
 }
   where
     grouped : (c q x : ℤ) → c *ℤ (q *ℤ x) ≡ (c *ℤ q) *ℤ x

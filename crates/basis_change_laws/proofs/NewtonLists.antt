@@ -15,6 +15,7 @@ use Rattle.sym_model.proofs.Ring.{ring, one-product}
 use Rattle.sym_model.proofs.Sums.{total_append, total_ext, total_select}
 use Rattle.sym_model.proofs.Polynomials.{pair_each, pair_plus, pair_scale, pair_monomials, pair_one, pair_determined, same_from_pair, Same_sym, Same_trans}
 use Rattle.sym_model.proofs.PolynomialLaws.{scale-times}
+use Rattle.sym_model.proofs.AfterLists.{after-last}
 use Rattle.sym_model.proofs.Monomials.{total_exponent_lists-zero}
 use Rattle.basis_change_laws.proofs.NewtonIdentities.{newton_complete, newton_elementary}
 use Rattle.basis_change_laws.specs.JoinedLists.{joined, Stands}
@@ -29,11 +30,11 @@ pub record IsNewton (G : ℕ → ℕ → Poly) (σ : ℕ → ℤ) : Type 0 where
 
 -- ---- the two families
 
-zeros_low : (n : ℕ) → at_most_one (replicate n 0) ≡ true
+pub zeros_low : (n : ℕ) → at_most_one (replicate n 0) ≡ true
 zeros_low zero = refl
 zeros_low (suc n) = zeros_low n
 
-one-monomials : (test : List ℕ → Bool) (n : ℕ) → test (replicate n 0) ≡ true → Same (monomials test n 0) (one n)
+pub one-monomials : (test : List ℕ → Bool) (n : ℕ) → test (replicate n 0) ≡ true → Same (monomials test n 0) (one n)
 one-monomials test n e = same_from_pair (monomials test n 0) (one n) (λ φ.
     pair_monomials (select test (exponent_lists n 0)) φ
     ∙ total_select φ test (exponent_lists n 0)
@@ -77,10 +78,6 @@ scale-scale x y (t ∷ W) = ap₂ ◌∷◌ (ap (λ z. (t.0, z)) (grouped x y t.
   where
     grouped : (x y z : ℤ) → x *ℤ (y *ℤ z) ≡ (x *ℤ y) *ℤ z
     grouped x y z = simp ring (omega (arith, ints))
-
-after-last : (a k : ℕ) → after a (suc k) ≡ after a k ++ ((a + suc k) ∷ [])
-after-last a zero = ap (λ x. x ∷ []) (omega arith)
-after-last a (suc k) = let e : a + 1 + suc k ≡ a + suc (suc k) = omega arith in ap (λ l. (a + 1) ∷ l) (after-last (a + 1) k ∙ ap (λ x. after (a + 1) k ++ (x ∷ [])) e)
 
 pub each-last : (h : ℕ → Poly) (k : ℕ) → Same (plus (each h (after 0 k)) (h (suc k))) (each h (after 0 (suc k)))
 each-last h k = same_from_pair (plus (each h (after 0 k)) (h (suc k))) (each h (after 0 (suc k))) (λ φ.

@@ -178,7 +178,7 @@ SumIsLarge-again A B p p' q q' e f h = subst (λ z. SumIsLarge A B z q') e (subs
 
 -- ---- differences are sums with a negation
 
-negated_multiple : (q : ℤ) (g : Poly) → Same (scale q (negate g)) (negate (scale q g))
+pub negated_multiple : (q : ℤ) (g : Poly) → Same (scale q (negate g)) (negate (scale q g))
 negated_multiple q g α =
     coefficient_scale q (negate g) α
     ∙ ap (λ z. q *ℤ z) (coefficient_negate g α)

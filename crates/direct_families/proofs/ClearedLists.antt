@@ -2,7 +2,7 @@
 -- gives to the conversion.
 use Rattle.std.proofs.Common.{◌≡◌, ℕ, ◌+◌, ◌*◌, ◌/◌, ◌%◌, ◌<◌, ◌≤◌, List, [], ◌∷◌, refl, sym, ap, ap₂, ◌∙◌, subst, arith, ℤ, pos, ◌*ℤ◌, inl, inr}
 use Rattle.std.specs.Prelude.{nat_abs}
-use Rattle.std.proofs.lemmas.Int.{ints, unsigned_abs-mul}
+use Rattle.std.proofs.lemmas.Int.{ints}
 use Rattle.std.proofs.lemmas.Nat.Gcd.{dvd_of_mod-eq-zero, mod-eq-zero_of_dvd, dvd_trans}
 use Rattle.std.proofs.Math.Nat.{div-mul_cancel, mul-div_cancel}
 use Rattle.std.specs.Int.{◌∣◌}
@@ -19,7 +19,7 @@ use Rattle.sym_model.specs.Canonical.{is_reduced}
 use Rattle.sym_model.specs.LabelLimits.{is_label}
 use Rattle.sym_model.specs.Expansion.{Terms, Fraction, denominators, value_by, Represents}
 use Rattle.sym_model.specs.ListWeight.{absolute_sum}
-use Rattle.sym_model.specs.WholeTerms.{combined, absolute_total}
+use Rattle.sym_model.specs.WholeTerms.{combined}
 use Rattle.sym_model.proofs.CanonicalLists.{each_term-among}
 use Rattle.sym_model.proofs.Orders.{is_label-tells}
 use Rattle.sym_model.proofs.Ring.{ring, product_assoc}
@@ -31,13 +31,10 @@ use Rattle.monomial_laws.proofs.DividedTerms.{IsDivided, over-there, over-missin
 use Rattle.basis_expand.specs.Tables.{IsTable}
 use Rattle.basis_expand.proofs.WholeLists.{Once-keys}
 use Rattle.basis_change.specs.ClearedAnswer.{IsClearedBy}
+use Rattle.basis_change.proofs.ClearedAnswers.{absolute-over}
 use Rattle.monomial_laws.proofs.DividedTerms.{value-divided}
 use Rattle.basis_change_laws.specs.JoinedLists.{IsLow, Stands}
 use Rattle.basis_change_laws.proofs.JoinedLists.{each-label}
-
-pub absolute-over : (m : ℕ) (ts : Terms (List ℕ)) → absolute_total (over m ts) ≡ absolute_sum m ts
-absolute-over m [] = refl
-absolute-over m (t ∷ ts) = ap₂ ◌+◌ (unsigned_abs-mul t.1.0 (pos (m / t.1.1))) (absolute-over m ts)
 
 module _ (m most d : ℕ) (terms : Terms (List ℕ)) (is : IsTable terms) (c : IsClearedBy m most d terms) where
   divided : 0 < denominators terms → IsDivided m (over m terms) terms

@@ -1,19 +1,19 @@
 -- Sums of nodes.
-use Rattle.std.proofs.Common.{◌≡◌, ◌⊎◌, ℕ, ◌+◌, ◌*◌, ◌/◌, ◌^◌, ◌<◌, ◌≤◌, max, sym, ◌∙◌, ap, ap₂, subst, inl, inr, arith, ℤ, pos, neg_ℤ, ◌*ℤ◌, Ok, Err}
+use Rattle.std.proofs.Common.{◌≡◌, ◌⊎◌, ℕ, ◌+◌, ◌*◌, ◌/◌, ◌^◌, ◌<◌, ◌≤◌, max, sym, ◌∙◌, ap, ap₂, subst, inl, inr, arith, ℤ, pos, ◌*ℤ◌, Ok, Err}
 use Rattle.std.specs.Prelude.{nat_abs, Result, IsErr, IsErrAnd}
 use Rattle.std.proofs.lemmas.Nat.{mul-le}
 use Rattle.calc_base.specs.declared.faults.SumFault.{SumFault}
-use Rattle.sym_model.specs.Polynomial.{Poly, Same, coefficient, negate, plus, scale}
+use Rattle.sym_model.specs.Polynomial.{Poly, Same, negate, plus, scale}
 use Rattle.sym_model.specs.Expansion.{Basis}
 use Rattle.sym_model.specs.Expression.{Tree, negation, sum, difference, degree, lcm, denominator, cleared_value}
 use Rattle.sym_model.specs.Weight.{factorial, numerator, weight}
 use Rattle.sym_model.specs.WholeTerms.{WholeTerms, numerators, absolute_total}
-use Rattle.sym_model.proofs.Polynomials.{plus_respects, Same_refl, coefficient_scale, coefficient_negate}
-use Rattle.sym_model.proofs.Ring.{ring}
+use Rattle.sym_model.proofs.Polynomials.{plus_respects, Same_refl}
 use Rattle.monomial_laws.specs.ExpressionTerms.{HasDenominators}
 use Rattle.monomial_laws.proofs.WeightBounds.{numerator-positive}
 use Rattle.basis_expand.specs.Large.{SumIsLarge}
 use Rattle.basis_expand.specs.Tables.{IsTable}
+use Rattle.basis_expand.proofs.Conversions.{negated_multiple}
 use Rattle.monomial_laws.proofs.Growths.{factorial-positive}
 use Rattle.direct_families.specs.declared.node.Node.{Node}
 use Rattle.basis_change_laws.specs.JoinedLists.{Stands}
@@ -156,17 +156,6 @@ large-sum_denominator P e f c d i j h k l =
     omega arith
 
 -- ---- differences are sums with a negation
-
-negated_multiple : (q : ℤ) (g : Poly) → Same (scale q (negate g)) (negate (scale q g))
-negated_multiple q g α =
-    coefficient_scale q (negate g) α
-    ∙ ap (λ z. q *ℤ z) (coefficient_negate g α)
-    ∙ turn q (coefficient g α)
-    ∙ ap neg_ℤ (sym (coefficient_scale q g α))
-    ∙ sym (coefficient_negate (scale q g) α)
-  where
-    turn : (a b : ℤ) → a *ℤ neg_ℤ b ≡ neg_ℤ (a *ℤ b)
-    turn a b = simp ring
 
 pub converted-difference : (P : ℕ → ℕ → Poly) (e f : Tree) (r : Result Node SumFault) → IsConverted P (sum e (negation f)) r → IsConverted P (difference e f) r
 converted-difference P e f (Ok c) h = record {

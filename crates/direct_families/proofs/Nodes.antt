@@ -1,5 +1,5 @@
 -- What nodes say of the expressions that they are made for.
-use Rattle.std.proofs.Common.{◌≡◌, ℕ, ◌+◌, ◌*◌, ◌/◌, ◌^◌, ◌<◌, ◌≤◌, max, [], ◌∷◌, sym, ◌∙◌, ap, ap₂, refl, arith, ℤ, pos, negsuc, neg_ℤ, ◌*ℤ◌, ◌+ℤ◌, Ok, Err}
+use Rattle.std.proofs.Common.{◌≡◌, ℕ, ◌+◌, ◌*◌, ◌/◌, ◌^◌, ◌≤◌, max, [], ◌∷◌, sym, ◌∙◌, ap, ap₂, refl, arith, ℤ, pos, negsuc, neg_ℤ, ◌*ℤ◌, ◌+ℤ◌, Ok, Err}
 use Rattle.std.specs.Prelude.{nat_abs, Result, IsErr, IsErrAnd}
 use Rattle.std.proofs.lemmas.Int.{ints}
 use Rattle.std.proofs.lemmas.Nat.{mul-le}
@@ -10,6 +10,7 @@ use Rattle.sym_model.specs.Expansion.{Basis}
 use Rattle.sym_model.specs.Expression.{Tree, number, fraction, negation, sum, product, degree, lcm, denominator, cleared_value}
 use Rattle.sym_model.specs.Weight.{factorial, numerator, weight}
 use Rattle.sym_model.specs.WholeTerms.{numerators, absolute_total}
+use Rattle.sym_model.proofs.Numbers.{times-more}
 use Rattle.sym_model.proofs.Polynomials.{coefficient_scale, coefficient_negate, pair_scale}
 use Rattle.monomial_laws.specs.ExpressionTerms.{HasDenominators}
 use Rattle.monomial_laws.proofs.WeightBounds.{lcm-left, lcm-right, denominator-positive, numerator-positive, complement_left, complement_right}
@@ -41,11 +42,8 @@ refused P e h = record { ok = tt; large = λ i. h }
 
 -- ---- weights
 
-times_more : (a b : ℕ) → 0 < b → a ≤ a * b
-times_more a b h = let p = mul-le-mul_left a h in omega arith
-
 pub growth-within_weight : (e : Tree) → HasDenominators e → numerator e * grown (degree e) ≤ weight Basis.completes e
-growth-within_weight e h = mul-le (numerator e) (grown (degree e)) (numerator e * denominator e) (grown (degree e)) (times_more (numerator e) (denominator e) (denominator-positive e h)) (omega arith)
+growth-within_weight e h = mul-le (numerator e) (grown (degree e)) (numerator e * denominator e) (grown (degree e)) (times-more (numerator e) (denominator e) (denominator-positive e h)) (omega arith)
 
 -- the number that the list is divided by at the end
 pub denominator-within_weight : (e : Tree) → HasDenominators e → denominator e * factorial (degree e) ≤ weight Basis.completes e
@@ -53,46 +51,38 @@ denominator-within_weight e h =
     let p : 1 * denominator e ≤ numerator e * denominator e = mul-le-mul_right (denominator e) (numerator-positive e h) in
     mul-le (denominator e) (factorial (degree e)) (numerator e * denominator e) (grown (degree e)) (omega arith) (factorial-within (degree e))
 
-three : (a b c x y z : ℕ) → a ≤ x → b ≤ y → c ≤ z → a * b * c ≤ x * y * z
-three a b c x y z h k l = mul-le (a * b) c (x * y) z (mul-le a b x y h k) l
+-- what is no less in each of the three numbers weighs no less
+weight-more : (e f : Tree) → numerator e ≤ numerator f → denominator e ≤ denominator f → degree e ≤ degree f → weight Basis.completes e ≤ weight Basis.completes f
+weight-more e f n d g =
+    mul-le (numerator e * denominator e) (grown (degree e)) (numerator f * denominator f) (grown (degree f))
+    (mul-le (numerator e) (denominator e) (numerator f) (denominator f) n d) (grown-mono (degree e) (degree f) g)
 
 pub weight-left : (e f : Tree) → HasDenominators e → HasDenominators f → weight Basis.completes e ≤ weight Basis.completes (sum e f)
 weight-left e f h k =
     let q = lcm (denominator e) (denominator f) / denominator e in
-    let r = lcm (denominator e) (denominator f) / denominator f in
-    let n = times_more (numerator e) q (complement_left e f h k) in
-    let d = times_more (denominator e) q (complement_left e f h k) in
+    let n = times-more (numerator e) q (complement_left e f h k) in
     let m = lcm-left (denominator e) (denominator f) (denominator-positive e h) in
-    three (numerator e) (denominator e) (grown (degree e))
-    (numerator e * q + numerator f * r) (lcm (denominator e) (denominator f)) (grown (max (degree e) (degree f)))
-    (omega arith) (omega arith) (grown-mono (degree e) (max (degree e) (degree f)) (omega arith))
+    let d = times-more (denominator e) q (complement_left e f h k) in
+    weight-more e (sum e f) (omega arith) (omega arith) (omega arith)
 
 pub weight-right : (e f : Tree) → HasDenominators e → HasDenominators f → weight Basis.completes f ≤ weight Basis.completes (sum e f)
 weight-right e f h k =
-    let q = lcm (denominator e) (denominator f) / denominator e in
     let r = lcm (denominator e) (denominator f) / denominator f in
-    let n = times_more (numerator f) r (complement_right e f h k) in
-    let d = times_more (denominator f) r (complement_right e f h k) in
+    let n = times-more (numerator f) r (complement_right e f h k) in
     let m = lcm-right (denominator e) (denominator f) in
-    three (numerator f) (denominator f) (grown (degree f))
-    (numerator e * q + numerator f * r) (lcm (denominator e) (denominator f)) (grown (max (degree e) (degree f)))
-    (omega arith) (omega arith) (grown-mono (degree f) (max (degree e) (degree f)) (omega arith))
+    let d = times-more (denominator f) r (complement_right e f h k) in
+    weight-more f (sum e f) (omega arith) (omega arith) (omega arith)
 
 pub weight-left_factor : (e f : Tree) → HasDenominators e → HasDenominators f → weight Basis.completes e ≤ weight Basis.completes (product e f)
 weight-left_factor e f h k =
-    three (numerator e) (denominator e) (grown (degree e))
-    (numerator e * numerator f) (denominator e * denominator f) (grown (degree e + degree f))
-    (times_more (numerator e) (numerator f) (numerator-positive f k)) (times_more (denominator e) (denominator f) (denominator-positive f k))
-    (grown-mono (degree e) (degree e + degree f) (omega arith))
+    weight-more e (product e f)
+    (times-more (numerator e) (numerator f) (numerator-positive f k)) (times-more (denominator e) (denominator f) (denominator-positive f k)) (omega arith)
 
 pub weight-right_factor : (e f : Tree) → HasDenominators e → HasDenominators f → weight Basis.completes f ≤ weight Basis.completes (product e f)
 weight-right_factor e f h k =
-    let n = times_more (numerator f) (numerator e) (numerator-positive e h) in
-    let d = times_more (denominator f) (denominator e) (denominator-positive e h) in
-    three (numerator f) (denominator f) (grown (degree f))
-    (numerator e * numerator f) (denominator e * denominator f) (grown (degree e + degree f))
-    (omega arith) (omega arith)
-    (grown-mono (degree f) (degree e + degree f) (omega arith))
+    let n = times-more (numerator f) (numerator e) (numerator-positive e h) in
+    let d = times-more (denominator f) (denominator e) (denominator-positive e h) in
+    weight-more f (product e f) (omega arith) (omega arith) (omega arith)
 
 -- ---- numbers
 
@@ -203,6 +193,6 @@ large-product P e f c d k z he hf zk w i j large =
 pub large-product_denominator : (P : ℕ → ℕ → Poly) (e f : Tree) (c d : Node) → HasDenominators e → HasDenominators f → ClearsTo P e c → ClearsTo P f d → 2 ^ 127 ≤ c.den * d.den → 2 ^ 127 ≤ weight Basis.completes (product e f)
 large-product_denominator P e f c d i j h k l =
     let w = denominator-within_weight (product e f) (i, j) in
-    let t = times_more (denominator e * denominator f) (factorial (degree e + degree f)) (factorial-positive (degree e + degree f)) in
+    let t = times-more (denominator e * denominator f) (factorial (degree e + degree f)) (factorial-positive (degree e + degree f)) in
     let same : c.den * d.den ≡ denominator e * denominator f = ap₂ ◌*◌ h.den_is k.den_is in
     omega arith

@@ -10,7 +10,7 @@ use Rattle.sym_model.specs.ListWeight.{absolute_sum}
 use Rattle.sym_model.specs.WholeTerms.{absolute_total}
 use Rattle.monomial_laws.specs.ExpressionTerms.{over}
 use Rattle.basis_change_laws.proofs.JoinedLists.{absolute-append}
-use Rattle.direct_families.proofs.ClearedLists.{absolute-over}
+use Rattle.basis_change.proofs.ClearedAnswers.{absolute-over}
 use Rattle.direct_families.proofs.RowSteps.{coefficient-few}
 
 pub over-push : (m : ℕ) (done : Terms (List ℕ)) (k : List ℕ) (c : Fraction) → over m (done ++ (k, c) ∷ []) ≡ over m done ++ (k, scaled m c) ∷ []
