@@ -5,7 +5,10 @@ use Rattle.sym_model.specs.Partition.{IsPartition, size, insert_part}
 use Rattle.sym_model.specs.Weight.{factorial}
 use Rattle.sym_model.proofs.SortedParts.{IsPartition-insert_part, size-insert_part}
 use Rattle.std.proofs.Common.{◌-◌, lit<}
-use Rattle.std.proofs.lemmas.Bool.{eq-eqb}
+use Rattle.std.proofs.lemmas.Bool.{eq-eqb, ne_eqb, cond-true, cond-false}
+use Rattle.std.proofs.Common.{◌==◌, ◌⊎◌, inl, inr, true, remove}
+use Rattle.sym_model.specs.Bases.{has}
+use Rattle.sym_model.proofs.SortedParts.{insert_part-without_one, zero_or_has}
 use Rattle.sym_model.specs.Schur.{times_in}
 use Rattle.sym_model.specs.RaisedPart.{without_one}
 use Rattle.basis_change_laws.specs.AugmentedMonomial.{multiplicity_factorials}
@@ -66,3 +69,30 @@ whole_rest parts zero = let e : length parts - 0 ≡ length parts = omega arith 
     take_length (x ∷ xs) = ap (λ l. x ∷ l) (take_length xs)
 whole_rest [] (suc at) = let e : length {A = ℕ} [] - suc at ≡ 0 = omega arith in ap (λ n. take n (drop (suc at) [])) e
 whole_rest (a ∷ parts) (suc at) = let e : length (a ∷ parts) - suc at ≡ length parts - at = omega arith in ap (λ n. take n (drop at parts)) e ∙ whole_rest parts at
+
+-- ---- a part taken off
+
+-- the first part that is the number
+pub part-taken : (parts : List ℕ) (at part : ℕ) → at < length parts → get_or parts at 0 ≡ part → ((i : ℕ) → i < at → get_or parts i 0 ≡ part → ⊥)
+    → remove parts at ≡ without_one part parts
+part-taken [] at part h e n = absurd (omega arith)
+part-taken (a ∷ parts) zero part h e n = sym (cond-true (a == part) parts (a ∷ without_one part parts) (eq-eqb a part e))
+part-taken (a ∷ parts) (suc at) part h e n =
+    ap (λ l. a ∷ l) (part-taken parts at part (omega arith) e (λ i l. n (suc i) (omega arith)))
+    ∙ sym (cond-false (a == part) parts (a ∷ without_one part parts) (ne_eqb a part (n 0 (omega arith))))
+
+-- the number is no part
+pub none-taken : (parts : List ℕ) (at part : ℕ) → length parts ≤ at → ((i : ℕ) → i < at → get_or parts i 0 ≡ part → ⊥) → parts ≡ without_one part parts
+none-taken [] at part h n = refl
+none-taken (a ∷ parts) zero part h n = absurd (omega arith)
+none-taken (a ∷ parts) (suc at) part h n =
+    ap (λ l. a ∷ l) (none-taken parts at part (omega arith) (λ i l. n (suc i) (omega arith)))
+    ∙ sym (cond-false (a == part) parts (a ∷ without_one part parts) (ne_eqb a part (n 0 (omega arith))))
+
+-- and put back
+pub part-back : (part : ℕ) (whole : List ℕ) → (part ≡ 0 → ⊥) → IsPartition whole → has part (0 ∷ whole) ≡ true → insert_part part (without_one part whole) ≡ whole
+part-back part whole n p h = insert_part-without_one part whole (omega arith) p.falls (by (zero_or_has part whole h))
+  where
+    by : (part ≡ 0) ⊎ (has part whole ≡ true) → has part whole ≡ true
+    by (inl e) = absurd (n e)
+    by (inr t) = t

@@ -16,8 +16,8 @@ use Rattle.sym_model.specs.Straightening.{shifted}
 use Rattle.sym_model.proofs.Sums.{total_ext, total_each}
 use Rattle.basis_change.specs.declared.mixed.MixedLabel.{MixedLabel}
 use Rattle.basis_change.specs.Mixed.{Mixed, mixed, weighed, weight, Added}
-use Rattle.basis_change.specs.Arranging.{times_straight, straight_term, straight_terms, HasZeros, at_label, OverflowsSomewhere}
-use Rattle.basis_change.proofs.Tables.{weight-append}
+use Rattle.basis_change.specs.Arranging.{times_straight, straight_term, straight_terms, numbers_from, HasZeros, at_label, OverflowsSomewhere}
+use Rattle.basis_change.proofs.Tables.{weight-append, Added-then}
 use Rattle.basis_change.proofs.ArrangementSteps.{arrangements-few}
 use Rattle.basis_change.proofs.PrunedArrangements.{placed, placed_again, too_many_zeros, all_zeros, VanishesOnEqual}
 use Rattle.basis_change.proofs.Tables.{at_label-itself}
@@ -29,15 +29,16 @@ use Rattle.beta_list_laws.proofs.SortedLists.{sorted_strict}
 use Rattle.beta_list_laws.proofs.BetaLists.{from_beta_partition, size-from_beta}
 use Rattle.std.proofs.lemmas.Bool.Decides.{nat_tests}
 use Rattle.std.proofs.Common.{◌==◌}
-use Rattle.std.proofs.Common.{take, drop, get_or, inl, inr, length-append}
+use Rattle.std.proofs.Common.{drop, get_or, inl, inr, length-append}
 use Rattle.sym_model.specs.Sum.{Among}
 use Rattle.sym_model.proofs.SortedParts.{IsPartition-without_one, has-zero_or}
 use Rattle.monomial_laws.proofs.PowerSumLists.{has_from-distinct}
-use Rattle.basis_change.proofs.Walks.{each-next, each-whole}
 use Rattle.std.proofs.Common.{append_assoc}
 use Rattle.std.proofs.lemmas.List.{nil_from_length}
 use Rattle.sym_model.specs.Expansion.{Fraction, Terms}
-use Rattle.sym_model.proofs.Lists.{slice_get-within}
+use Rattle.sym_model.proofs.Sums.{Among-append_right}
+use Rattle.std.proofs.Math.Seq.{drop-cons, drop-length}
+use Rattle.std.proofs.Common.{◌-◌, append-nil}
 use Rattle.sym_model.proofs.Parts.{size-append}
 use Rattle.coeff_rings.specs.Fractions.{scaled}
 use Rattle.basis_change.specs.Straightening.{straightened_list}
@@ -174,18 +175,13 @@ pub past_zeros_of : (c : ℤ) (front parts : List ℕ) (greatest : ℕ) (rest : 
 past_zeros_of c front parts greatest rest n many e p l z g =
     ap (λ k. total g (straight_terms c front k n)) e ∙ past_zeros c front greatest rest n many (subst IsPartition e p) l z g
 
-among-index : (xs : List ℕ) (i : ℕ) → i < length xs → Among (get_or xs i 0) xs
-among-index [] i h = absurd (omega arith)
-among-index (x ∷ xs) zero h = inl refl
-among-index (x ∷ xs) (suc i) h = inr (among-index xs i (omega arith))
-
 -- a number for the next place is 0 or a part
-pub number-has : (items parts : List ℕ) (i : ℕ) → items ≡ 0 ∷ distinct parts → i < length items → has (get_or items i 0) (0 ∷ parts) ≡ true
-number-has items parts i e h = by (subst (λ l. Among (get_or items i 0) l) e (among-index items i h))
+pub number-among : (done rest parts : List ℕ) (a : ℕ) → done ++ (a ∷ rest) ≡ 0 ∷ distinct parts → has a (0 ∷ parts) ≡ true
+number-among done rest parts a e = by (subst (λ l. Among a l) e (Among-append_right a done (a ∷ rest) (inl refl)))
   where
-    by : Among (get_or items i 0) (0 ∷ distinct parts) → has (get_or items i 0) (0 ∷ parts) ≡ true
-    by (inl z) = has-zero_or (get_or items i 0) parts (inl z)
-    by (inr m) = has-zero_or (get_or items i 0) parts (inr (has_from-distinct (get_or items i 0) parts m))
+    by : Among a (0 ∷ distinct parts) → has a (0 ∷ parts) ≡ true
+    by (inl z) = has-zero_or a parts (inl z)
+    by (inr m) = has-zero_or a parts (inr (has_from-distinct a parts m))
 
 pub number-within : (parts : List ℕ) (a : ℕ) → IsPartition parts → has a (0 ∷ parts) ≡ true → a ≤ size parts
 number-within parts a p h = let e = size-taken a parts p h in omega arith
@@ -212,26 +208,11 @@ next_ready front longer parts others places n many next a s p h e o k z few shor
     at_most true = omega arith
     at_most false = omega arith
 
--- the terms of one number more, by the place at which it stands among the numbers
-pub numbers-next : (c : ℤ) (front parts items : List ℕ) (n i : ℕ) → i < length items
-    → each (terms_with c front parts n) (take (i + 1) items) ≡ each (terms_with c front parts n) (take i items) ++ terms_with c front parts n (get_or items i 0)
-numbers-next c front parts items n i h = each-next (terms_with c front parts n) items i (get_or items i 0) (slice_get-within items i h)
-
+-- all numbers
 pub numbers-all : (c : ℤ) (front parts items : List ℕ) (places n : ℕ) → places ≡ suc n → IsPartition parts → items ≡ 0 ∷ distinct parts
     → SameTotals (each (terms_with c front parts n) items) (straight_terms c front parts places)
 numbers-all c front parts items places n s p e g =
     ap (λ l. total g (each (terms_with c front parts n) l)) e ∙ placed_terms c front parts n p g ∙ ap (λ k. total g (straight_terms c front parts k)) (sym s)
-
--- a number that is refused
-pub number-past : (c : ℤ) (front parts items : List ℕ) (places n i : ℕ) (old mid : Mixed) → i < length items → places ≡ suc n → IsPartition parts → items ≡ 0 ∷ distinct parts
-    → Added (each (terms_with c front parts n) (take i items)) old mid → OverflowsSomewhere (terms_with c front parts n (get_or items i 0)) mid
-    → OverflowsSomewhere (straight_terms c front parts places) old
-number-past c front parts items places n i old mid h s p e a o =
-    let f = terms_with c front parts n in
-    Somewhere-same (each f items) (straight_terms c front parts places) old (numbers-all c front parts items places n s p e)
-    (subst (λ (xs : Mixed). OverflowsSomewhere xs old) (each-whole f items i (get_or items i 0) (slice_get-within items i h))
-    (Somewhere-front (each f (take i items) ++ f (get_or items i 0)) (each f (drop (i + 1) items)) old
-    (Somewhere-then (each f (take i items)) (f (get_or items i 0)) old mid a o)))
 
 pub terms_with-is : (c : ℤ) (front longer parts others : List ℕ) (n a : ℕ) → longer ≡ front ++ (a + n) ∷ [] → others ≡ without_one a parts
     → straight_terms c longer others n ≡ terms_with c front parts n a
@@ -280,3 +261,60 @@ list-past den places done t rest mid a o =
     (Somewhere-front (straightened_list den places (done ++ t ∷ [])) (straightened_list den places rest) []
     (subst (λ (m : Mixed). OverflowsSomewhere m []) (sym (straightened_list-append den places done t))
     (Somewhere-then (straightened_list den places done) (straight_terms (scaled den t.1) [] t.0 places) [] mid a o)))
+
+-- ---- the numbers for a place, one after another
+
+-- at this place stands none of them
+pub numbers-again : (parts : List ℕ) (at : ℕ) → (at ≡ 0 → ⊥) → at ≤ length parts → has (get_or parts (at - 1) 0) (drop at parts) ≡ true
+    → numbers_from at parts ≡ numbers_from (at + 1) parts
+numbers-again parts zero n low h = absurd (n refl)
+numbers-again parts (suc at) n low h =
+    let before : suc at - 1 ≡ at = omega arith in
+    let next : suc (suc at) ≡ suc at + 1 = omega arith in
+    ap distinct (drop-cons parts at 0 (omega arith))
+    ∙ ap (λ t. cond t (distinct (drop (suc at) parts)) (get_or parts at 0 ∷ distinct (drop (suc at) parts))) (ap (λ k. has (get_or parts k 0) (drop (suc at) parts)) (sym before) ∙ h)
+    ∙ ap (λ k. numbers_from k parts) next
+
+-- at this place stands one
+pub numbers-here : (parts : List ℕ) (at : ℕ) → (at ≡ 0 → ⊥) → at ≤ length parts → has (get_or parts (at - 1) 0) (drop at parts) ≡ false
+    → numbers_from at parts ≡ get_or parts (at - 1) 0 ∷ numbers_from (at + 1) parts
+numbers-here parts zero n low h = absurd (n refl)
+numbers-here parts (suc at) n low h =
+    let before : suc at - 1 ≡ at = omega arith in
+    let next : suc (suc at) ≡ suc at + 1 = omega arith in
+    ap distinct (drop-cons parts at 0 (omega arith))
+    ∙ ap (λ t. cond t (distinct (drop (suc at) parts)) (get_or parts at 0 ∷ distinct (drop (suc at) parts))) (ap (λ k. has (get_or parts k 0) (drop (suc at) parts)) (sym before) ∙ h)
+    ∙ ap₂ (λ (i k : ℕ). get_or parts i 0 ∷ numbers_from k parts) (sym before) next
+
+pub numbers-end : (parts : List ℕ) (at : ℕ) → at ≡ length parts + 1 → numbers_from at parts ≡ []
+numbers-end parts at e =
+    let last : at ≡ suc (length parts) = omega arith in
+    ap (λ k. numbers_from k parts) last ∙ ap distinct (drop-length parts)
+
+-- one number more
+pub number-listed : (done now next all : List ℕ) (a : ℕ) → done ++ now ≡ all → now ≡ a ∷ next → (done ++ a ∷ []) ++ next ≡ all
+number-listed done now next all a e h = append_assoc done (a ∷ []) next ∙ ap (λ l. done ++ l) (sym h) ∙ e
+
+pub number-added : (c : ℤ) (front parts : List ℕ) (n : ℕ) (done : List ℕ) (a : ℕ) (old mid new : Mixed) → Added (each (terms_with c front parts n) done) old mid
+    → Added (terms_with c front parts n a) mid new → Added (each (terms_with c front parts n) (done ++ a ∷ [])) old new
+number-added c front parts n done a old mid new h k =
+    let f = terms_with c front parts n in
+    subst (λ (xs : Mixed). Added xs old new)
+    (sym (each-append (terms_with c front parts n) done (a ∷ []) ∙ ap (λ l. each (terms_with c front parts n) done ++ l) (append-none (terms_with c front parts n a))))
+    (Added-then (each f done) (f a) old mid new h k)
+
+-- a number that is refused
+pub number-past : (c : ℤ) (front parts done rest : List ℕ) (places n a : ℕ) (old mid : Mixed) → places ≡ suc n → IsPartition parts → done ++ (a ∷ rest) ≡ 0 ∷ distinct parts
+    → Added (each (terms_with c front parts n) done) old mid → OverflowsSomewhere (terms_with c front parts n a) mid → OverflowsSomewhere (straight_terms c front parts places) old
+number-past c front parts done rest places n a old mid s p e h o =
+    let f = terms_with c front parts n in
+    Somewhere-same (each f (done ++ (a ∷ rest))) (straight_terms c front parts places) old (numbers-all c front parts (done ++ (a ∷ rest)) places n s p e)
+    (subst (λ (xs : Mixed). OverflowsSomewhere xs old) (sym (each-append (terms_with c front parts n) done (a ∷ rest)))
+    (Somewhere-then (each f done) (each f (a ∷ rest)) old mid h (Somewhere-front (f a) (each f rest) mid o)))
+
+-- all numbers are done
+pub numbers-done : (c : ℤ) (front parts done : List ℕ) (places n at : ℕ) (old new : Mixed) → places ≡ suc n → IsPartition parts → at ≡ length parts + 1
+    → done ++ numbers_from at parts ≡ 0 ∷ distinct parts → Added (each (terms_with c front parts n) done) old new → Added (straight_terms c front parts places) old new
+numbers-done c front parts done places n at old new s p last e h =
+    let all : done ≡ 0 ∷ distinct parts = sym (append-nil done) ∙ ap (λ l. done ++ l) (sym (numbers-end parts at last)) ∙ e in
+    Added-same (each (terms_with c front parts n) done) (straight_terms c front parts places) old new (numbers-all c front parts done places n s p all) h

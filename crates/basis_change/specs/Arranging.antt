@@ -1,10 +1,11 @@
 -- The arrangements of a partition made place by place, as beta lists, and what they straighten to (this project's own; the
 -- straightening is Macdonald's, I.3).
-use Rattle.std.specs.Prelude.{◌≡◌, ℕ, ◌+◌, ◌^◌, ◌<◌, ◌≤◌, true, cond, ℤ, ◌*ℤ◌, List, [], ◌∷◌, ◌++◌, Option, Some, None}
+use Rattle.std.specs.Prelude.{◌≡◌, ℕ, zero, suc, drop, ◌+◌, ◌^◌, ◌<◌, ◌≤◌, true, cond, ℤ, ◌*ℤ◌, List, [], ◌∷◌, ◌++◌, Option, Some, None}
 use Rattle.sym_model.specs.Sum.{each}
 use Rattle.sym_model.specs.Polynomial.{same}
 use Rattle.sym_model.specs.Bases.{has}
 use Rattle.sym_model.specs.BetaList.{has_equal_entries, sorted_falling, sorting_sign, from_beta}
+use Rattle.sym_model.specs.RaisedPart.{distinct}
 use Rattle.sym_model.specs.Arrangement.{arrangements}
 use Rattle.sym_model.specs.Straightening.{shifted}
 use Rattle.basis_change.specs.declared.mixed.MixedLabel.{MixedLabel}
@@ -28,6 +29,11 @@ straight_term c entries = times_straight c (straight entries)
 -- places before
 abbrev pub straight_terms : ℤ → List ℕ → List ℕ → ℕ → Mixed
 straight_terms c front parts n = each (λ α. straight_term c (front ++ shifted α)) (arrangements parts n)
+
+-- the numbers that may stand in a place of an arrangement, from a place among 0 and all the parts on: of equal parts the last
+abbrev pub numbers_from : ℕ → List ℕ → List ℕ
+numbers_from zero parts = 0 ∷ distinct parts
+numbers_from (suc at) parts = distinct (drop at parts)
 
 -- the entries of so many places with 0, the last ones before n places more, are there
 abbrev pub HasZeros : List ℕ → ℕ → ℕ → Type 0

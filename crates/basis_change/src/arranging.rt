@@ -1,14 +1,13 @@
 //! The arrangements of the parts of a partition made place by place, and what they straighten to.
-ghost use Rattle.std.specs.Prelude.{◌≡◌, ◌+◌, ◌≤◌, ◌==◌, cond, [], ◌∷◌, ◌++◌, length, IfOk, OnOk, IsErrOf};
+ghost use Rattle.std.specs.Prelude.{◌≡◌, ◌+◌, ◌≤◌, ◌==◌, cond, [], ◌∷◌, ◌++◌, length, IfOk, OnOk, IsErrOf, MatchOption};
 ghost use Rattle.sym_model.specs.Alternant.{staircase};
 ghost use Rattle.sym_model.specs.Bases.{has};
 ghost use Rattle.sym_model.specs.Partition.{IsPartition, size};
-ghost use Rattle.sym_model.specs.RaisedPart.{distinct};
 ghost use Rattle.basis_change.specs.Mixed.{Added};
-ghost use Rattle.basis_change.specs.Arranging.{straight_term, straight_terms, HasZeros, OverflowsSomewhere};
+ghost use Rattle.basis_change.specs.Arranging.{numbers_from, straight_term, straight_terms, HasZeros, OverflowsSomewhere};
 
 use crate::mixed::MixedLabel;
-use crate::parts::{copy_of, without_part};
+use crate::parts::{copy_of, put_part, take_part};
 use crate::sorting::{has, has_equal_entries, signed, sorted_falling};
 use crate::table::{Mixed, add};
 use calc_base::SumFault;
@@ -16,27 +15,20 @@ use coeff_rings::Int;
 use partitions::Partition;
 use std::alloc::{AllocError, Global};
 
-/// What may stand in a place: 0, and each of the parts.
-fn numbers_for_a_place(alloc: Global, parts: &[u16]) -> Result<Vec<u16>, AllocError>
-    ensures { IfOk result (λ numbers. numbers.items ≡ 0 ∷ distinct parts.now) }
+/// The number by its place among those that may stand in a place of an arrangement: 0, and behind it each part where it stands
+/// last; none at the other places of a part.
+fn number_at(parts: &[u16], at: usize) -> Option<u16>
+    requires { at ≤ length parts.now }
+    ensures { MatchOption result (numbers_from at parts.now ≡ numbers_from (at + 1) parts.now)
+        (λ number. numbers_from at parts.now ≡ number ∷ numbers_from (at + 1) parts.now) }
 {
-    let mut numbers = Vec::new(alloc);
-    numbers.push(0)?;
-    for at in 0..parts.len() {
-        if !has(&parts[at + 1..], parts[at]) {
-            numbers.push(parts[at])?;
-        }
+    if at == 0 {
+        return Some(0);
     }
-    Ok(numbers)
-}
-
-/// The entries and one more.
-fn longer_by(alloc: Global, entries: &[u16], entry: u16) -> Result<Vec<u16>, AllocError>
-    ensures { IfOk result (λ longer. longer.items ≡ entries.now ++ entry ∷ []) }
-{
-    let mut longer = copy_of(alloc, entries)?;
-    longer.push(entry)?;
-    Ok(longer)
+    if has(&parts[at..], parts[at - 1]) {
+        return None;
+    }
+    Some(parts[at - 1])
 }
 
 /// The entries and those of so many places more, all of them with 0.
@@ -80,27 +72,31 @@ fn zeros_after(zeros: u16, number: u16) -> u16
 }
 
 /// Adds c times what each arrangement comes to that goes on from the places before: `front` has their entries of the beta
-/// list, the last `zeros` of those places have 0, and the parts that are left are put into so many places to come.
+/// list, the last `zeros` of those places have 0, and the parts that are left are put into so many places to come. Both lists
+/// are afterwards what they were.
 ///
 /// Nothing comes of a number whose entry stands in `front` already. Nor does anything where no part that is left is greater
 /// than `zeros`: a part a needs a part that is not 0 in the place a before it.
 pub(crate) fn add_arrangements(
     alloc: Global,
     sum: &mut Mixed,
-    front: &[u16],
-    parts: &[u16],
+    front: &mut Vec<u16>,
+    parts: &mut Vec<u16>,
     places: u16,
     zeros: u16,
     c: Int,
 ) -> Result<(), SumFault>
-    requires partition { IsPartition parts.now }
-    requires zeros { HasZeros front.now places zeros }
-    requires few { length front.now + places ≤ 512 }
-    requires short { zeros ≤ length front.now }
-    requires low { size front.now + size parts.now + size (staircase places) ≤ 512 }
-    ensures ok { OnOk result (Added (straight_terms c front.now parts.now places) sum.old.entries sum.new.entries) }
+    requires partition { IsPartition parts.old.items }
+    requires zeros { HasZeros front.old.items places zeros }
+    requires few { length front.old.items + places ≤ 512 }
+    requires short { zeros ≤ length front.old.items }
+    requires low { size front.old.items + size parts.old.items + size (staircase places) ≤ 512 }
+    ensures front { OnOk result (front.new.items ≡ front.old.items) }
+    ensures parts { OnOk result (parts.new.items ≡ parts.old.items) }
+    ensures ok { OnOk result
+        (Added (straight_terms c front.old.items parts.old.items places) sum.old.entries sum.new.entries) }
     ensures large { IsErrOf result SumFault.Large
-        → OverflowsSomewhere (straight_terms c front.now parts.now places) sum.old.entries }
+        → OverflowsSomewhere (straight_terms c front.old.items parts.old.items places) sum.old.entries }
 {
     let Some((greatest, _)) = parts.split_first() else {
         let entries = completed(alloc, front, places)?;
@@ -110,16 +106,20 @@ pub(crate) fn add_arrangements(
         return Ok(());
     }
     let left = places - 1;
-    let numbers = numbers_for_a_place(alloc, parts)?;
-    for number in &numbers {
-        let entry = *number + left;
+    for at in 0..parts.len() + 1 {
+        let Some(number) = number_at(parts, at) else {
+            continue;
+        };
+        let entry = number + left;
         if has(front, entry) {
             continue;
         }
-        let longer = longer_by(alloc, front, entry)?;
-        let others = without_part(alloc, parts, *number)?;
-        let zeros = zeros_after(zeros, *number);
-        add_arrangements(alloc, sum, &longer, &others, left, zeros, c)?;
+        front.push(entry)?;
+        take_part(parts, number);
+        let zeros = zeros_after(zeros, number);
+        add_arrangements(alloc, sum, front, parts, left, zeros, c)?;
+        put_part(parts, number)?;
+        front.pop();
     }
     Ok(())
 }

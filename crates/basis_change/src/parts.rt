@@ -1,6 +1,7 @@
 //! Partitions with parts put in and raised, and numbers that belong to a partition.
-ghost use Rattle.std.specs.Prelude.{◌≡◌, ◌+◌, ◌<◌, ◌≤◌, ◌^◌, length, IfOk, OnOk};
-ghost use Rattle.sym_model.specs.Partition.{insert_part, ArePositive};
+ghost use Rattle.std.specs.Prelude.{◌≡◌, ◌+◌, ◌<◌, ◌≤◌, ◌^◌, ◌∷◌, true, ℕ, List, length, IfOk, OnOk};
+ghost use Rattle.sym_model.specs.Bases.{has};
+ghost use Rattle.sym_model.specs.Partition.{insert_part, ArePositive, IsPartition};
 ghost use Rattle.sym_model.specs.RaisedPart.{raise, without_one};
 ghost use Rattle.sym_model.specs.Schur.{times_in};
 ghost use Rattle.sym_model.specs.Weight.{factorial};
@@ -81,6 +82,30 @@ pub(crate) fn without_part(alloc: Global, parts: &[u16], part: u16) -> Result<Ve
         }
     }
     Ok(rest)
+}
+
+/// Takes the first part that is the number off.
+pub(crate) fn take_part(parts: &mut Vec<u16>, part: u16)
+    ensures { parts.new.items ≡ without_one part parts.old.items }
+{
+    let mut at = 0;
+    while at < parts.len() && parts[at] != part {
+        at += 1;
+    }
+    if at < parts.len() {
+        parts.remove(at);
+    }
+}
+
+/// Puts a number back that was taken off a partition; 0 is no part.
+pub(crate) fn put_part(parts: &mut Vec<u16>, part: u16) -> Result<(), AllocError>
+    ensures { OnOk result ((whole : List ℕ) → IsPartition whole → has part (0 ∷ whole) ≡ true
+        → parts.old.items ≡ without_one part whole → parts.new.items ≡ whole) }
+{
+    if part == 0 {
+        return Ok(());
+    }
+    insert_part(parts, part)
 }
 
 /// How often the number is a part.

@@ -14,6 +14,7 @@ ghost use Rattle.basis_change.specs.Straightening.{straightened_list, IsPast};
 use crate::arranging::add_arrangements;
 use crate::clearing::{LIMIT, greatest_size, is_table, scaled_number};
 use crate::division::divided;
+use crate::parts::copy_of;
 use crate::table::Mixed;
 use calc_base::{SumFault, Weight};
 use coeff_rings::Frac;
@@ -36,11 +37,13 @@ fn straightened(
     ensures large { IsErrOf result SumFault.Large → IsPast den places list.now }
 {
     let mut sum = IndexMap::new(alloc);
+    let mut front = Vec::new(alloc);
     for (label, c) in list.iter() {
         let Some(number) = scaled_number(*c, den) else {
             return Err(SumFault::Large);
         };
-        add_arrangements(alloc, &mut sum, &[], label.parts(), places, 0, number)?;
+        let mut parts = copy_of(alloc, label.parts())?;
+        add_arrangements(alloc, &mut sum, &mut front, &mut parts, places, 0, number)?;
     }
     Ok(sum)
 }

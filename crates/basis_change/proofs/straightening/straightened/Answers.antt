@@ -29,7 +29,8 @@ add_arrangements-requires-clause-low c =
     c.in-Some.ensures.steps c.loop-label.invariant.so_far c.into_iter-label-iterator.ensures.into_iter_gives c.iter-label-items.ensures.rest in
     let s = c.requires.sizes (c.in-Some.label.now, c.in-Some.c.now)
     (list_among (λ (r : Fraction). r) (map deref_pair c.loop-label.yielded) c.next.new.self c.in-Some.label.now c.in-Some.c.now c.args.list.now whole) in
-    let v = ap size c.parts.ensures.value in
+    let v = ap size (c.in_ok-parts.ensures ∙ c.parts.ensures.value) in
+    let none = ap size c.loop-label.invariant.front in
     let l = staircase-low c.args.places c.requires.low in
     let p = c.requires.low in
     omega arith
@@ -46,8 +47,11 @@ loop-label-preserved c =
     sym (map-append deref_pair c.loop-label.yielded ((c.in-Some.label, c.in-Some.c) ∷ [])) in
     let here : Added (h x) c.loop-label.sum.entries c.add_arrangements.new.sum.entries =
     subst (λ z. Added (straight_terms z [] c.in-Some.label.now c.args.places) c.loop-label.sum.entries c.add_arrangements.new.sum.entries) c.in-Some-scaled_number.ensures
-    (subst (λ l. Added (straight_terms c.in-Some-scaled_number.number [] l c.args.places) c.loop-label.sum.entries c.add_arrangements.new.sum.entries) c.parts.ensures.value c.in_ok-add_arrangements.ensures.ok) in
+    (subst (λ (f : List ℕ). Added (straight_terms c.in-Some-scaled_number.number f c.in-Some.label.now c.args.places) c.loop-label.sum.entries c.add_arrangements.new.sum.entries) c.loop-label.invariant.front
+    (subst (λ (l : List ℕ). Added (straight_terms c.in-Some-scaled_number.number c.loop-label.front.items l c.args.places) c.loop-label.sum.entries c.add_arrangements.new.sum.entries) (c.in_ok-parts.ensures ∙ c.parts.ensures.value)
+    c.in_ok-add_arrangements.ensures.ok)) in
     record {
+      front = c.in_ok-add_arrangements.ensures.front ∙ c.loop-label.invariant.front;
       added =
           subst (λ (es : Terms (List ℕ)). Added (each h es) [] c.add_arrangements.new.sum.entries) pushed
           (subst (λ (m : Mixed). Added m [] c.add_arrangements.new.sum.entries) (sym (straightened_list-append c.args.den c.args.places (map deref_pair c.loop-label.yielded) x))
@@ -68,7 +72,8 @@ returns-in_err-add_arrangements-clause-large c err =
     append_assoc (map deref_pair c.loop-label.yielded) (x ∷ []) c.next.new.self ∙ sym (itself (map deref_pair c.loop-label.yielded ++ (x ∷ c.next.new.self))) ∙ whole in
     let here : OverflowsSomewhere (h x) c.loop-label.sum.entries =
     subst (λ z. OverflowsSomewhere (straight_terms z [] c.in-Some.label.now c.args.places) c.loop-label.sum.entries) c.in-Some-scaled_number.ensures
-    (subst (λ l. OverflowsSomewhere (straight_terms c.in-Some-scaled_number.number [] l c.args.places) c.loop-label.sum.entries) c.parts.ensures.value
-    (c.in_err-add_arrangements.ensures.large (ap Err (error_is _ _ _ c.from_residual.ensures.1 err)))) in
+    (subst (λ (f : List ℕ). OverflowsSomewhere (straight_terms c.in-Some-scaled_number.number f c.in-Some.label.now c.args.places) c.loop-label.sum.entries) c.loop-label.invariant.front
+    (subst (λ (l : List ℕ). OverflowsSomewhere (straight_terms c.in-Some-scaled_number.number c.loop-label.front.items l c.args.places) c.loop-label.sum.entries) (c.in_ok-parts.ensures ∙ c.parts.ensures.value)
+    (c.in_err-add_arrangements.ensures.large (ap Err (error_is _ _ _ c.from_residual-in_err-add_arrangements.ensures.1 err))))) in
     inr (subst (λ (es : Terms (List ℕ)). OverflowsSomewhere (each h es) []) all
     (list-past c.args.den c.args.places (map deref_pair c.loop-label.yielded) x c.next.new.self c.loop-label.sum.entries c.loop-label.invariant.added here))

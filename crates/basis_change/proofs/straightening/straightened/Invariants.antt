@@ -6,6 +6,7 @@ use Rattle.basis_change.proofs.straightening.straightened.Given as goal
 
 abbrev pub invariant-loop-label : goal.invariant-loop-label
 invariant-loop-label l = record {
+  front : l.front.items ≡ [];
   added : Added (straightened_list l.den l.places (map deref_pair l.yielded)) [] l.sum.entries;
   so_far : map deref_pair l.yielded ++ l.label-iterator ≡ l.initial.label-iterator;
 }
