@@ -1,5 +1,5 @@
 //! Products of two lists of terms in Schur polynomials, pair by pair.
-ghost use Rattle.std.specs.Prelude.{◌≡◌, ◌<◌, ◌+◌, ◌*◌, ◌≤◌, ◌*ℤ◌, ℕ, IsTrue, IfOk, OnOk};
+ghost use Rattle.std.specs.Prelude.{◌≡◌, ◌↔◌, ◌<◌, ◌+◌, ◌*◌, ◌≤◌, ◌*ℤ◌, ℕ, IsTrue, IfOk, OnOk};
 ghost use Rattle.std.specs.Int.{◌∣◌};
 ghost use Rattle.sym_model.specs.Expansion.{schurs, IsExpansionOf};
 ghost use Rattle.sym_model.specs.Partition.{rows, size};
@@ -21,9 +21,10 @@ const MAX_CELLS: u16 = 4096;
 
 const MAX_ROWS: u16 = 512;
 
-/// Whether two labels can be multiplied. Those of an expression's parts always can.
+/// Whether two labels can be multiplied: exactly where their product is within the limits. Those of an expression's parts
+/// always can.
 fn can_multiply(left: &Partition, right: &Partition) -> bool
-    ensures { IsTrue result → (size left.now + size right.now ≤ 4096) × (rows left.now + rows right.now ≤ 512) }
+    ensures { IsTrue result ↔ ((size left.now + size right.now ≤ 4096) × (rows left.now + rows right.now ≤ 512)) }
 {
     left.size() + right.size() <= MAX_CELLS && left.rows() + right.rows() <= MAX_ROWS
 }

@@ -1,8 +1,8 @@
 //! Lists of terms in Schur polynomials times e_k, h_k and p_k, by the strips and the rim hooks of k cells.
-ghost use Rattle.std.specs.Prelude.{◌≡◌, ◌<◌, ◌≤◌, ℕ, List, IsTrue, IfOk, IfSome};
+ghost use Rattle.std.specs.Prelude.{◌≡◌, ◌↔◌, ◌+◌, ◌<◌, ◌≤◌, ℕ, List, IsTrue, IfOk, IfSome};
 ghost use Rattle.sym_model.specs.Expansion.{schurs, IsExpansionOf};
 ghost use Rattle.sym_model.specs.Expression.{atom};
-ghost use Rattle.sym_model.specs.Partition.{ArePositive, size};
+ghost use Rattle.sym_model.specs.Partition.{ArePositive, rows, size};
 ghost use Rattle.sym_model.specs.Polynomial.{In, Poly, times};
 ghost use Rattle.calc_expressions.specs.Trees.{basis_of, tree_of};
 ghost use Rattle.strip_rules.specs.Room.{HasRoom};
@@ -29,13 +29,21 @@ const MAX_CELLS: u16 = 4096;
 
 const MAX_ROWS: u16 = 512;
 
+/// Whether a label has room for k cells more.
+fn can_grow(label: &Partition, k: u16) -> bool
+    requires { k ≤ 512 }
+    ensures { IsTrue result ↔ ((size label.now + k ≤ 4096) × (rows label.now + k ≤ 512)) }
+{
+    label.size() + k <= MAX_CELLS && label.rows() + k <= MAX_ROWS
+}
+
 /// Whether each label has room for k cells more. The labels of an expression's parts always have.
 fn has_room(list: &Lin<Partition, Frac>, k: u16) -> bool
     requires { k ≤ 512 }
-    ensures { IsTrue result → HasRoom k list.now }
+    ensures { IsTrue result ↔ HasRoom k list.now }
 {
     for (label, _) in list.iter() {
-        if label.size() > MAX_CELLS - k || label.rows() > MAX_ROWS - k {
+        if !can_grow(label, k) {
             return false;
         }
     }
