@@ -1,5 +1,5 @@
 //! The weights of expressions, in numbers of 128 bits.
-ghost use Rattle.std.specs.Prelude.{◌≡◌, ◌+◌, ◌*◌, ◌/◌, ◌^◌, ◌<◌, ◌≤◌, IsTrue, SomeIff, MatchOption};
+ghost use Rattle.std.specs.Prelude.{◌≡◌, ◌+◌, ◌*◌, ◌/◌, ◌^◌, ◌<◌, ◌≤◌, IsTrue, SomeIff, MatchOption, option_map};
 ghost use Rattle.sym_model.specs.Canonical.{gcd};
 ghost use Rattle.sym_model.specs.Expression.{denominator, degree as degree_of};
 ghost use Rattle.sym_model.specs.Weight.{numerator, factorial, growth, weight};
@@ -57,22 +57,67 @@ fn product_weight(a: Weight, b: Weight) -> Option<Weight>
     weight_of(a.num.checked_mul(b.num)?, a.den.checked_mul(b.den)?)
 }
 
+/// Puts two numbers in the place of those of a weight, if they are below the limit.
+fn put(weight: &mut Weight, num: u128, den: u128) -> Option<()>
+    ensures { IsWeighed (option_map (λ _. weight.new) result) num den }
+{
+    *weight = weight_of(num, den)?;
+    Some(())
+}
+
+/// Adds a weight to another, over the least common denominator.
+#[inline(never)]
+fn add_to(weight: &mut Weight, first: &Weight) -> Option<()>
+    requires { 0 < first.now.den }
+    ensures { let g = gcd first.now.den weight.old.den in IsWeighed (option_map (λ _. weight.new) result)
+        (first.now.num * (weight.old.den / g) + weight.old.num * (first.now.den / g)) (first.now.den / g * weight.old.den) }
+{
+    *weight = sum_weight(*first, *weight)?;
+    Some(())
+}
+
+/// Multiplies a weight by another.
+#[inline(never)]
+fn multiply_by(weight: &mut Weight, first: &Weight) -> Option<()>
+    ensures { IsWeighed (option_map (λ _. weight.new) result) (first.now.num * weight.old.num) (first.now.den * weight.old.den) }
+{
+    *weight = product_weight(*first, *weight)?;
+    Some(())
+}
+
 impl Expr {
     /// The two numbers of the weight; none exactly where one of them is 2^127 or more.
     pub(crate) fn weigh(&self) -> Option<Weight>
         requires { IsTrue (has_no_signs self.now) }
         ensures { IsWeighed result (numerator (tree_of self.now)) (denominator (tree_of self.now)) }
     {
+        let mut weight = Weight { num: 1, den: 1 };
+        self.weigh_into(&mut weight)?;
+        Some(weight)
+    }
+
+    /// Puts the two numbers of the weight in the place of those that are there. A tree may be deep: little is kept for each level.
+    fn weigh_into(&self, weight: &mut Weight) -> Option<()>
+        requires { IsTrue (has_no_signs self.now) }
+        ensures { IsWeighed (option_map (λ _. weight.new) result) (numerator (tree_of self.now)) (denominator (tree_of self.now)) }
+    {
         match self {
-            Expr::Number { num } => weight_of((*num as u128).max(1), 1),
-            Expr::Fraction { num, den } => weight_of((*num as u128).max(1), *den as u128),
-            Expr::Atom { .. } => weight_of(1, 1),
-            Expr::Negation { inner } => inner.weigh(),
-            Expr::Sum { left, right } | Expr::Difference { left, right } => sum_weight(
-                left.weigh()?,
-                right.weigh()?,
-            ),
-            Expr::Product { left, right } => product_weight(left.weigh()?, right.weigh()?),
+            Expr::Number { num } => put(weight, (*num as u128).max(1), 1),
+            Expr::Fraction { num, den } => put(weight, (*num as u128).max(1), *den as u128),
+            Expr::Atom { .. } => put(weight, 1, 1),
+            Expr::Negation { inner } => inner.weigh_into(weight),
+            Expr::Sum { left, right } | Expr::Difference { left, right } => {
+                left.weigh_into(weight)?;
+                let first = *weight;
+                right.weigh_into(weight)?;
+                add_to(weight, &first)
+            }
+            Expr::Product { left, right } => {
+                left.weigh_into(weight)?;
+                let first = *weight;
+                right.weigh_into(weight)?;
+                multiply_by(weight, &first)
+            }
         }
     }
 }

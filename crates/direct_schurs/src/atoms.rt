@@ -30,7 +30,6 @@ fn single(alloc: Global, parts: &[u16], c: Frac) -> Result<Lin<Partition, Frac>,
 }
 
 /// A number over another.
-#[inline(never)]
 pub(crate) fn quotient(
     alloc: Global,
     num: i128,
@@ -77,7 +76,6 @@ fn from_parts(
 }
 
 /// A partition in a basis.
-#[inline(never)]
 pub(crate) fn atom(
     alloc: Global,
     basis: Basis,

@@ -89,7 +89,6 @@ fn add_products(
 }
 
 /// The product of two lists.
-#[inline(never)]
 pub(crate) fn product(
     alloc: Global,
     left: &Lin<Partition, Frac>,

@@ -7,9 +7,11 @@ ghost use Rattle.sym_model.specs.Polynomial.{In, Poly, times};
 ghost use Rattle.calc_expressions.specs.Trees.{basis_of, tree_of};
 ghost use Rattle.strip_rules.specs.Room.{HasRoom};
 ghost use Rattle.direct_schurs.specs.Families.{polynomial_of, product_of, basis_in};
+ghost use Rattle.direct_schurs.specs.Operands.{IsOperand};
+ghost use Rattle.calc_expressions.specs.declared.expr.Expr.{Expr};
 
+use crate::operand::Operand;
 use calc_base::{Basis, SumFault};
-use calc_expressions::Expr;
 use coeff_rings::Frac;
 use partitions::Partition;
 use sparse_polys::Lin;
@@ -103,12 +105,13 @@ fn family_of(basis: Basis) -> Option<Family>
     }
 }
 
-/// The family and the partition of an atom in e, h or p.
-pub(crate) fn factors_of(tree: &Expr) -> Option<(Family, &Partition)>
-    ensures { IfSome result (λ factors. tree_of tree.now ≡ atom (basis_in factors.0) factors.1.now) }
+/// The family and the partition of an operand that is an atom in e, h or p.
+pub(crate) fn factors_of<'a>(operand: &Operand<'a>) -> Option<(Family, &'a Partition)>
+    ensures { IfSome result (λ factors. (e : Expr) → IsOperand e operand.now
+        → tree_of e ≡ atom (basis_in factors.0) factors.1.now) }
 {
-    match tree {
-        Expr::Atom { basis, label } => Some((family_of(*basis)?, label)),
-        _ => None,
+    match operand {
+        Operand::Atom { basis, label } => Some((family_of(*basis)?, *label)),
+        Operand::Expanded { .. } => None,
     }
 }
