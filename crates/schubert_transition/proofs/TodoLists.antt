@@ -77,14 +77,6 @@ has_inserted {F} todo new at w h e =
 
 -- ---- another entry in the place of one
 
-pub same_at : {A : Type 0} (todo : List A) (i : ℕ) (w v : A) → i < length todo → w ≡ get_or todo i w → v ≡ get_or todo i v → v ≡ w
-same_at [] i w v h e f = absurd (omega arith)
-same_at (x ∷ todo) zero w v h e f = f ∙ sym e
-same_at (x ∷ todo) (suc i) w v h e f = same_at todo i w v (omega arith) e f
-
-pub has_found : {F : Type 0} (todo : List (Waiting F)) (at : ℕ) (w : Waiting F) (perm : List ℕ) → at < length todo → w ≡ get_or todo at w → (get_or todo at w).perm ≡ perm → HasPermutation perm todo at
-has_found {F} todo at w perm h is same x e = ap (λ (y : Waiting F). y.perm) (same_at todo at w x h is e ∙ is) ∙ same
-
 pub total_set : {A : Type 0} (f : A → ℤ) (todo : List A) (i : ℕ) (w v : A) → i < length todo → w ≡ get_or todo i w
     → total f (set todo i v) +ℤ f w ≡ total f todo +ℤ f v
 total_set f [] i w v h e = absurd (omega arith)
