@@ -3,7 +3,7 @@ ghost use Rattle.std.specs.Prelude.{◌≡◌, true};
 ghost use Rattle.calc_base.specs.Puts.{Puts};
 ghost use Rattle.batch_lines.specs.Ends.{separator, status_where, Finishes};
 
-use calc_base::{Sink, Status, finish_if};
+use calc_base::{Sink, Status};
 
 /// Puts the line `--`, but not in front of the first block, and answers whether all went well.
 pub fn put_separator<K: Sink>(is_first: bool, sink: &mut K) -> bool
@@ -16,11 +16,11 @@ pub fn put_separator<K: Sink>(is_first: bool, sink: &mut K) -> bool
 pub fn finished<K: Sink>(status: Status, sink: &mut K) -> Status
     ensures { Finishes K.written K.length K.faults K.settled sink.old sink.new status result }
 {
-    status_if(finish_if(true, sink), status)
+    status_if(sink.finish().is_ok(), status)
 }
 
 /// The status of a command or a batch: that which goes with its text, or that the sink failed.
-pub fn status_if(well: bool, status: Status) -> Status
+fn status_if(well: bool, status: Status) -> Status
     ensures { result ≡ status_where well status }
 {
     if well { status } else { Status::SinkFault }

@@ -16,7 +16,7 @@ mod progress;
 mod reader;
 mod sums;
 
-pub use ends::{finished, put_separator, status_if};
+pub use ends::{finished, put_separator};
 pub use laws::{blocks_law, lines_read_law};
 pub use line::work_line;
 pub use line_buf::LineBuf;

@@ -12,7 +12,7 @@ ghost use Rattle.calc_language.specs.Reading.{IsWithinItsLimits, command_of};
 ghost use Rattle.calc_replies.specs.Computed.{IsReplyTo, RunsNoOther, text_of, HasText, HasBlock, status_for};
 
 use batch_lines::{LineFault, LineReader, Next, Progress, at_end, finished, put_separator};
-use calc_base::{NoMemory, Place, Sink, Source, Status, WordsFault, finish_if};
+use calc_base::{NoMemory, Place, Sink, Source, Status, WordsFault};
 use calc_language::{Command, read_line};
 use calc_replies::{Outcome, put_text, reply_by, status_if_put, tell_block};
 use schubert_transition::Memo;
@@ -174,7 +174,7 @@ fn hand_on<K: Sink>(reader: &LineReader, sink: &mut K) -> bool
     ensures goes { Puts K.written K.length K.faults true sink.old result sink.new [] }
     ensures none { result ≡ false → HasNoFeed reader.now.pending }
 {
-    reader.has_line() || finish_if(true, sink)
+    reader.has_line() || sink.finish().is_ok()
 }
 
 /// Puts the line `--`, but not in front of the first block, and then the block, and answers whether all went well.

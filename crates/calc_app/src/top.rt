@@ -1,8 +1,7 @@
 //! The top call.
 
-ghost use Rattle.std.specs.Prelude.{◌≡◌, ◌≢◌, ◌≤◌, ℕ, List, [], Some, IsTrue, true, codes, map, string_bytes};
+ghost use Rattle.std.specs.Prelude.{◌≡◌, ◌≢◌, ◌≤◌, ℕ, List, Some, codes, map, string_bytes};
 ghost use Rattle.calc_base.specs.Fault.{Rose};
-ghost use Rattle.calc_base.specs.Puts.{Puts};
 ghost use Rattle.sym_model.specs.Command.{Command};
 ghost use Rattle.sym_model.specs.CommandOffence.{Offence};
 ghost use Rattle.sym_model.specs.Ending.{syntax};
@@ -11,13 +10,13 @@ ghost use Rattle.calc_language.specs.BuiltCommands.{command_entries};
 ghost use Rattle.sym_model.specs.Outcome.{ending_of};
 ghost use Rattle.sym_model.specs.RefusalText.{refusal_line, offence_line};
 ghost use Rattle.sym_model.specs.SyntaxPlace.{IsSyntaxPlace};
-ghost use Rattle.calc_replies.specs.Computed.{text_of, HasText, HasBlock};
+ghost use Rattle.calc_replies.specs.Computed.{HasText};
 ghost use Rattle.calc_app.specs.Top.{Leaves, IsEmptied, IsOutcome, RunsLines, PrintsAnswerTo, PrintsLines, CutsLines, IsThrough, IsAccepted, IsRefused, PutsOutcome};
 
 use crate::batch::batch;
 use crate::workload::work;
-use batch_lines::status_if;
-use calc_base::{NoMemory, Sink, Source, Status, finish_if};
+use batch_lines::finished;
+use calc_base::{NoMemory, Sink, Source, Status};
 use calc_replies::{Outcome, Task, put_text, status_if_put, task_of};
 use std::alloc::Global;
 
@@ -101,23 +100,15 @@ pub fn run<S: Source, K: Sink>(
     }
 }
 
-/// Puts what comes of the words of a command, and answers the status.
+/// Puts what comes of the words of a command and finishes the sink, and answers the status, or that the sink failed.
 fn put_outcome<K: Sink>(outcome: Outcome, sink: &mut K) -> Status
     requires { HasText outcome }
     ensures { PutsOutcome K.written K.length K.faults K.settled sink.old sink.new outcome result }
 {
     let mut outcome = outcome;
     let status = status_if_put(&outcome);
-    status_if(deliver(&mut outcome, sink), status)
-}
-
-/// Puts the text and finishes the sink, and answers whether all went well.
-fn deliver<K: Sink>(outcome: &mut Outcome, sink: &mut K) -> bool
-    requires { HasText outcome.old }
-    ensures goes { Puts K.written K.length K.faults true sink.old result sink.new (text_of outcome.old) }
-    ensures settled { IsTrue result → K.settled sink.new ≡ true }
-    ensures printable { HasBlock outcome.old }
-{
-    let well = put_text(outcome, sink);
-    finish_if(well, sink)
+    if !put_text(&mut outcome, sink) {
+        return Status::SinkFault;
+    }
+    finished(status, sink)
 }

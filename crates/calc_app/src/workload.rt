@@ -7,8 +7,8 @@ ghost use Rattle.calc_replies.specs.Computed.{text_of, HasText, HasBlock};
 ghost use Rattle.calc_app.specs.Work.{AddsLine, AreSumsOf, PutsSums, EndsWork};
 
 use crate::batch::{line_outcome, new_memo};
-use batch_lines::{LineBuf, Sums, put_summary, status_if, work_line};
-use calc_base::{GrowingSink, NoMemory, Sink, Status, finish_if};
+use batch_lines::{LineBuf, Sums, finished, put_summary, work_line};
+use calc_base::{GrowingSink, NoMemory, Sink, Status};
 use calc_replies::{Outcome, put_text};
 use schubert_transition::Memo;
 use std::alloc::Global;
@@ -30,8 +30,10 @@ pub fn work<K: Sink>(alloc: Global, lines: u16, seed: u32, sink: &mut K) -> Stat
 fn put_sums<K: Sink>(sums: &Sums, sink: &mut K) -> Status
     ensures { PutsSums K.written K.length K.faults K.settled sink.old sink.new sums.now result }
 {
-    let well = put_summary(sums, sink);
-    status_if(finish_if(well, sink), Status::Done)
+    if !put_summary(sums, sink) {
+        return Status::SinkFault;
+    }
+    finished(Status::Done, sink)
 }
 
 /// The sums over the blocks of the lines.

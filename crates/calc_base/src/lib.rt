@@ -33,4 +33,4 @@ pub use std_in::StdIn;
 pub use std_out::StdOut;
 pub use word::Word;
 pub use words::{Basis, Place, Weight, WordsFault};
-pub use writing::{finish_if, put_if};
+pub use writing::put_if;

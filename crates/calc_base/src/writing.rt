@@ -1,5 +1,4 @@
-//! The tools of a printer: it goes on only while all went well, and keeps that in one truth value.
-ghost use Rattle.std.specs.Prelude.{◌≡◌, [], true, IsTrue};
+//! The tool of a printer: it goes on only while all went well, and keeps that in one truth value.
 ghost use Rattle.calc_base.specs.Puts.{Puts};
 
 use crate::Sink;
@@ -9,12 +8,4 @@ pub fn put_if<K: Sink>(well: bool, sink: &mut K, bytes: &[u8]) -> bool
     ensures goes { Puts K.written K.length K.faults well sink.old result sink.new bytes.now }
 {
     well && sink.put(bytes).is_ok()
-}
-
-/// Finishes the sink where all went well so far, and answers whether all still does: then the sink is settled.
-pub fn finish_if<K: Sink>(well: bool, sink: &mut K) -> bool
-    ensures goes { Puts K.written K.length K.faults well sink.old result sink.new [] }
-    ensures settled { IsTrue result → K.settled sink.new ≡ true }
-{
-    well && sink.finish().is_ok()
 }

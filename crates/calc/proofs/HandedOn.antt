@@ -1,0 +1,18 @@
+-- What is told of a sink over a writer in whose buffer nothing waits.
+use Rattle.std.proofs.Common.{◌≡◌, ℕ, List, [], ◌∷◌, Option, Some, None, true, false, refl, ap, ◌∙◌, append-nil}
+use Rattle.std.proofs.lemmas.Bool.{and_parts}
+use Rattle.std.specs.Io.KnownBytes.{append_known}
+use Rattle.calc_base.specs.Edge.{Outlet, told_bytes, is_none, is_handed_on}
+
+none_waits : (waiting : List ℕ) → is_none waiting ≡ true → waiting ≡ []
+none_waits [] h = refl
+none_waits (byte ∷ bytes) h = let clash : false ≡ true = h in cc
+
+nothing_more : (known : Option (List ℕ)) → append_known known [] ≡ known
+nothing_more None = refl
+nothing_more (Some bytes) = ap Some (append-nil bytes)
+
+-- what was put is what the writer holds
+pub handed_on : {W : Type 0} (contents : W → Option (List ℕ)) (s : Outlet W) → is_handed_on s ≡ true → told_bytes contents s ≡ contents s.writer
+handed_on contents s settled =
+    ap (append_known (contents s.writer)) (none_waits s.waiting (and_parts s.finished (is_none s.waiting) settled).1) ∙ nothing_more (contents s.writer)
