@@ -37,7 +37,7 @@ use Rattle.calc_replies.specs.declared.outcome.Outcome.TheVariants.{Answered, Re
 -- what is put for a list: a line for each tableau, and the line 0 where there is none
 abbrev pub listing_text : Option Listing → List ℕ
 listing_text None = codes "0\n"
-listing_text (Some l) = readings_text l.shape.0 l.shape.1 l.lattice.rest
+listing_text (Some l) = readings_text l.order.0 l.order.1 l.lattice.rest
 
 -- what is put for the answer to a command on tableaux
 abbrev pub lines_text : TableauAnswer → List ℕ

@@ -13,7 +13,7 @@ ghost use Rattle.calc_replies.specs.Computed.{IsReplyTo, listing_text};
 use crate::outcome::Outcome;
 use crate::tableau_answer::{TableauAnswer, told};
 use calc_base::{Lister, NoMemory, Sink, Word, put_if};
-use expansion_printer::print_reading;
+use expansion_printer::{ReadingOrder, print_reading};
 use partitions::Partition;
 use skew_shapes::Skew;
 use std::alloc::Global;
@@ -22,8 +22,8 @@ use tableau_iter::{Lattice, ResumeFault};
 /// The lattice tableaux of a skew shape.
 #[derive(Drop)]
 pub struct Listing {
-    /// The skew shape.
-    pub shape: Skew,
+    /// The skew shape, as its tableaux are printed.
+    pub order: ReadingOrder,
     /// The column readings of the tableaux that are still to come.
     pub lattice: Lattice,
 }
@@ -64,8 +64,9 @@ pub(crate) fn tab(
         return Ok(told(TableauAnswer::Listed { list: None }));
     };
     let lattice = listed(alloc, &shape, outer.rows(), after)?;
+    let order = ReadingOrder::new(alloc, shape)?;
     Ok(told(TableauAnswer::Listed {
-        list: Some(Listing { shape, lattice }),
+        list: Some(Listing { order, lattice }),
     }))
 }
 
@@ -82,23 +83,23 @@ pub(crate) fn put_listed<K: Sink>(list: &mut Option<Listing>, sink: &mut K) -> b
 /// Puts the lines of the tableaux, or the line `0` where there is none.
 fn put_listing<K: Sink>(list: &mut Listing, sink: &mut K) -> bool
     ensures { Puts K.written K.length K.faults true sink.old result sink.new
-        (readings_text list.old.shape.0 list.old.shape.1 list.old.lattice.rest) }
+        (readings_text list.old.order.0 list.old.order.1 list.old.lattice.rest) }
 {
     if !list.lattice.advance() {
         return put_if(true, sink, b"0\n");
     }
-    let well = print_reading(&list.shape, list.lattice.current(), sink).is_ok();
-    put_lines(well, &list.shape, &mut list.lattice, sink)
+    let well = print_reading(&list.order, list.lattice.current(), sink).is_ok();
+    put_lines(well, &list.order, &mut list.lattice, sink)
 }
 
 /// Puts a line for each tableau that is still to come, as long as all goes well.
-fn put_lines<K: Sink>(well: bool, shape: &Skew, lattice: &mut Lattice, sink: &mut K) -> bool
+fn put_lines<K: Sink>(well: bool, order: &ReadingOrder, lattice: &mut Lattice, sink: &mut K) -> bool
     ensures { Puts K.written K.length K.faults well sink.old result sink.new
-        (flat_map (λ w. tableau_line (filling_of shape.now.0 shape.now.1 w)) lattice.old.rest) }
+        (flat_map (λ w. tableau_line (filling_of order.now.0 order.now.1 w)) lattice.old.rest) }
 {
     let mut well = well;
     while well && lattice.advance() {
-        well = print_reading(shape, lattice.current(), sink).is_ok();
+        well = print_reading(order, lattice.current(), sink).is_ok();
     }
     well
 }

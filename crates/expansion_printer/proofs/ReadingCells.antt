@@ -5,14 +5,29 @@ use Rattle.std.proofs.lemmas.Bool.{eq-eqb, ne_eqb, cases_eq, cond-true, cond-fal
 use Rattle.std.proofs.lemmas.Bool.Decides.{nat_tests}
 use Rattle.std.proofs.lemmas.List.{reverse-append, length-map, get_or-drop}
 use Rattle.std.specs.List.{sum_by, count_by}
-use Rattle.std.proofs.lemmas.List.Sums.{sum_by-cons, sum_by-append, sum_by_push}
+use Rattle.std.proofs.lemmas.List.Sums.{sum_by-cons, sum_by-append, sum_by-le-sum_by}
 use Rattle.sym_model.specs.Sum.{each, select}
 use Rattle.sym_model.specs.Partition.{after, part, rows, columns, IsCell, Falls}
 use Rattle.sym_model.specs.TableauList.{column_cells, reading_cells, letter_of_cell}
 use Rattle.sym_model.proofs.Numbers.{nat_lt-false}
 use Rattle.skew_shapes.specs.Rows.{reaches}
-use Rattle.expansion_printer.specs.ReadingPlaces.{cells_before}
+use Rattle.sym_model.specs.Partition.{size}
+use Rattle.skew_shapes.specs.CellFillings.{filled_with}
+use Rattle.skew_shapes.proofs.CellRows.{letter-rows_by}
+use Rattle.expansion_printer.specs.ReadingPlaces.{HasReadingPlaces}
 use Rattle.expansion_printer.proofs.RowTexts.{after-push}
+use Rattle.expansion_printer.proofs.TableauRows.{parts-told}
+
+-- how many cells of a row, whose columns go from left + 1 to right, are read before one in this column and a row below it, or
+-- before one in this column and a row that is not below it
+abbrev before_in_row : ℕ → ℕ → ℕ → Bool → ℕ
+before_in_row left right column is_above =
+    (right - max left column) + cond (is_above && (nat_lt left column && nat_le column right)) 1 0
+
+-- how many cells of outer/inner are read before one
+abbrev cells_before : List ℕ → List ℕ → ℕ → ℕ → ℕ
+cells_before outer inner row column =
+    sum_by (λ i. before_in_row (part inner i) (part outer i) column (nat_lt i row)) (after 0 (rows outer))
 
 one-add : (k : ℕ) → 1 + k ≡ suc k
 one-add k = omega arith
@@ -30,12 +45,6 @@ sum_by-ext : {A : Type 0} (f h : A → ℕ) (xs : List A) → ((x : A) → f x �
 sum_by-ext f h [] same = refl
 sum_by-ext f h (x ∷ xs) same =
     sum_by-cons f x xs ∙ (ap₂ ◌+◌ (same x) (sum_by-ext f h xs same) ∙ sym (sum_by-cons h x xs))
-
--- one more number
-pub sum_by-more : (f : ℕ → ℕ) (k : ℕ) → sum_by f (after 0 k) + f (k + 1) ≡ sum_by f (after 0 (k + 1))
-sum_by-more f k =
-    let last : k + 1 ≡ 0 + k + 1 = omega arith in
-    ap (λ n. sum_by f (after 0 k) + f n) last ∙ (sym (sum_by_push f (after 0 k) (0 + k + 1)) ∙ ap (sum_by f) (after-push 0 k))
 
 length-select : {A : Type 0} (test : A → Bool) (xs : List A) → length (select test xs) ≡ count_by test xs
 length-select test [] = refl
@@ -225,7 +234,7 @@ first_greatest (a ∷ b ∷ parts) falls zero = omega arith
 first_greatest (a ∷ b ∷ parts) falls (suc k) = let h = first_greatest (b ∷ parts) falls.1 k in omega (arith, falls.0)
 
 -- the letter of a cell stands in the reading behind those of the cells before it
-pub letter-is : (outer inner : List ℕ) (row column : ℕ) → Falls outer → IsCell outer inner row column → (w : List ℕ)
+letter-is : (outer inner : List ℕ) (row column : ℕ) → Falls outer → IsCell outer inner row column → (w : List ℕ)
     → slice_index w (cells_before outer inner row column) ≡ letter_of_cell row column (reading_cells outer inner) w
 letter-is outer inner row column falls cell w =
     let most : column ≤ columns outer = (let h = first_greatest outer falls (row - 1) in let k = cell.within in omega arith) in
@@ -233,3 +242,32 @@ letter-is outer inner row column falls cell w =
     sym (read_from outer inner row column cell (columns outer) most w
     ∙ ap (slice_index w) (ap (λ n. n + above outer inner row column cell) (columns_long outer inner (columns outer - column) column every)
     ∙ sym (sum_by-add (λ i. part outer i - max (part inner i) column) (λ i. cond (nat_lt i row && reaches outer inner column i) 1 0) (after 0 (rows outer)))))
+
+-- ---- the places of the cells
+
+before-few : (left right column : ℕ) (is_above : Bool) → before_in_row left right column is_above ≤ right
+before-few left right column false = grind (arith, nat_tests)
+before-few left right column true = grind (arith, nat_tests)
+
+sum_by-size : (f : ℕ → ℕ) (xs : List ℕ) → sum_by f xs ≡ size (map f xs)
+sum_by-size f [] = refl
+sum_by-size f (x ∷ xs) = sum_by-cons f x xs ∙ ap (λ n. f x + n) (sum_by-size f xs)
+
+-- no more cells are read before one than the outer partition has
+before-within : (outer inner : List ℕ) (row column : ℕ) → cells_before outer inner row column ≤ size outer
+before-within outer inner row column =
+    let most = sum_by-le-sum_by (λ i. before_in_row (part inner i) (part outer i) column (nat_lt i row)) (part outer) (after 0 (rows outer))
+    (λ i. before-few (part inner i) (part outer i) column (nat_lt i row)) in
+    omega (arith, most, sum_by-size (part outer) (after 0 (rows outer)) ∙ ap size (parts-told outer))
+
+-- a filling whose column reading counts from 0 on
+pub places-told : (outer inner numbers : List ℕ) → Falls outer → ((i : ℕ) → i < size outer + 1 → slice_index numbers i ≡ i)
+    → HasReadingPlaces (filled_with outer inner numbers)
+places-told outer inner numbers falls count = record {
+  letters = λ row column cell w.
+      let before = cells_before outer inner row column in
+      let few = before-within outer inner row column in
+      ap (slice_index w) (letter-rows_by (λ i j. letter_of_cell i j (reading_cells outer inner) numbers) outer inner row column cell
+      ∙ sym (letter-is outer inner row column falls cell numbers) ∙ count before (omega (arith, few)))
+      ∙ letter-is outer inner row column falls cell w;
+}

@@ -62,3 +62,8 @@ rows-told outer inner filling cells =
         ∙ tabulated 0 (entry r) row left 0 count many
         (λ k low. let place : (left + k + 1) - (left + 1) ≡ k = omega arith in
         ap (slice_index (row_of filling r)) place ∙ ap (λ (w : List ℕ). slice_index w k) same)
+
+-- the parts of a partition, row by row
+pub parts-told : (parts : List ℕ) → map (part parts) (after 0 (rows parts)) ≡ parts
+parts-told parts =
+    tabulated 0 (part parts) parts 0 0 (rows parts) (omega arith) (λ i below. let at : 0 + i + 1 - 1 ≡ i = omega arith in ap (slice_index parts) at)

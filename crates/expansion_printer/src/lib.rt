@@ -22,6 +22,7 @@ mod words;
 pub use answer::{Answer, Kind};
 pub use block::{print, tell_printable};
 pub use line::print_one_line;
+pub use reading::ReadingOrder;
 pub use refusal::{print_large, print_refusal};
 pub use tableau::{print_filled, print_reading, print_tableau};
 pub use words::{print_label, print_letters, print_shapes};

@@ -1,63 +1,100 @@
 //! Fillings that are told by their column readings.
-ghost use Rattle.std.specs.Prelude.{◌≡◌, ◌≤◌, ◌<◌, ◌+◌, ℕ, List};
+ghost use Rattle.std.specs.Prelude.{◌≡◌, ◌≤◌, ◌<◌, ℕ, List, slice_index, IfOk};
+ghost use Rattle.sym_model.specs.Partition.{IsCell};
 ghost use Rattle.sym_model.specs.TableauList.{letter_of_cell, reading_cells};
-ghost use Rattle.partitions.specs.Limits.{IsWithinLimits};
-ghost use Rattle.expansion_printer.specs.ReadingPlaces.{before_in_row, cells_before};
 
 use crate::rows::Entries;
+use calc_base::NoMemory;
 use partitions::Partition;
+use skew_shapes::{Filled, Skew};
+use std::alloc::{AllocError, Global};
+use std::marker::Model;
 
-/// A skew shape with the letters of a column reading in its cells: the columns from the rightmost to the leftmost, each
-/// from top to bottom.
+/// A skew shape with the place of each cell in the column reading. It is made once for all fillings of the shape that are
+/// printed by their readings.
+#[derive(Drop)]
+pub struct ReadingOrder {
+    places: Filled,
+}
+
+impl Model for ReadingOrder {
+    ghost use Rattle.std.specs.Prelude.{ℕ, List};
+    ghost use Rattle.expansion_printer.specs.ReadingPlaces.{HasReadingPlaces};
+
+    ghost Value = { List ℕ × List ℕ };
+
+    ghost view = { λ o. (o.places.outer, o.places.inner) };
+
+    ghost invariant = { λ o. HasReadingPlaces o.places };
+}
+
+impl ReadingOrder {
+    /// The order of the cells of a shape. It fails for want of memory alone.
+    pub fn new(alloc: Global, shape: Skew) -> Result<ReadingOrder, NoMemory>
+        ensures { IfOk result (λ order. order ≡ shape) }
+    {
+        let numbers = numbers_below(alloc, shape.outer().size() + 1)?;
+        let places = Filled::with_reading(alloc, shape, &numbers)?;
+        Ok(ReadingOrder { places })
+    }
+
+    fn outer(&self) -> &Partition
+        ensures { result.now ≡ self.now.0 }
+    {
+        self.places.shape().outer()
+    }
+
+    fn inner(&self) -> &Partition
+        ensures { result.now ≡ self.now.1 }
+    {
+        self.places.shape().inner()
+    }
+
+    /// The place of the letter of a cell.
+    fn place(&self, row: u16, column: u16) -> usize
+        requires { IsCell self.now.0 self.now.1 row column }
+        ensures { (w : List ℕ) → slice_index w result ≡ letter_of_cell row column (reading_cells self.now.0 self.now.1) w }
+    {
+        usize::from(self.places.entry(row, column).unwrap_or(0))
+    }
+}
+
+/// The numbers from 0 on, so many.
+fn numbers_below(alloc: Global, count: u16) -> Result<Vec<u16>, AllocError>
+    ensures { IfOk result (λ numbers. (i : ℕ) → i < count → slice_index numbers.items i ≡ i) }
+{
+    let mut numbers = Vec::with_capacity(alloc, usize::from(count))?;
+    for number in 0..count {
+        numbers.push(number)?;
+    }
+    Ok(numbers)
+}
+
+/// The cells of a shape with the letters of a column reading: the columns from the rightmost to the leftmost, each from top
+/// to bottom.
 #[derive(Drop)]
 pub(crate) struct Reading<'a> {
-    pub(crate) outer: &'a Partition,
-    pub(crate) inner: &'a Partition,
+    pub(crate) order: &'a ReadingOrder,
     pub(crate) letters: &'a [u16],
 }
 
 impl Entries for Reading<'_> {
-    ghost outer = { λ r. r.outer.now };
+    ghost outer = { λ r. r.order.now.0 };
 
-    ghost inner = { λ r. r.inner.now };
+    ghost inner = { λ r. r.order.now.1 };
 
-    ghost entry = { λ r row column. letter_of_cell row column (reading_cells r.outer.now r.inner.now) r.letters.now };
+    ghost entry = { λ r row column. letter_of_cell row column (reading_cells r.order.now.0 r.order.now.1) r.letters.now };
 
     fn outer(&self) -> &Partition {
-        self.outer
+        self.order.outer()
     }
 
     fn inner(&self) -> &Partition {
-        self.inner
+        self.order.inner()
     }
 
     fn entry(&self, row: u16, column: u16) -> u16 {
-        let place = place_in_reading(self.outer, self.inner, row, column);
+        let place = self.order.place(row, column);
         self.letters.get(place).copied().unwrap_or(0)
-    }
-}
-
-/// How many cells of a skew shape are read before the one in this row and this column.
-fn place_in_reading(outer: &Partition, inner: &Partition, row: u16, column: u16) -> usize
-    ensures place { result ≡ cells_before outer.now inner.now row column }
-    ensures limits { IsWithinLimits outer.now }
-{
-    let mut place: usize = 0;
-    for at in 0..outer.rows() {
-        place += count_before(inner.part(at + 1), outer.part(at + 1), column, at + 1 < row);
-    }
-    place
-}
-
-/// How many cells of a row are read before one in this column, whose row may be below it.
-fn count_before(left: u16, right: u16, column: u16, is_above: bool) -> usize
-    ensures count { result ≡ before_in_row left right column is_above }
-    ensures few { result ≤ 65536 }
-{
-    let later = usize::from(right.saturating_sub(left.max(column)));
-    if is_above && left < column && column <= right {
-        later + 1
-    } else {
-        later
     }
 }

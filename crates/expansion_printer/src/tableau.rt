@@ -6,12 +6,12 @@ ghost use Rattle.sym_model.specs.TableauText.{tableau_line};
 ghost use Rattle.skew_shapes.specs.CellFillings.{place_in_row, row_of};
 ghost use Rattle.skew_shapes.specs.Rows.{rows_by};
 
-use crate::reading::Reading;
+use crate::reading::{Reading, ReadingOrder};
 use crate::rows::{Entries, put_rows};
 use crate::text_buffer::TextBuffer;
 use calc_base::{Sink, SinkFault};
 use partitions::Partition;
-use skew_shapes::{Filled, Skew, Tableau};
+use skew_shapes::{Filled, Tableau};
 
 impl Entries for Tableau {
     ghost outer = { λ t. t.outer };
@@ -74,16 +74,19 @@ pub fn print_filled<K: Sink>(f: &Filled, sink: &mut K) -> Result<(), SinkFault>
 }
 
 /// Prints the line of the filling of a shape with this column reading: the columns from the rightmost to the leftmost,
-/// each from top to bottom.
+/// each from top to bottom. Cells past the last letter have the number 0.
 ///
 /// `SinkFault` exactly where a put failed. It is the last one, and what was put is then a prefix of the line.
-pub fn print_reading<K: Sink>(shape: &Skew, reading: &[u16], sink: &mut K) -> Result<(), SinkFault>
+pub fn print_reading<K: Sink>(
+    order: &ReadingOrder,
+    reading: &[u16],
+    sink: &mut K,
+) -> Result<(), SinkFault>
     ensures { Prints K.written K.length K.faults sink.old sink.new
-        (tableau_line (filling_of shape.now.0 shape.now.1 reading.now)) result }
+        (tableau_line (filling_of order.now.0 order.now.1 reading.now)) result }
 {
     let filling = Reading {
-        outer: shape.outer(),
-        inner: shape.inner(),
+        order,
         letters: reading,
     };
     print_filling(&filling, sink)

@@ -8,8 +8,8 @@ use Rattle.calc_replies.proofs.listing.put_listing.Goals as goal
 
 pub returns : goal.returns
 returns g c =
-    let outer = c.args.list.now.shape.0 in
-    let inner = c.args.list.now.shape.1 in
+    let outer = c.args.list.now.order.0 in
+    let inner = c.args.list.now.order.1 in
     let w = c.current.result.now in
     let rest = c.advance.new.self.rest in
     let whole : w ∷ rest ≡ c.args.list.now.lattice.rest =

@@ -44,5 +44,5 @@ returns c =
     c.in-Some.ensures.value
     ∙ ap (λ (x : List ℕ). (x, c.in_ok-copy-2.field-0)) c.in_ok-copy.ensures.ok
     ∙ ap (λ (y : List ℕ). (outer, y)) c.in_ok-copy-2.ensures.ok in
-    rw (c.told-2.ensures)
+    rw (c.told-2.ensures, c.in_ok-order.ensures)
     (listed-lines outer inner c.in-Some.shape c.args.after.now c.in_ok-lattice.lattice.rest shape c.in_ok-lattice.ensures)
