@@ -46,7 +46,7 @@ pub line_reply : (line : BatchLine) (command : Command) (outcome : Outcome) → 
     → IsReplyTo (command_of command) (Ok outcome) → ComesOfLine line (Some outcome)
 line_reply too_long command outcome read reply = absurd read
 line_reply passed_over command outcome read reply = absurd read
-line_reply (spoken words) command outcome read reply = computes_reply batch_entries words (command_of command) (Ok outcome) read reply
+line_reply (spoken words) command outcome read reply = computes_reply batch_entries words (command_of command) (Ok outcome) read.0 reply
 
 -- the line ended the block, with an ending that goes with the status
 pub record HasBlockOf (line : BatchLine) (text : List ℕ) (answer : Status) : Type 0 where

@@ -1,7 +1,7 @@
--- A command of a line runs no other ones.
+-- A command of a line is sound, and runs no other ones.
 use Rattle.std.proofs.Common.{ℕ, List, [], ◌∷◌, sym, subst, inl, inr}
 use Rattle.std.specs.Prelude.{Ok, Some}
-use Rattle.calc_commands.specs.Commands.{command_of}
+use Rattle.calc_commands.specs.Commands.{command_of, IsSound}
 use Rattle.calc_commands.specs.declared.command.Command.{Command as Read}
 use Rattle.calc_language.specs.BuiltCommands.{batch_entries}
 use Rattle.calc_language.specs.Lines.{IsLineRead}
@@ -26,4 +26,9 @@ each_alone = (
 pub read_alone : (line : BatchLine) (command : Read) → IsLineRead line (Ok (Some command)) → RunsNoOther (command_of command)
 read_alone too_long command read = absurd read
 read_alone passed_over command read = absurd read
-read_alone (spoken words) command read = some_alone batch_entries words (command_of command) each_alone read
+read_alone (spoken words) command read = some_alone batch_entries words (command_of command) each_alone read.0
+
+pub read_sound : (line : BatchLine) (command : Read) → IsLineRead line (Ok (Some command)) → IsSound command
+read_sound too_long command read = absurd read
+read_sound passed_over command read = absurd read
+read_sound (spoken words) command read = read.1

@@ -7,6 +7,7 @@ ghost use Rattle.batch_lines.specs.Reading.{IsAtEnd, ReadsNext, Took, most_pendi
 ghost use Rattle.calc_base.specs.Puts.{Puts};
 ghost use Rattle.sym_model.specs.BatchLine.{batch_line, too_long};
 ghost use Rattle.batch_lines.specs.Ends.{separator, progress_after};
+ghost use Rattle.calc_commands.specs.Commands.{IsSound};
 ghost use Rattle.calc_app.specs.Batch.{ComesOfLine, TakesTurn, CutsTurn, CountsTurn, EndsBatch};
 ghost use Rattle.calc_language.specs.Reading.{IsWithinItsLimits, command_of};
 ghost use Rattle.calc_replies.specs.Computed.{IsReplyTo, RunsNoOther, text_of, HasText, HasBlock, status_for};
@@ -96,10 +97,9 @@ fn next_turn<S: Source>(
     ensures short { IfOk result (λ _. length reader.new.pending ≤ most_pending) }
 {
     match reader.next(source) {
-        Ok(Next::Line) => match line_outcome(alloc, memo, reader.line()) {
-            Ok(None) => Ok(Turn::Passed),
-            Ok(Some(outcome)) => Ok(Turn::Block { outcome }),
-            Err(NoMemory) => Err(LineFault::NoMemory),
+        Ok(Next::Line) => match line_outcome(alloc, memo, reader.line())? {
+            None => Ok(Turn::Passed),
+            Some(outcome) => Ok(Turn::Block { outcome }),
         },
         Ok(Next::TooLong) => Ok(Turn::Block {
             outcome: refused_long(),
@@ -119,10 +119,10 @@ pub(crate) fn line_outcome(
     ensures { IfOk result (ComesOfLine (batch_line line.now)) }
 {
     match read_line(alloc, line) {
-        Ok(Some(command)) => match reply_once(alloc, memo, command) {
-            Ok(outcome) => Ok(Some(outcome)),
-            Err(NoMemory) => Err(NoMemory),
-        },
+        Ok(Some(command)) => {
+            let outcome = reply_once(alloc, memo, command)?;
+            Ok(Some(outcome))
+        }
         Ok(None) => Ok(None),
         Err(WordsFault::NoMemory) => Err(NoMemory),
         Err(fault) => Ok(Some(Outcome::Refused { fault })),
@@ -132,6 +132,7 @@ pub(crate) fn line_outcome(
 /// What comes of a command of a line, which is dropped then.
 fn reply_once(alloc: Global, memo: &mut Memo, command: Command) -> Result<Outcome, NoMemory>
     requires limits { IsWithinItsLimits command }
+    requires sound { IsSound command }
     requires alone { RunsNoOther (command_of command) }
     ensures { IsReplyTo (command_of command) result }
 {

@@ -48,10 +48,7 @@ fn sums_of(alloc: Global, lines: u16, seed: u32) -> Result<Sums, NoMemory>
     let mut memo = new_memo(alloc)?;
     for _index in 0..lines {
         work_line(&mut state, &mut line);
-        match add_line(alloc, &mut memo, line.as_bytes(), &mut text, &mut sums) {
-            Ok(()) => {}
-            Err(NoMemory) => return Err(NoMemory),
-        }
+        add_line(alloc, &mut memo, line.as_bytes(), &mut text, &mut sums)?;
     }
     Ok(sums)
 }
@@ -68,10 +65,9 @@ fn add_line(
     requires room { sums.old.lines < 65536 }
     ensures { IfOk result (λ _. AddsLine (batch_line line.now) sums.old sums.new) }
 {
-    match line_outcome(alloc, memo, line) {
-        Ok(Some(outcome)) => add_block(outcome, text, sums),
-        Ok(None) => Ok(()),
-        Err(NoMemory) => Err(NoMemory),
+    match line_outcome(alloc, memo, line)? {
+        Some(outcome) => add_block(outcome, text, sums),
+        None => Ok(()),
     }
 }
 

@@ -7,9 +7,8 @@ use Rattle.calc_base.specs.declared.status.Status.{Status}
 use Rattle.calc_base.specs.declared.status.Status.TheVariants as status
 use Rattle.calc_base.specs.declared.words.WordsFault.{WordsFault}
 use Rattle.calc_base.specs.declared.words.WordsFault.TheVariants as fault
-use Rattle.calc_language.specs.Reading.{IsFaultOf, command_of}
-use Rattle.calc_commands.specs.declared.command.Command.{Command}
-use Rattle.calc_words.specs.Reading.{IsRead as IsReadBy}
+use Rattle.calc_language.specs.Reading.{IsFaultOf}
+use Rattle.calc_words.specs.Reading.{IsRefusal}
 use Rattle.expansion_printer.specs.declared.answer.Answer.{Answer}
 use Rattle.expansion_printer.specs.Answers.{plain_answer}
 use Rattle.expansion_printer.specs.Refusal.{refusal_text}
@@ -80,7 +79,7 @@ pub record RepliesTo (entries : List Entry) (words : List (List ℕ)) (result : 
 
 -- the words are refused for this reason, which is no want of memory
 abbrev pub AreRefused : List Entry → List (List ℕ) → WordsFault → Type 0
-AreRefused entries words reason = IsReadBy {A = Command} entries command_of words (Err reason) × (reason ≢ fault.NoMemory)
+AreRefused entries words reason = IsRefusal entries words reason × (reason ≢ fault.NoMemory)
 
 -- what comes of the words: what comes of the command of the list that they spell, or their refusal; want of memory says nothing
 abbrev pub Computes : List Entry → List (List ℕ) → Result Outcome NoMemory → Type 0

@@ -59,10 +59,8 @@ fn composition(
     let list = in_target(alloc, target, outer, inner)?;
     // This tells the proof that no label stands twice in it.
     list.len();
-    match list.sorted_terms() {
-        Ok(terms) => Ok(terms),
-        Err(NoMemory) => Err(SumFault::NoMemory),
-    }
+    let terms = list.sorted_terms()?;
+    Ok(terms)
 }
 
 /// The plethysm in the target, in no order.

@@ -52,16 +52,11 @@ fn expansion(
         (cleared_value (tree_of formula.now.tree) n) (denominator (tree_of formula.now.tree))) }
     ensures large { IsErrOf result SumFault.Large → 2 ^ 127 ≤ weight (basis_of target) (tree_of formula.now.tree) }
 {
-    let list = match in_target(alloc, target, formula) {
-        Ok(list) => list,
-        Err(fault) => return Err(fault),
-    };
+    let list = in_target(alloc, target, formula)?;
     // This tells the proof that no label stands twice in it.
     list.len();
-    match list.sorted_terms() {
-        Ok(terms) => Ok(terms),
-        Err(NoMemory) => Err(SumFault::NoMemory),
-    }
+    let terms = list.sorted_terms()?;
+    Ok(terms)
 }
 
 /// The expansion in the target, in no order.
@@ -92,10 +87,7 @@ fn by_monomials(
         (cleared_value (tree_of formula.now.tree) n) (denominator (tree_of formula.now.tree))) }
     ensures large { IsErrOf result SumFault.Large → 2 ^ 127 ≤ weight (basis_of target) (tree_of formula.now.tree) }
 {
-    let list = match to_monomial(alloc, formula) {
-        Ok(list) => list,
-        Err(fault) => return Err(fault),
-    };
+    let list = to_monomial(alloc, formula)?;
     if target == Basis::M {
         return Ok(list);
     }

@@ -1,15 +1,15 @@
 //! The answers to `rsk`, `unrsk` and `rect`.
 ghost use Rattle.sym_model.specs.Command as commands;
+ghost use Rattle.calc_commands.specs.Pairs.{IsPair};
 ghost use Rattle.calc_words.specs.WrittenLimits.{KeepsLimits};
 ghost use Rattle.calc_replies.specs.Computed.{IsReplyTo};
 
 use crate::outcome::Outcome;
 use crate::tableau_answer::{TableauAnswer, told};
 use calc_base::{NoMemory, Word};
-use calc_language::TableauPair;
 use jeu_de_taquin::rectify;
 use row_insertion::{insert_word, word_of_pair};
-use skew_shapes::Tableau;
+use skew_shapes::{Standard, Tableau};
 use std::alloc::Global;
 
 /// The insertion tableau and the recording tableau of a word.
@@ -22,10 +22,11 @@ pub(crate) fn rsk(alloc: Global, letters: &Word) -> Result<Outcome, NoMemory>
 }
 
 /// The word of a pair of tableaux.
-pub(crate) fn unrsk(alloc: Global, pair: &TableauPair) -> Result<Outcome, NoMemory>
-    ensures { IsReplyTo (commands.unrsk pair.now.0.rows pair.now.1.rows) result }
+pub(crate) fn unrsk(alloc: Global, p: &Tableau, q: &Standard) -> Result<Outcome, NoMemory>
+    requires { IsPair p.now q.now }
+    ensures { IsReplyTo (commands.unrsk p.now.rows q.now.rows) result }
 {
-    let word = word_of_pair(alloc, pair.first(), pair.second())?;
+    let word = word_of_pair(alloc, p, q)?;
     Ok(told(TableauAnswer::Spelled { word }))
 }
 

@@ -3,6 +3,7 @@ ghost use Rattle.std.specs.Prelude.{◌≡◌, ℕ, Some, map, string_bytes};
 ghost use Rattle.sym_model.specs.Command.{Command as PlainCommand};
 ghost use Rattle.sym_model.specs.CommandOffence.{Offence};
 ghost use Rattle.sym_model.specs.Entry.{SpellsWithoutOffence, HasFirstOffence};
+ghost use Rattle.calc_commands.specs.Commands.{IsSound};
 ghost use Rattle.calc_language.specs.BuiltCommands.{command_entries};
 ghost use Rattle.sym_model.specs.SyntaxPlace.{IsSyntaxPlace};
 ghost use Rattle.calc_language.specs.Reading.{command_of, IsWithinItsLimits};
@@ -102,7 +103,8 @@ pub fn task_of(alloc: Global, words: &[String]) -> Result<Task, NoMemory>
 
 /// What is to be done for a command.
 fn task_for(alloc: Global, command: &Command) -> Result<Task, NoMemory>
-    requires { IsWithinItsLimits command.now }
+    requires limits { IsWithinItsLimits command.now }
+    requires sound { IsSound command.now }
     ensures { IsTaskOf (command_of command.now) result }
 {
     match command {
@@ -121,6 +123,7 @@ fn task_for(alloc: Global, command: &Command) -> Result<Task, NoMemory>
 /// What comes of a command of a line, of which Schubert polynomials are kept.
 pub fn reply_by(alloc: Global, memo: &mut Memo, command: &Command) -> Result<Outcome, NoMemory>
     requires limits { IsWithinItsLimits command.now }
+    requires sound { IsSound command.now }
     requires alone { RunsNoOther (command_of command.now) }
     ensures { IsReplyTo (command_of command.now) result }
 {
@@ -133,6 +136,7 @@ pub fn reply_by(alloc: Global, memo: &mut Memo, command: &Command) -> Result<Out
 /// What comes of a command: its answer, or that this is too large.
 pub fn reply_to(alloc: Global, command: &Command) -> Result<Outcome, NoMemory>
     requires limits { IsWithinItsLimits command.now }
+    requires sound { IsSound command.now }
     requires alone { RunsNoOther (command_of command.now) }
     ensures { IsReplyTo (command_of command.now) result }
 {
@@ -173,7 +177,7 @@ pub fn reply_to(alloc: Global, command: &Command) -> Result<Outcome, NoMemory>
             formula,
         } => expanded(alloc, *target, *one_line, formula),
         Command::Rsk { letters } => insertion::rsk(alloc, letters),
-        Command::Unrsk { pair } => insertion::unrsk(alloc, pair),
+        Command::Unrsk { p, q } => insertion::unrsk(alloc, p, q),
         Command::Rect { tableau } => insertion::rect(tableau),
         Command::Growth { perm } => grids::growth(alloc, perm),
         Command::Plethysm {

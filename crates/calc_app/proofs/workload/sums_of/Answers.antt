@@ -23,7 +23,7 @@ pub loop-index-preserved : goal.loop-index-preserved
 loop-index-preserved c =
     one_ran c.args.lines c.args.seed c.loop-index._index c.loop-index.state c.loop-index.sums c.as_bytes.result.now c.work_line.new.state
     c.add_line.new.sums c.loop-index.invariant c.loop-index-test.true (c.as_bytes.ensures ∙ c.work_line.ensures.line) c.work_line.ensures.moved
-    c.work_line.ensures.within c.in-Ok.ensures
+    c.work_line.ensures.within c.in_ok-add_line.ensures
 
 pub returns : goal.returns
 returns c =

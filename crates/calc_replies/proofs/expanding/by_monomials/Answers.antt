@@ -1,5 +1,5 @@
 use Rattle.std.proofs.Common.{rules, tests, arith, ◌≡◌, ℕ, sym, subst}
-use Rattle.std.proofs.lemmas.Result.{IfOk-weaker}
+use Rattle.std.proofs.lemmas.Result.{IfOk-weaker, err_from_is_err_and}
 use Rattle.sym_model.specs.Expansion.{IsExpansionOf}
 use Rattle.sym_model.specs.Expression.{cleared_value, denominator}
 use Rattle.calc_base.specs.declared.words.Basis.{Basis as Letter}
@@ -10,16 +10,17 @@ use Rattle.calc_expressions.proofs.GrowthFacts.{wide-weight}
 use Rattle.calc_replies.proofs.Expansions.{heavy_for_m}
 use Rattle.calc_replies.proofs.expanding.by_monomials.Goals as goal
 
-pub returns-in-Err-clause-large : goal.returns-in-Err-clause-large
-returns-in-Err-clause-large c = λ is.
-    heavy_for_m (basis_of c.args.target) (tree_of c.args.formula.now.tree) (c.in-Err.ensures.large is)
+pub returns-in_err-list-clause-large : goal.returns-in_err-list-clause-large
+returns-in_err-list-clause-large c =
+    let p = err_from_is_err_and c.from_residual.result c.from_residual.ensures.1 in
+    rw (p.1, p.2) (λ is. heavy_for_m (basis_of c.args.target) (tree_of c.args.formula.now.tree) (c.in_err-list.ensures.large is))
 
 pub returns-then-eq-clause-expands : goal.returns-then-eq-clause-expands
 returns-then-eq-clause-expands c =
     let e = tree_of c.args.formula.now.tree in
     let is : c.args.target ≡ letters.M = search (rules, tests) in
-    let P : Letter → Type 0 = λ t. (n : ℕ) → IsExpansionOf (basis_of t) c.in-Ok.list n (cleared_value e n) (denominator e) in
-    subst P (sym is) c.in-Ok.ensures.value
+    let P : Letter → Type 0 = λ t. (n : ℕ) → IsExpansionOf (basis_of t) c.in_ok-list.list n (cleared_value e n) (denominator e) in
+    subst P (sym is) c.in_ok-list.ensures.value
 
 pub returns-in_default-clause-large : goal.returns-in_default-clause-large
 returns-in_default-clause-large c = λ is.
@@ -34,4 +35,4 @@ to_basis-requires-clause-positive c =
 
 pub returns-clause-expands : goal.returns-clause-expands
 returns-clause-expands c =
-    IfOk-weaker c.to_basis.result _ _ (λ list h n. h n _ _ (c.in-Ok.ensures.value n)) c.to_basis.ensures.value
+    IfOk-weaker c.to_basis.result _ _ (λ list h n. h n _ _ (c.in_ok-list.ensures.value n)) c.to_basis.ensures.value

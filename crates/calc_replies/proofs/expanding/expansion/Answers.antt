@@ -5,8 +5,8 @@ use Rattle.sparse_polys.proofs.Values.{represents-same_coefficients}
 use Rattle.calc_expressions.specs.Trees.{basis_of}
 use Rattle.calc_replies.proofs.expanding.expansion.Goals as goal
 
-pub returns-in-Ok-sorted_terms-clause-expands : goal.returns-in-Ok-sorted_terms-clause-expands
-returns-in-Ok-sorted_terms-clause-expands c = λ n.
-    represents-same_coefficients nat_list_eq_equiv same_partition c.in-Ok.list c.in-Ok-sorted_terms.terms c.len.ensures.combination
-    c.in-Ok-sorted_terms.ensures.combination c.in-Ok-sorted_terms.ensures.same
-    (λ label. basis_polynomial (basis_of c.args.target) label n) _ _ (c.in-Ok.ensures.expands n)
+pub returns-clause-expands : goal.returns-clause-expands
+returns-clause-expands c = λ n.
+    represents-same_coefficients nat_list_eq_equiv same_partition c.in_ok-list.list c.in_ok-terms.terms c.len.ensures.combination
+    c.in_ok-terms.ensures.combination c.in_ok-terms.ensures.same
+    (λ label. basis_polynomial (basis_of c.args.target) label n) _ _ (c.in_ok-list.ensures.expands n)

@@ -7,7 +7,7 @@ use Rattle.calc_replies.proofs.outcome.task_of.Goals as goal
 
 pub returns-in-Ok-clause-computes : goal.returns-in-Ok-clause-computes
 returns-in-Ok-clause-computes c =
-    task_reply (map string_bytes c.args.words.now) (command_of c.in-Ok.command) c.task_for-task.result c.in-Ok.ensures.read c.task_for-task.ensures
+    task_reply (map string_bytes c.args.words.now) (command_of c.in-Ok.command) c.task_for-task.result c.in-Ok.ensures.read.0 c.task_for-task.ensures
 
 pub returns-in-Ok-clause-accepts : goal.returns-in-Ok-clause-accepts
 returns-in-Ok-clause-accepts c = λ command spelled.
