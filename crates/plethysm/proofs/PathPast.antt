@@ -18,14 +18,11 @@ use Rattle.plethysm_laws.proofs.PathWeights.{weight-met, weight-product, weight-
 use Rattle.basis_expand.specs.Tables.{IsTable}
 use Rattle.coeff_rings.specs.Fractions.{scaled}
 use Rattle.basis_change.specs.ClearedAnswer.{IsClearedBy}
+use Rattle.basis_change.proofs.ClearedAnswers.{absolute-over}
 use Rattle.plethysm.specs.BoundedSums.{IsBoundedSum}
 use Rattle.plethysm.specs.PathSums.{IsPastPath}
 use Rattle.plethysm.proofs.FactorLists.{label_of, places, sums}
 use native.Mathlib.Nat.{mul-le-mul_right}
-
-total-over : (m : ℕ) (terms : Terms (List ℕ)) → absolute_total (over m terms) ≡ absolute_sum m terms
-total-over m [] = refl
-total-over m (t ∷ terms) = ap₂ ◌+◌ (unsigned_abs-mul t.1.0 (pos (m / t.1.1))) (total-over m terms)
 
 -- a term is no more than the sum
 term-within : (m : ℕ) (terms : Terms (List ℕ)) (t : List ℕ × Fraction) → Among t terms → nat_abs (scaled m t.1) ≤ absolute_sum m terms
@@ -57,7 +54,7 @@ module _ (N D a K b : ℕ) (terms : Terms (List ℕ)) (W : WholeTerms) (n : 1 �
       let x =
       path-met (K * (b + 1)) b a (length ν) (repeated_monomials b (length ν) (in_monomials W (length ν))) (in_monomials W (length ν)) (over (D * factorial a) terms) h.some label
       (places W (K * (b + 1)) b h (length ν)) (sums W (K * (b + 1)) b h (length ν)) (In-monomial_terms W (length ν)) (h.bounded (length ν)) ν refl in
-      let y = total-over (D * factorial a) terms in
+      let y = absolute-over (D * factorial a) terms in
       let z = mul-le-mul_right ((K * (b + 1)) ^ a * factorial (a * b)) (let f : absolute_total (over (D * factorial a) terms) ≤ N * growth power_sums a = omega (arith, cleared.few) in f) in
       let w = weight-met N D a K b n d k in
       omega arith
