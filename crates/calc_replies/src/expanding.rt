@@ -5,16 +5,18 @@ ghost use Rattle.sym_model.specs.Expansion.{IsExpansionOf};
 ghost use Rattle.sym_model.specs.Expression.{cleared_value, degree, denominator};
 ghost use Rattle.sym_model.specs.ExpressionOffence.{degree_limit};
 ghost use Rattle.sym_model.specs.Weight.{weight};
+ghost use Rattle.basis_change.specs.Factors.{basis_in};
 ghost use Rattle.calc_expressions.specs.Trees.{basis_of, tree_of};
 ghost use Rattle.calc_replies.specs.Computed.{IsReplyTo};
 
 use crate::form::asked_form;
 use crate::outcome::Outcome;
-use basis_change::to_basis;
+use basis_change::{Family, to_basis};
 use basis_expand::to_monomial;
 use calc_base::{NoMemory, SumFault};
 use calc_language::{Basis, Formula};
 use coeff_rings::Frac;
+use direct_families::to_family;
 use direct_schurs::to_schur;
 use expansion_printer::Answer;
 use partitions::Partition;
@@ -70,10 +72,33 @@ fn in_target(
         (cleared_value (tree_of formula.now.tree) n) (denominator (tree_of formula.now.tree))) }
     ensures large { IsErrOf result SumFault.Large → 2 ^ 127 ≤ weight (basis_of target) (tree_of formula.now.tree) }
 {
-    if target == Basis::S {
-        return to_schur(alloc, formula);
+    match target {
+        Basis::M => by_monomials(alloc, Basis::M, formula),
+        Basis::E => by_family(alloc, Basis::E, Family::Elementary, formula),
+        Basis::H => by_family(alloc, Basis::H, Family::Complete, formula),
+        Basis::P => by_family(alloc, Basis::P, Family::PowerSum, formula),
+        Basis::S => to_schur(alloc, formula),
     }
-    by_monomials(alloc, target, formula)
+}
+
+/// The expansion in e, h or p, in no order: node by node in the target, and where that is too large by way of m.
+fn by_family(
+    alloc: Global,
+    target: Basis,
+    family: Family,
+    formula: &Formula,
+) -> Result<Lin<Partition, Frac>, SumFault>
+    requires family { basis_of target ≡ basis_in family }
+    requires low { degree (tree_of formula.now.tree) ≤ degree_limit (basis_of target) }
+    ensures expands { IfOk result (λ list. (n : ℕ) → IsExpansionOf (basis_of target) list n
+        (cleared_value (tree_of formula.now.tree) n) (denominator (tree_of formula.now.tree))) }
+    ensures large { IsErrOf result SumFault.Large → 2 ^ 127 ≤ weight (basis_of target) (tree_of formula.now.tree) }
+{
+    match to_family(alloc, family, formula) {
+        Ok(list) => Ok(list),
+        Err(SumFault::NoMemory) => Err(SumFault::NoMemory),
+        Err(SumFault::Large) => by_monomials(alloc, target, formula),
+    }
 }
 
 /// The expansion in the target by way of that in m, in no order.
