@@ -1,4 +1,4 @@
--- What a call from C leaves in the caller's buffer (this project's own).
+-- What a call from C answers, and leaves in the caller's buffer (this project's own).
 use Rattle.std.specs.Prelude.{◌≡◌, ◌≤◌, ◌⊎◌, ℕ, List, length, take}
 use Rattle.calc_app.specs.Top.{status_of, WasCutOff}
 use Rattle.calc_base.specs.Status.{code_of}
@@ -10,8 +10,8 @@ abbrev pub IsRefusedIn : Ending → List ℕ → (needed : ℕ) → (out : List 
 IsRefusedIn ending line needed out status =
     ((status ≡ status_of ending) × (needed ≤ length out → take needed out ≡ line)) ⊎ WasCutOff status
 
--- the same by the code of the status
-pub record IsRefusedAs (ending : Ending) (line : List ℕ) (needed : ℕ) (out : List ℕ) (code : ℕ) : Type 0 where
+-- the code is that of such a status
+pub record IsCodeOf (P : Status → Type 0) (code : ℕ) : Type 0 where
   pub status : Status
   pub is : code ≡ code_of status
-  pub refused : IsRefusedIn ending line needed out status
+  pub holds : P status

@@ -1,34 +1,35 @@
 //! The calculator for C: one call that runs the line of a command and leaves its text in the caller's buffer.
 #![tactic(auto)]
 
-ghost use Rattle.std.specs.Prelude.{◌≡◌, ◌<◌, ◌≤◌, ℕ, [], Some, codes, length, take, map, string_bytes};
-ghost use Rattle.calc_app.specs.Top.{PrintsAnswerTo, PrintsLines, RunsLines, IsThrough};
+ghost use Rattle.std.specs.Prelude.{◌≡◌, ◌≢◌, ◌<◌, ◌≤◌, ℕ, [], Some, codes, length, take, map, string_bytes};
+ghost use Rattle.calc_app.specs.Top.{PrintsAnswerTo, PrintsLines, RunsLines, IsThrough, IsAccepted};
 ghost use Rattle.calc_base.specs.Status.{code_of};
-ghost use Rattle.calc_c.specs.Calls.{IsRefusedIn, IsRefusedAs};
+ghost use Rattle.calc_c.specs.Calls.{IsRefusedIn, IsCodeOf};
 ghost use Rattle.calc_language.specs.BuiltCommands.{command_entries};
 ghost use Rattle.calc_words.specs.LineBytes.{seen};
 ghost use Rattle.sym_model.specs.BatchLine.{words_of_line};
+ghost use Rattle.sym_model.specs.Command.{Command};
 ghost use Rattle.sym_model.specs.CommandOffence.{Offence};
 ghost use Rattle.sym_model.specs.Ending.{syntax};
-ghost use Rattle.sym_model.specs.Entry.{HasFirstOffence};
+ghost use Rattle.sym_model.specs.Entry.{SpellsWithoutOffence, HasFirstOffence};
 ghost use Rattle.sym_model.specs.Outcome.{ending_of};
 ghost use Rattle.sym_model.specs.RefusalText.{refusal_line, offence_line};
 ghost use Rattle.sym_model.specs.SyntaxPlace.{IsSyntaxPlace};
 
-use calc_app::run;
-use calc_base::{GrowingSink, MemSource, Status};
-use calc_words::line_words;
-use std::alloc::Global;
+mod slice_source;
 
-/// The most bytes that the input gives at once.
-const PIECE: usize = 4096;
+use calc_app::run;
+use calc_base::{GrowingSink, Status};
+use calc_words::line_words;
+use slice_source::SliceSource;
+use std::alloc::Global;
 
 /// Runs the command that the line's words name, over the input where it is `batch`, and answers the code of its status, as the
 /// program ends with it.
 ///
 /// The words stand between spaces and tabs. `needed` becomes the length of the text. Where the buffer has room for it, the text
 /// is at its front; where it has not, the buffer is as it was, and the call is to be made again with more room. Code 5 says that
-/// memory was refused for the text, and 7 that it was refused for the answer.
+/// memory was refused for the text, and 7 that it was refused for the answer; the others are those of the words, and 6 never comes.
 #[unsafe(no_mangle)]
 pub extern "C" fn calc_run(
     alloc: Global,
@@ -43,11 +44,20 @@ pub extern "C" fn calc_run(
     ensures lines { RunsLines (map seen (words_of_line line.now)) → result ≤ code_of Status.SomeRefused
         → needed.new ≤ length out.new → PrintsLines [] (Some input.now) (Some (take needed.new out.new)) }
 
+    // Words that spell a command without an offence are answered, and refused only where a coefficient that is defined for
+    // them is past 2^127 - 1, or their weight is 2^127 or more.
+    ensures accepted { (command : Command)
+        → SpellsWithoutOffence command_entries (map seen (words_of_line line.now)) command
+        → IsCodeOf (IsAccepted command) result }
+
     // Words with a first offence, and words that are no command, are refused by their own line.
     ensures offended { (offence : Offence) → HasFirstOffence command_entries (map seen (words_of_line line.now)) (Some offence)
-        → IsRefusedAs (ending_of offence.2) (offence_line offence) needed.new out.new result }
+        → IsCodeOf (IsRefusedIn (ending_of offence.2) (offence_line offence) needed.new out.new) result }
     ensures no_command { (word byte : ℕ) → IsSyntaxPlace command_entries (map seen (words_of_line line.now)) word byte
-        → IsRefusedAs syntax (refusal_line (codes "Syntax") word byte) needed.new out.new result }
+        → IsCodeOf (IsRefusedIn syntax (refusal_line (codes "Syntax") word byte) needed.new out.new) result }
+
+    // The code is that of a status, and never that of a source that failed.
+    ensures ends { IsCodeOf (λ status. status ≢ Status.SourceFault) result }
 
     ensures untouched { length out.new < needed.new → out.new ≡ out.old }
 {
@@ -71,15 +81,16 @@ fn run_words(
         → PrintsAnswerTo (map string_bytes words.now) [] (Some input.now) (Some (take needed.new out.new)) }
     ensures lines { RunsLines (map string_bytes words.now) → IsThrough result → needed.new ≤ length out.new
         → PrintsLines [] (Some input.now) (Some (take needed.new out.new)) }
+    ensures accepted { (command : Command)
+        → SpellsWithoutOffence command_entries (map string_bytes words.now) command → IsAccepted command result }
     ensures offended { (offence : Offence) → HasFirstOffence command_entries (map string_bytes words.now) (Some offence)
         → IsRefusedIn (ending_of offence.2) (offence_line offence) needed.new out.new result }
     ensures no_command { (word byte : ℕ) → IsSyntaxPlace command_entries (map string_bytes words.now) word byte
         → IsRefusedIn syntax (refusal_line (codes "Syntax") word byte) needed.new out.new result }
+    ensures ends { result ≢ Status.SourceFault }
     ensures untouched { length out.new < needed.new → out.new ≡ out.old }
 {
-    let Ok(mut source) = MemSource::new(alloc, input, PIECE, &[]) else {
-        return Status::NoMemory;
-    };
+    let mut source = SliceSource { rest: input };
     let mut sink = GrowingSink::new(alloc);
     let status = run(alloc, words, &mut source, &mut sink);
     *needed = put_front(out, sink.bytes());

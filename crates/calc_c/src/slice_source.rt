@@ -1,0 +1,35 @@
+//! A source over the caller's bytes.
+ghost use Rattle.std.specs.Prelude.{◌≡◌, ◌<◌, Some, length, IfOk, OnErr};
+ghost use Rattle.std.specs.Io.KnownBytes.{Keeps};
+ghost use Rattle.calc_base.specs.Fault.{CountsFaults};
+ghost use Rattle.calc_base.specs.Source.{Takes, Spends};
+
+use calc_base::{Source, SourceFault};
+
+/// A source over lent bytes. It takes no memory, and no call of it fails.
+#[derive(Drop)]
+pub(crate) struct SliceSource<'a> {
+    pub(crate) rest: &'a [u8],
+}
+
+impl Source for SliceSource<'_> {
+    ghost left = { λ s. Some s.rest.now };
+
+    ghost allowance = { λ s. length s.rest.now };
+
+    ghost faults = { λ _. 0 };
+
+    fn take(&mut self, buf: &mut [u8]) -> Result<usize, SourceFault>
+        requires { 0 < length buf.old }
+        ensures ok { IfOk result (Takes (Some self.old.rest.now) (Some self.new.rest.now) buf.new) }
+        ensures err { OnErr result (Keeps (Some self.old.rest.now) (Some self.new.rest.now)) }
+        ensures spends { Spends (length self.old.rest.now) (length self.new.rest.now) result }
+        ensures counts { CountsFaults 0 0 result }
+    {
+        let count = buf.len().min(self.rest.len());
+        let (front, rest) = self.rest.split_at(count);
+        buf[..count].copy_from_slice(front);
+        self.rest = rest;
+        Ok(count)
+    }
+}
