@@ -17,9 +17,9 @@ use Rattle.sym_model.specs.Expansion.{Fraction, Terms}
 use Rattle.sym_model.proofs.Sums.{Among_from_append}
 use Rattle.sparse_polys.specs.Combination.{terms_of}
 use Rattle.sparse_polys.specs.Refusal.{IsRefused}
-use Rattle.basis_expand.specs.Tables.{found}
-use Rattle.basis_expand.specs.LabelSizes.{AreWithin}
-use Rattle.basis_expand.proofs.Quotients.{Quotients}
+use Rattle.monomial_expand.specs.Tables.{found}
+use Rattle.monomial_expand.specs.LabelSizes.{AreWithin}
+use Rattle.monomial_expand.proofs.Quotients.{Quotients}
 use Rattle.basis_change.specs.declared.mixed.MixedLabel.{MixedLabel}
 use Rattle.basis_change.specs.Mixed.{Mixed, weight, converted_terms}
 use Rattle.basis_change.specs.Arranging.{at_label}

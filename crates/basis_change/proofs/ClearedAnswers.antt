@@ -23,11 +23,11 @@ use Rattle.monomial_laws.specs.ExpressionTerms.{over}
 use Rattle.monomial_laws.proofs.DividedTerms.{labels_of}
 use Rattle.sparse_polys.specs.MonomialProducts.{greatest_size}
 use Rattle.sparse_polys.proofs.Rows.{greatest_size-among}
-use Rattle.basis_expand.proofs.AtomLists.{greatest-within}
-use Rattle.basis_expand.specs.Tables.{IsTable}
-use Rattle.basis_expand.specs.LabelSizes.{AreWithin}
-use Rattle.basis_expand.proofs.WholeLists.{found-among, Once-keys}
-use Rattle.basis_expand.proofs.Quotients.{Quotients, lowest-zero}
+use Rattle.monomial_expand.proofs.AtomLists.{greatest-within}
+use Rattle.monomial_expand.specs.Tables.{IsTable}
+use Rattle.monomial_expand.specs.LabelSizes.{AreWithin}
+use Rattle.monomial_expand.proofs.WholeLists.{found-among, Once-keys}
+use Rattle.monomial_expand.proofs.Quotients.{Quotients, lowest-zero}
 use Rattle.basis_change.specs.declared.mixed.MixedLabel.{MixedLabel}
 use Rattle.basis_change.specs.Mixed.{Mixed, weight, unready, AreReady, converted_terms}
 use Rattle.basis_change.specs.ClearedAnswer.{IsClearedBy}

@@ -15,10 +15,10 @@ use Rattle.sym_model.specs.Weight.{factorial, growth}
 use Rattle.sym_model.proofs.Sums.{without, Among-without, Among-each, Within_tail}
 use Rattle.sym_model.proofs.PartitionLists.{Among-partitions_of}
 use Rattle.basis_change_laws.specs.AugmentedMonomial.{multiplicity_factorials}
-use Rattle.basis_expand.specs.Tables.{IsTable}
-use Rattle.basis_expand.specs.LabelSizes.{AreWithin}
-use Rattle.basis_expand.proofs.WholeLists.{Once-keys}
-use Rattle.basis_expand.proofs.TableSums.{label-partition}
+use Rattle.monomial_expand.specs.Tables.{IsTable}
+use Rattle.monomial_expand.specs.LabelSizes.{AreWithin}
+use Rattle.monomial_expand.proofs.WholeLists.{Once-keys}
+use Rattle.monomial_expand.proofs.TableSums.{label-partition}
 use Rattle.basis_change.specs.Mixed.{mixed, weight}
 use Rattle.basis_change.specs.Clearing.{cleared_number, cleared_terms, HasFactors}
 use Rattle.basis_change.specs.Costs.{doubled, cost}

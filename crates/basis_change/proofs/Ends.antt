@@ -21,11 +21,11 @@ use Rattle.sym_model.proofs.WholeTerms.{pair_of_combined}
 use Rattle.monomial_laws.specs.ExpressionTerms.{in_monomials, over}
 use Rattle.monomial_laws.proofs.DividedTerms.{over-there, over-missing, IsDivided, value-divided}
 use Rattle.basis_change_laws.specs.AugmentedMonomial.{augmented, multiplicity_factorials}
-use Rattle.basis_expand.specs.Tables.{IsTable}
-use Rattle.basis_expand.specs.LabelSizes.{AreWithin}
-use Rattle.basis_expand.proofs.WholeLists.{Once-keys}
-use Rattle.basis_expand.proofs.Quotients.{Quotients, IsDivided-quotients}
-use Rattle.basis_expand.proofs.TableSums.{label-partition}
+use Rattle.monomial_expand.specs.Tables.{IsTable}
+use Rattle.monomial_expand.specs.LabelSizes.{AreWithin}
+use Rattle.monomial_expand.proofs.WholeLists.{Once-keys}
+use Rattle.monomial_expand.proofs.Quotients.{Quotients, IsDivided-quotients}
+use Rattle.monomial_expand.proofs.TableSums.{label-partition}
 use Rattle.basis_change.specs.declared.mixed.MixedLabel.{MixedLabel}
 use Rattle.basis_change.specs.declared.factors.Family.{Family}
 use Rattle.basis_change.specs.declared.factors.Family.TheVariants.{Elementary, Complete, PowerSum}

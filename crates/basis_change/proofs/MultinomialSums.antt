@@ -22,7 +22,7 @@ use Rattle.sym_model.proofs.Sums.{total_ext, total_map, total_each, total_select
 use Rattle.sym_model.proofs.Exponents.{same_true, same_sym}
 use Rattle.sym_model.proofs.Monomials.{is_exponent_list, total_exponent_lists-only}
 use Rattle.sym_model.proofs.Polynomials.{at_only, coefficient_pair, pair_total}
-use Rattle.basis_expand.proofs.DividedLists.{same_factorials}
+use Rattle.monomial_expand.proofs.DividedLists.{same_factorials}
 use Rattle.monomial_laws.specs.Majorant.{power, factorials as plain_factorials}
 use Rattle.monomial_laws.proofs.Powers.{coefficient_power, power-nonnegative, factorials-positive}
 use Rattle.monomial_laws.proofs.SchurMajorants.{pair-power}

@@ -8,9 +8,9 @@ use Rattle.sym_model.specs.Expansion.{Basis, Fraction, Terms}
 use Rattle.sym_model.specs.ListWeight.{IsBounded}
 use Rattle.sym_model.specs.Weight.{factorial, growth}
 use Rattle.sym_model.proofs.SortedParts.{rows_within_size, IsPartition-none}
-use Rattle.basis_expand.specs.Tables.{IsTable}
-use Rattle.basis_expand.specs.LabelSizes.{AreWithin}
-use Rattle.basis_expand.proofs.TableSums.{label-partition}
+use Rattle.monomial_expand.specs.Tables.{IsTable}
+use Rattle.monomial_expand.specs.LabelSizes.{AreWithin}
+use Rattle.monomial_expand.proofs.TableSums.{label-partition}
 use Rattle.basis_change.specs.Mixed.{Mixed, mixed, weight, Added, unready, AreReady}
 use Rattle.basis_change.specs.Clearing.{cleared_number, cleared_terms}
 use Rattle.basis_change.specs.Costs.{cost}

@@ -23,9 +23,9 @@ use Rattle.beta_list_laws.proofs.NeighbourExchanges.{size-sorted, length-sorted}
 use Rattle.beta_list_laws.proofs.SortedLists.{sorted_strict}
 use Rattle.beta_list_laws.proofs.BetaLists.{size-from_beta}
 use Rattle.monomial_laws.proofs.WeightBounds.{factorial-within_growth, growth-mono, growth-positive}
-use Rattle.basis_expand.specs.Tables.{IsTable}
-use Rattle.basis_expand.specs.LabelSizes.{AreWithin}
-use Rattle.basis_expand.proofs.WholeLists.{Once-keys}
+use Rattle.monomial_expand.specs.Tables.{IsTable}
+use Rattle.monomial_expand.specs.LabelSizes.{AreWithin}
+use Rattle.monomial_expand.proofs.WholeLists.{Once-keys}
 use Rattle.basis_change.specs.declared.mixed.MixedLabel.{MixedLabel}
 use Rattle.basis_change.specs.Mixed.{Mixed, weight, Added}
 use Rattle.coeff_rings.specs.Fractions.{scaled}

@@ -23,7 +23,7 @@ use Rattle.basis_change.proofs.PrunedArrangements.{placed, placed_again, too_man
 use Rattle.basis_change.proofs.Tables.{at_label-itself}
 use Rattle.basis_change.proofs.PrunedArrangements.{HasZeros-more, HasZeros-none}
 use Rattle.partitions.specs.Limits.{IsWithinLimits}
-use Rattle.basis_expand.proofs.PartitionTerms.{IsWithinLimits-low}
+use Rattle.monomial_expand.proofs.PartitionTerms.{IsWithinLimits-low}
 use Rattle.beta_list_laws.proofs.NeighbourExchanges.{size-sorted}
 use Rattle.beta_list_laws.proofs.SortedLists.{sorted_strict}
 use Rattle.beta_list_laws.proofs.BetaLists.{from_beta_partition, size-from_beta}

@@ -21,10 +21,10 @@ use Rattle.sym_model.proofs.WholeTerms.{pair_of_combined}
 use Rattle.monomial_laws.specs.ExpressionTerms.{in_monomials, over}
 use Rattle.alternant_laws.specs.StraightenedTerms.{straightened_term, straightened_terms}
 use Rattle.alternant_laws.proofs.EnoughPlaces.{enough_places}
-use Rattle.basis_expand.specs.Tables.{IsTable}
-use Rattle.basis_expand.specs.LabelSizes.{AreWithin}
-use Rattle.basis_expand.proofs.Quotients.{Quotients}
-use Rattle.basis_expand.proofs.TableSums.{label-partition}
+use Rattle.monomial_expand.specs.Tables.{IsTable}
+use Rattle.monomial_expand.specs.LabelSizes.{AreWithin}
+use Rattle.monomial_expand.proofs.Quotients.{Quotients}
+use Rattle.monomial_expand.proofs.TableSums.{label-partition}
 use Rattle.basis_change.specs.declared.mixed.MixedLabel.{MixedLabel}
 use Rattle.basis_change.specs.Mixed.{Mixed, weighed, Added, converted_terms}
 use Rattle.coeff_rings.specs.Fractions.{scaled}

@@ -3,7 +3,7 @@ use Rattle.std.specs.Prelude.{◌≡◌, ℕ, ◌%◌, ◌≤◌, List}
 use Rattle.sym_model.specs.Sum.{Among}
 use Rattle.sym_model.specs.Expansion.{Basis, monomials, elementaries, completes, power_sums, schurs, Fraction, Terms}
 use Rattle.sym_model.specs.ListWeight.{absolute_sum}
-use Rattle.basis_expand.specs.LabelSizes.{AreWithin}
+use Rattle.monomial_expand.specs.LabelSizes.{AreWithin}
 
 -- m times each coefficient is whole, the absolute values of these products add up to at most `most`, and no label has more
 -- than d cells

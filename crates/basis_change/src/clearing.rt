@@ -1,8 +1,8 @@
 //! A list of terms in m with its fractions cleared, in augmented monomials.
 ghost use Rattle.std.specs.Prelude.{◌≡◌, ℕ, ◌+◌, ◌*◌, ◌/◌, ◌^◌, ◌<◌, ◌≤◌, [], ◌∷◌, pos, nat_abs, MatchOption, IfOk, OnOk, IsErrOf};
 ghost use Rattle.basis_change_laws.specs.AugmentedMonomial.{multiplicity_factorials};
-ghost use Rattle.basis_expand.specs.LabelSizes.{AreWithin};
-ghost use Rattle.basis_expand.specs.Tables.{IsTable};
+ghost use Rattle.monomial_expand.specs.LabelSizes.{AreWithin};
+ghost use Rattle.monomial_expand.specs.Tables.{IsTable};
 ghost use Rattle.coeff_rings.specs.Fractions.{scaled};
 ghost use Rattle.basis_change.specs.Clearing.{cleared_number, cleared_terms, HasFactors};
 ghost use Rattle.basis_change.specs.Mixed.{mixed, Added, Overflows};

@@ -2,7 +2,7 @@
 ghost use Rattle.std.specs.Prelude.{◌≡◌, ℕ, List, ◌<◌, ◌≤◌, ◌^◌, map, IfOk, IsErrOf};
 ghost use Rattle.coeff_rings.specs.Fractions.{lowest_terms};
 ghost use Rattle.sym_model.specs.Polynomial.{coefficient};
-ghost use Rattle.basis_expand.specs.Tables.{found, IsTable};
+ghost use Rattle.monomial_expand.specs.Tables.{found, IsTable};
 ghost use Rattle.basis_change.specs.Mixed.{converted_terms, weight};
 ghost use Rattle.basis_change.specs.Arranging.{at_label};
 

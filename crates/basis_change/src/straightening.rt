@@ -5,7 +5,7 @@ ghost use Rattle.sym_model.specs.ListWeight.{IsBounded};
 ghost use Rattle.sym_model.specs.Partition.{size};
 ghost use Rattle.sym_model.specs.Polynomial.{Poly};
 ghost use Rattle.sym_model.specs.Weight.{growth};
-ghost use Rattle.basis_expand.specs.LabelSizes.{AreWithin};
+ghost use Rattle.monomial_expand.specs.LabelSizes.{AreWithin};
 ghost use Rattle.basis_change.specs.Mixed.{Added};
 ghost use Rattle.coeff_rings.specs.Fractions.{scaled};
 ghost use Rattle.basis_change.specs.Arranging.{straight_terms, OverflowsSomewhere};

@@ -1,12 +1,23 @@
 -- The three families of symmetric polynomials that are multiplied over the parts of a partition (Macdonald, I.2).
-use Rattle.std.specs.Prelude.{ℕ}
+use Rattle.std.specs.Prelude.{ℕ, List}
 use Rattle.sym_model.specs.Polynomial.{Poly}
-use Rattle.sym_model.specs.Bases.{elementary_of, complete_of, power_sum_of}
-use Rattle.basis_expand.specs.declared.atoms.Family.{Family}
-use Rattle.basis_expand.specs.declared.atoms.Family.TheVariants.{Elementary, Complete, PowerSum}
+use Rattle.sym_model.specs.Bases.{elementary_of, complete_of, power_sum_of, product_over}
+use Rattle.sym_model.specs.Expansion.{Basis, elementaries, completes, power_sums}
+use Rattle.basis_expand.specs.declared.strips.Family.{Family}
+use Rattle.basis_expand.specs.declared.strips.Family.TheVariants.{Elementary, Complete, PowerSum}
 
 -- the polynomial of a number: e_k, h_k or p_k
 abbrev pub polynomial_of : Family → ℕ → ℕ → Poly
 polynomial_of Elementary = elementary_of
 polynomial_of Complete = complete_of
 polynomial_of PowerSum = power_sum_of
+
+-- the product of these over the parts
+abbrev pub product_of : Family → List ℕ → ℕ → Poly
+product_of family parts n = product_over (polynomial_of family) parts n
+
+-- the basis of the products
+abbrev pub basis_in : Family → Basis
+basis_in Elementary = elementaries
+basis_in Complete = completes
+basis_in PowerSum = power_sums

@@ -1,7 +1,3 @@
-pub mod LabelSizes
-pub mod Tables
-pub mod Large
-pub mod Clearing
 pub mod Families
-pub mod Strips
-pub mod Contents
+pub mod SchurLists
+pub mod Operands

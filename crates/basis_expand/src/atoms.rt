@@ -1,84 +1,94 @@
-//! Partitions in the five bases, as lists of terms in m.
-ghost use Rattle.std.specs.Prelude.{◌≡◌, ◌<◌, ◌≤◌, ◌^◌, IfOk, IsErrOf};
-ghost use Rattle.sym_model.specs.Bases.{product_over};
-ghost use Rattle.sym_model.specs.Expansion.{basis_polynomial, monomials};
-ghost use Rattle.sym_model.specs.Expression.{atom};
-ghost use Rattle.sym_model.specs.Partition.{ArePositive, size};
-ghost use Rattle.sym_model.specs.Weight.{growth};
-ghost use Rattle.sym_model.specs.WholeTerms.{numerators};
-ghost use Rattle.monomial_laws.specs.ExpressionTerms.{IsList};
+//! Numbers and atoms as lists of terms in Schur polynomials.
+ghost use Rattle.std.specs.Prelude.{◌≡◌, ◌<◌, ◌≤◌, ◌≤ℤ◌, ◌<ℤ◌, ℕ, pos, nat_abs, IfOk, OnOk};
+ghost use Rattle.sym_model.specs.Bases.{monomial};
+ghost use Rattle.sym_model.specs.Expansion.{schurs, basis_polynomial, IsExpansionOf};
+ghost use Rattle.sym_model.specs.Expression.{fraction, number};
+ghost use Rattle.sym_model.specs.Partition.{size};
+ghost use Rattle.sym_model.specs.Polynomial.{one, scale};
+ghost use Rattle.sym_model.specs.Schur.{schur};
+ghost use Rattle.partitions.specs.Limits.{IsWithinLimits};
 ghost use Rattle.calc_expressions.specs.Trees.{basis_of};
-ghost use Rattle.basis_expand.specs.Clearing.{IsConverted};
-ghost use Rattle.basis_expand.specs.Families.{polynomial_of};
+ghost use Rattle.basis_expand.specs.Families.{product_of};
+ghost use Rattle.basis_expand.specs.SchurLists.{IsOneTerm, StandsFor};
 
-use crate::cleared::Cleared;
-use crate::schur::schur;
-use crate::whole::{Whole, complete, elementary, is_whole, power_sum, single};
-use calc_base::{Basis, SumFault};
+use crate::strips::{Family, times_parts};
+use basis_change::to_basis;
+use calc_base::{Basis, SumFault, Weight};
+use coeff_rings::{Frac, Scalar};
 use partitions::Partition;
-use sparse_polys::times_whole_in_m;
+use sparse_polys::Lin;
 use std::alloc::Global;
 
-/// A family whose polynomials are multiplied over the parts of a partition.
-#[derive(Clone, Copy)]
-pub(crate) enum Family {
-    Elementary,
-    Complete,
-    PowerSum,
+/// The list of one term, and of none where the coefficient is 0.
+fn single(alloc: Global, parts: &[u16], c: Frac) -> Result<Lin<Partition, Frac>, SumFault>
+    requires { IsWithinLimits parts.now }
+    ensures { IfOk result (IsOneTerm parts.now c) }
+{
+    let mut list = Lin::new(alloc);
+    list.add_term(Partition::from_valid_parts(alloc, parts)?, c)?;
+    Ok(list)
 }
 
-/// The polynomial of one part.
-fn factor(alloc: Global, family: Family, k: u16) -> Result<Whole, SumFault>
-    requires positive { 0 < k }
-    requires low { k ≤ 512 }
-    ensures value { IfOk result (λ list. IsList (numerators list) (polynomial_of family k)) }
-    ensures small { ¬ IsErrOf result SumFault.Large }
+/// A number over another.
+pub(crate) fn quotient(
+    alloc: Global,
+    num: i128,
+    den: i128,
+) -> Result<Lin<Partition, Frac>, SumFault>
+    requires sign { pos 0 ≤ℤ num }
+    requires den { pos 0 <ℤ den }
+    ensures number { den ≡ pos 1 → IfOk result (StandsFor (number (nat_abs num))) }
+    ensures fraction { IfOk result (StandsFor (fraction (nat_abs num) (nat_abs den))) }
 {
-    match family {
-        Family::Elementary => elementary(alloc, k),
-        Family::Complete => complete(alloc, k),
-        Family::PowerSum => power_sum(alloc, k),
-    }
-}
-
-/// The product over the parts.
-fn over_parts(alloc: Global, family: Family, parts: &[u16]) -> Result<Whole, SumFault>
-    requires positive { ArePositive parts.now }
-    requires low { size parts.now ≤ 512 }
-    ensures value { IfOk result (λ list. IsList (numerators list) (product_over (polynomial_of family) parts.now)) }
-    ensures large { IsErrOf result SumFault.Large → 2 ^ 127 ≤ growth monomials (size parts.now) }
-{
-    let [k, rest @ ..] = parts else {
-        return single(alloc, &[], 1);
+    let Some(c) = Frac::new(num, den) else {
+        return Err(SumFault::Large);
     };
-    let others = over_parts(alloc, family, rest)?;
-    let first = factor(alloc, family, *k)?;
-    is_whole(&first);
-    is_whole(&others);
-    times_whole_in_m(alloc, &first, &others)
+    single(alloc, &[], c)
 }
 
-/// The terms of a partition in a basis.
-fn terms_of(alloc: Global, basis: Basis, label: &Partition) -> Result<Whole, SumFault>
-    requires { size label.now ≤ 512 }
-    ensures value { IfOk result (λ list. IsList (numerators list) (basis_polynomial (basis_of basis) label.now)) }
-    ensures large { IsErrOf result SumFault.Large → 2 ^ 127 ≤ growth monomials (size label.now) }
+/// A monomial polynomial, by the change of basis.
+fn from_monomial(alloc: Global, label: &Partition) -> Result<Lin<Partition, Frac>, SumFault>
+    requires { size label.now ≤ 20 }
+    ensures { IfOk result (λ list. (n : ℕ) → IsExpansionOf schurs list n (monomial label.now n) 1) }
 {
-    let parts = label.parts();
-    match basis {
-        Basis::M => single(alloc, parts, 1),
-        Basis::E => over_parts(alloc, Family::Elementary, parts),
-        Basis::H => over_parts(alloc, Family::Complete, parts),
-        Basis::P => over_parts(alloc, Family::PowerSum, parts),
-        Basis::S => schur(alloc, label),
-    }
+    let list = single(alloc, label.parts(), Frac::one())?;
+    to_basis(alloc, &list, Weight { num: 1, den: 1 }, Basis::S)
+}
+
+/// A Schur polynomial.
+fn from_schur(alloc: Global, label: &Partition) -> Result<Lin<Partition, Frac>, SumFault>
+    ensures { IfOk result (λ list. (n : ℕ) → IsExpansionOf schurs list n (schur label.now n) 1) }
+{
+    single(alloc, label.parts(), Frac::one())
+}
+
+/// The product of e_k, h_k or p_k over the parts k of a partition.
+fn from_parts(
+    alloc: Global,
+    family: Family,
+    label: &Partition,
+) -> Result<Lin<Partition, Frac>, SumFault>
+    requires { size label.now ≤ 20 }
+    ensures { IfOk result (λ list. (n : ℕ) → IsExpansionOf schurs list n (product_of family label.now n) 1) }
+{
+    let one = single(alloc, &[], Frac::one())?;
+    times_parts(alloc, family, one, label.parts())
 }
 
 /// A partition in a basis.
-pub(crate) fn atom(alloc: Global, basis: Basis, label: &Partition) -> Result<Cleared, SumFault>
-    requires { size label.now ≤ 512 }
-    ensures { IsConverted (atom (basis_of basis) label.now) result }
+pub(crate) fn atom(
+    alloc: Global,
+    basis: Basis,
+    label: &Partition,
+) -> Result<Lin<Partition, Frac>, SumFault>
+    requires { size label.now ≤ 20 }
+    ensures { IfOk result (λ list. (n : ℕ) → IsExpansionOf schurs list n (basis_polynomial (basis_of basis) label.now n) 1) }
 {
-    let terms = terms_of(alloc, basis, label)?;
-    Ok(Cleared { terms, den: 1 })
+    match basis {
+        Basis::M => from_monomial(alloc, label),
+        Basis::E => from_parts(alloc, Family::Elementary, label),
+        Basis::H => from_parts(alloc, Family::Complete, label),
+        Basis::P => from_parts(alloc, Family::PowerSum, label),
+        Basis::S => from_schur(alloc, label),
+    }
 }

@@ -1,18 +1,11 @@
-//! Expressions as lists of terms in the monomial basis.
+//! Expressions expanded in a basis: in m, whose expansion is passed on, and in Schur polynomials with no way through m.
 #![tactic(auto)]
 
 mod atoms;
-mod cleared;
 mod conversion;
-mod denominators;
-mod division;
 mod expansion;
-mod operations;
-mod schur;
+mod products;
 mod strips;
-mod whole;
 
-pub use denominators::{Common, common_denominator, denominator_product};
-pub use division::divided;
-pub use expansion::{atom_to_monomial, to_monomial};
-pub use whole::{Whole, is_whole, single, sum_of};
+pub use expansion::to_schur;
+pub use monomial_expand::to_monomial;

@@ -1,61 +1,117 @@
-//! Horizontal strips taken off a shape.
-ghost use Rattle.std.specs.Prelude.{◌≡◌, ◌≤◌, ◌++◌, map, IfOk, OnOk};
-ghost use Rattle.sym_model.specs.Partition.{IsPartition, part, without_last_zeros};
-ghost use Rattle.partitions.specs.Limits.{IsWithinLimits};
-ghost use Rattle.schur_laws.specs.Kostka.{strips_off};
-ghost use Rattle.basis_expand.specs.Strips.{AreRows};
+//! Lists of terms in Schur polynomials times e_k, h_k and p_k, by the strips and the rim hooks of k cells.
+ghost use Rattle.std.specs.Prelude.{◌≡◌, ◌↔◌, ◌+◌, ◌<◌, ◌≤◌, ℕ, List, IsTrue, IfOk, IfSome};
+ghost use Rattle.sym_model.specs.Expansion.{schurs, IsExpansionOf};
+ghost use Rattle.sym_model.specs.Expression.{atom};
+ghost use Rattle.sym_model.specs.Partition.{ArePositive, rows, size};
+ghost use Rattle.sym_model.specs.Polynomial.{In, Poly, times};
+ghost use Rattle.calc_expressions.specs.Trees.{basis_of, tree_of};
+ghost use Rattle.strip_rules.specs.Room.{HasRoom};
+ghost use Rattle.basis_expand.specs.Families.{polynomial_of, product_of, basis_in};
+ghost use Rattle.basis_expand.specs.Operands.{IsOperand};
+ghost use Rattle.calc_expressions.specs.declared.expr.Expr.{Expr};
 
-use calc_base::NoMemory;
+use crate::operand::Operand;
+use calc_base::{Basis, SumFault};
+use coeff_rings::Frac;
 use partitions::Partition;
+use sparse_polys::Lin;
 use std::alloc::Global;
+use strip_rules::{add_column, add_hook, add_row};
 
-/// The length of the first row; 0 where there is none.
-fn first_row(rows: &[u16]) -> u16
-    ensures { result ≡ part rows.now 1 }
-{
-    rows.first().copied().unwrap_or(0)
+/// A family whose polynomials are multiplied over the parts of a partition.
+#[derive(Clone, Copy)]
+pub(crate) enum Family {
+    Elementary,
+    Complete,
+    PowerSum,
 }
 
-/// Adds to the list what is left of the rows when a horizontal strip of k cells is taken off, each below the rows of `above`,
-/// which stay as they are. The first row has so many cells.
-fn add_strips(
+/// The most cells, and the most rows, of a label.
+const MAX_CELLS: u16 = 4096;
+
+const MAX_ROWS: u16 = 512;
+
+/// Whether a label has room for k cells more.
+fn can_grow(label: &Partition, k: u16) -> bool
+    requires { k ≤ 512 }
+    ensures { IsTrue result ↔ ((size label.now + k ≤ 4096) × (rows label.now + k ≤ 512)) }
+{
+    label.size() + k <= MAX_CELLS && label.rows() + k <= MAX_ROWS
+}
+
+/// Whether each label has room for k cells more. The labels of an expression's parts always have.
+fn has_room(list: &Lin<Partition, Frac>, k: u16) -> bool
+    requires { k ≤ 512 }
+    ensures { IsTrue result ↔ HasRoom k list.now }
+{
+    for (label, _) in list.iter() {
+        if !can_grow(label, k) {
+            return false;
+        }
+    }
+    true
+}
+
+/// The list times e_k, h_k or p_k.
+fn times_part(
     alloc: Global,
+    family: Family,
+    list: Lin<Partition, Frac>,
     k: u16,
-    rows: &[u16],
-    above: &mut Vec<u16>,
-    shapes: &mut Vec<Partition>,
-) -> Result<(), NoMemory>
-    requires shape { IsPartition rows.now }
-    requires rows { AreRows (above.old.items ++ rows.now) }
-    requires few { k ≤ part rows.now 1 }
-    ensures same { OnOk result (above.new.items ≡ above.old.items) }
-    ensures shapes { OnOk result (shapes.new.items
-        ≡ shapes.old.items ++ map (λ rest. without_last_zeros (above.old.items ++ rest)) (strips_off k rows.now)) }
+) -> Result<Lin<Partition, Frac>, SumFault>
+    requires positive { 0 < k }
+    requires low { k ≤ 512 }
+    ensures { IfOk result (λ product. (n : ℕ) (f : Poly) (q : ℕ)
+        → IsExpansionOf schurs list n f q → IsExpansionOf schurs product n (times (polynomial_of family k n) f) q) }
 {
-    let [row, below @ ..] = rows else {
-        shapes.push(Partition::from_valid_numbers(alloc, above)?)?;
-        return Ok(());
-    };
-    // From the rows below no more cells can be taken than their first one has.
-    let next = first_row(below);
-    for cells in k.saturating_sub(next)..k.min(*row - next) + 1 {
-        above.push(*row - cells)?;
-        add_strips(alloc, k - cells, below, above, shapes)?;
-        above.pop();
+    if !has_room(&list, k) {
+        return Err(SumFault::Large);
     }
-    Ok(())
+    match family {
+        Family::Elementary => add_column(alloc, list, k),
+        Family::Complete => add_row(alloc, list, k),
+        Family::PowerSum => add_hook(alloc, list, k),
+    }
 }
 
-/// What is left of the shape when a horizontal strip of k cells is taken off, each once.
-pub(crate) fn strips_off(alloc: Global, k: u16, rows: &[u16]) -> Result<Vec<Partition>, NoMemory>
-    requires { IsWithinLimits rows.now }
-    ensures { IfOk result (λ shapes. shapes.items ≡ strips_off k rows.now) }
+/// The list times e_k, h_k or p_k for each of the parts k.
+pub(crate) fn times_parts(
+    alloc: Global,
+    family: Family,
+    list: Lin<Partition, Frac>,
+    parts: &[u16],
+) -> Result<Lin<Partition, Frac>, SumFault>
+    requires positive { ArePositive parts.now }
+    requires low { size parts.now ≤ 512 }
+    ensures { IfOk result (λ product. (n : ℕ) (f : Poly) (q : ℕ) → In n f
+        → IsExpansionOf schurs list n f q → IsExpansionOf schurs product n (times (product_of family parts.now n) f) q) }
 {
-    let mut shapes = Vec::new(alloc);
-    if k > first_row(rows) {
-        return Ok(shapes);
+    let [k, rest @ ..] = parts else {
+        return Ok(list);
+    };
+    let others = times_parts(alloc, family, list, rest)?;
+    times_part(alloc, family, others, *k)
+}
+
+/// The family whose products are a basis.
+fn family_of(basis: Basis) -> Option<Family>
+    ensures { IfSome result (λ family. basis_of basis ≡ basis_in family) }
+{
+    match basis {
+        Basis::E => Some(Family::Elementary),
+        Basis::H => Some(Family::Complete),
+        Basis::P => Some(Family::PowerSum),
+        Basis::M | Basis::S => None,
     }
-    let mut above = Vec::with_capacity(alloc, rows.len())?;
-    add_strips(alloc, k, rows, &mut above, &mut shapes)?;
-    Ok(shapes)
+}
+
+/// The family and the partition of an operand that is an atom in e, h or p.
+pub(crate) fn factors_of<'a>(operand: &Operand<'a>) -> Option<(Family, &'a Partition)>
+    ensures { IfSome result (λ factors. (e : Expr) → IsOperand e operand.now
+        → tree_of e ≡ atom (basis_in factors.0) factors.1.now) }
+{
+    match operand {
+        Operand::Atom { basis, label } => Some((family_of(*basis)?, *label)),
+        Operand::Expanded { .. } => None,
+    }
 }

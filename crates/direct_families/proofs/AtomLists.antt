@@ -7,7 +7,7 @@ use Rattle.sym_model.specs.Bases.{product_over}
 use Rattle.sym_model.specs.Expansion.{Terms}
 use Rattle.sym_model.specs.Weight.{factorial}
 use Rattle.sym_model.specs.WholeTerms.{numerators, absolute_total}
-use Rattle.basis_expand.specs.Tables.{IsTable}
+use Rattle.monomial_expand.specs.Tables.{IsTable}
 use Rattle.basis_change_laws.specs.JoinedLists.{joined, Stands}
 use Rattle.sym_model.proofs.PolynomialLaws.{times-one}
 use Rattle.basis_change_laws.proofs.JoinedLists.{stands-product, stands-same, stands-weaken}

@@ -28,8 +28,8 @@ use Rattle.sym_model.proofs.Polynomials.{pair_scale, pair_determined, coefficien
 use Rattle.sym_model.proofs.WholeTerms.{pair_of_combined}
 use Rattle.monomial_laws.specs.ExpressionTerms.{over}
 use Rattle.monomial_laws.proofs.DividedTerms.{IsDivided, over-there, over-missing}
-use Rattle.basis_expand.specs.Tables.{IsTable}
-use Rattle.basis_expand.proofs.WholeLists.{Once-keys}
+use Rattle.monomial_expand.specs.Tables.{IsTable}
+use Rattle.monomial_expand.proofs.WholeLists.{Once-keys}
 use Rattle.basis_change.specs.ClearedAnswer.{IsClearedBy}
 use Rattle.basis_change.proofs.ClearedAnswers.{absolute-over}
 use Rattle.monomial_laws.proofs.DividedTerms.{value-divided}

@@ -8,8 +8,8 @@ use Rattle.sym_model.specs.WholeTerms.{WholeTerms, combined}
 use Rattle.sym_model.proofs.Ring.{ring}
 use Rattle.sym_model.proofs.Polynomials.{at_only, coefficient_pair, coefficient_scale}
 use Rattle.sym_model.proofs.WholeTerms.{pair_of_combined}
-use Rattle.basis_expand.specs.Tables.{IsTable}
-use Rattle.basis_expand.proofs.Quotients.{Quotients, IsDivided-quotients}
+use Rattle.monomial_expand.specs.Tables.{IsTable}
+use Rattle.monomial_expand.proofs.Quotients.{Quotients, IsDivided-quotients}
 use Rattle.monomial_laws.proofs.DividedTerms.{value-divided}
 use Rattle.basis_change_laws.specs.JoinedLists.{Stands}
 use native.Mathlib.Nat.{mul-pos}

@@ -21,9 +21,9 @@ use Rattle.sparse_polys.specs.MonomialProducts.{greatest_size}
 use Rattle.calc_expressions.specs.Trees.{basis_of}
 use Rattle.basis_change_laws.specs.JoinedLists.{Stands}
 use Rattle.basis_change_laws.proofs.GrowthBounds.{grown}
-use Rattle.basis_expand.specs.Tables.{IsTable}
-use Rattle.basis_expand.specs.LabelSizes.{AreWithin}
-use Rattle.basis_expand.proofs.AtomLists.{greatest-within}
+use Rattle.monomial_expand.specs.Tables.{IsTable}
+use Rattle.monomial_expand.specs.LabelSizes.{AreWithin}
+use Rattle.monomial_expand.proofs.AtomLists.{greatest-within}
 use Rattle.basis_change.specs.declared.factors.Family.{Family}
 use Rattle.basis_change.specs.declared.factors.Family.TheVariants.{Elementary, Complete, PowerSum}
 use Rattle.basis_change.specs.Factors.{basis_in, polynomial_of}

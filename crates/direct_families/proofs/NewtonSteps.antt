@@ -12,9 +12,9 @@ use Rattle.sym_model.specs.Weight.{factorial}
 use Rattle.sym_model.specs.WholeTerms.{numerators, absolute_total}
 use Rattle.sym_model.proofs.Sums.{Among-map}
 use Rattle.sparse_polys.specs.MonomialProducts.{greatest_size}
-use Rattle.basis_expand.specs.Tables.{IsTable}
-use Rattle.basis_expand.proofs.AtomLists.{greatest-within}
-use Rattle.basis_expand.specs.LabelSizes.{AreWithin}
+use Rattle.monomial_expand.specs.Tables.{IsTable}
+use Rattle.monomial_expand.proofs.AtomLists.{greatest-within}
+use Rattle.monomial_expand.specs.LabelSizes.{AreWithin}
 use Rattle.monomial_laws.proofs.Growths.{factorial-mono}
 use Rattle.monomial_laws.proofs.Growths.{factorial-positive}
 use Rattle.basis_change.proofs.Costs.{pow-positive}

@@ -11,9 +11,9 @@ use Rattle.sym_model.specs.WholeTerms.{WholeTerms, numerators, absolute_total}
 use Rattle.sym_model.proofs.Polynomials.{plus_respects, Same_refl}
 use Rattle.monomial_laws.specs.ExpressionTerms.{HasDenominators}
 use Rattle.monomial_laws.proofs.WeightBounds.{numerator-positive}
-use Rattle.basis_expand.specs.Large.{SumIsLarge}
-use Rattle.basis_expand.specs.Tables.{IsTable}
-use Rattle.basis_expand.proofs.Conversions.{negated_multiple}
+use Rattle.monomial_expand.specs.Large.{SumIsLarge}
+use Rattle.monomial_expand.specs.Tables.{IsTable}
+use Rattle.monomial_expand.proofs.Conversions.{negated_multiple}
 use Rattle.monomial_laws.proofs.Growths.{factorial-positive}
 use Rattle.direct_families.specs.declared.node.Node.{Node}
 use Rattle.basis_change_laws.specs.JoinedLists.{Stands}

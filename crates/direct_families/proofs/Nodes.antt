@@ -15,8 +15,8 @@ use Rattle.sym_model.proofs.Polynomials.{coefficient_scale, coefficient_negate, 
 use Rattle.monomial_laws.specs.ExpressionTerms.{HasDenominators}
 use Rattle.monomial_laws.proofs.WeightBounds.{lcm-left, lcm-right, denominator-positive, numerator-positive, complement_left, complement_right}
 use Rattle.sparse_polys.specs.MonomialProducts.{greatest_size}
-use Rattle.basis_expand.specs.Large.{HasLarge}
-use Rattle.basis_expand.specs.Tables.{IsTable}
+use Rattle.monomial_expand.specs.Large.{HasLarge}
+use Rattle.monomial_expand.specs.Tables.{IsTable}
 use Rattle.monomial_laws.proofs.Growths.{factorial-positive}
 use Rattle.direct_families.specs.declared.node.Node.{Node}
 use Rattle.basis_change_laws.specs.JoinedLists.{joined, Stands}

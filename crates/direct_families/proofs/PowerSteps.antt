@@ -11,7 +11,7 @@ use Rattle.sym_model.proofs.Ring.{ring}
 use Rattle.basis_change_laws.specs.JoinedLists.{joined, Stands}
 use Rattle.basis_change_laws.proofs.JoinedLists.{stands-weaken}
 use Rattle.basis_change_laws.proofs.PowerLists.{power_part, power-first, power-next, power-done, power-bound}
-use Rattle.basis_expand.specs.Tables.{IsTable}
+use Rattle.monomial_expand.specs.Tables.{IsTable}
 use Rattle.basis_change.specs.declared.factors.Family.{Family}
 use Rattle.basis_change.specs.declared.factors.Family.TheVariants.{PowerSum}
 use Rattle.basis_change.specs.Factors.{polynomial_of, sign}

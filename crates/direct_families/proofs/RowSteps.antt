@@ -22,11 +22,11 @@ use Rattle.partitions.specs.Limits.{IsWithinLimits}
 use Rattle.sparse_polys.specs.Combination.{terms_of, HasMoreAt}
 use Rattle.sparse_polys.specs.Refusal.{IsRefused}
 use Rattle.sparse_polys.proofs.Steps.{among-next}
-use Rattle.basis_expand.specs.Tables.{equal, found, IsTable}
-use Rattle.basis_expand.specs.LabelSizes.{AreWithin}
-use Rattle.basis_expand.proofs.WholeLists.{Finds, Finds-next, coefficient-whole}
+use Rattle.monomial_expand.specs.Tables.{equal, found, IsTable}
+use Rattle.monomial_expand.specs.LabelSizes.{AreWithin}
+use Rattle.monomial_expand.proofs.WholeLists.{Finds, Finds-next, coefficient-whole}
 use Rattle.coeff_rings.proofs.Sizes.{refused_size}
-use Rattle.basis_expand.proofs.TableSums.{IsRefused-size}
+use Rattle.monomial_expand.proofs.TableSums.{IsRefused-size}
 use Rattle.basis_change_laws.specs.JoinedLists.{merged}
 use Rattle.basis_change_laws.proofs.MergedParts.{IsPartition-merged, size-merged}
 use Rattle.sym_model.proofs.Polynomials.{coefficient_plus}

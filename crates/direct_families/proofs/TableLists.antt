@@ -17,9 +17,9 @@ use Rattle.sym_model.proofs.Orders.{is_label-tells, is_reduced-tells}
 use Rattle.sym_model.proofs.Exponents.{same_or_not, same_apart}
 use Rattle.sym_model.proofs.Polynomials.{pair_determined}
 use Rattle.sym_model.proofs.Sums.{Among_from_map}
-use Rattle.basis_expand.specs.Tables.{IsTable}
-use Rattle.basis_expand.specs.LabelSizes.{AreWithin}
-use Rattle.basis_expand.proofs.WholeLists.{coefficient-numerators, found-among, Once-labels}
+use Rattle.monomial_expand.specs.Tables.{IsTable}
+use Rattle.monomial_expand.specs.LabelSizes.{AreWithin}
+use Rattle.monomial_expand.proofs.WholeLists.{coefficient-numerators, found-among, Once-labels}
 use Rattle.basis_change.proofs.ClearedAnswers.{labels_few}
 use Rattle.basis_change_laws.specs.JoinedLists.{IsLow, Stands}
 use Rattle.basis_change_laws.proofs.JoinedLists.{each-label}

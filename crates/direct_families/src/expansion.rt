@@ -8,10 +8,10 @@ ghost use Rattle.basis_change.specs.Factors.{basis_in};
 
 use crate::conversion::converted;
 use basis_change::{Family, factorial};
-use basis_expand::{denominator_product, divided};
 use calc_base::SumFault;
 use calc_expressions::Formula;
 use coeff_rings::Frac;
+use monomial_expand::{denominator_product, divided};
 use partitions::Partition;
 use sparse_polys::Lin;
 use std::alloc::Global;

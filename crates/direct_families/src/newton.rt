@@ -9,9 +9,9 @@ ghost use Rattle.direct_families.specs.Families.{ArePowers, AreNewton, AreFactor
 
 use crate::products::add_products;
 use basis_change::{Family, is_negative};
-use basis_expand::{Whole, is_whole, single};
 use calc_base::SumFault;
 use coeff_rings::{Int, Scalar};
+use monomial_expand::{Whole, is_whole, single};
 use sparse_polys::Lin;
 use std::alloc::Global;
 

@@ -1,7 +1,7 @@
 //! Expressions with their fractions cleared, as lists of terms in the target.
 ghost use Rattle.std.specs.Prelude.{◌<◌, ◌^◌};
 
-use basis_expand::Whole;
+use monomial_expand::Whole;
 
 /// A list of terms in the target that is an expression times its denominator and the factorial of its degree.
 #[derive(Drop)]

@@ -10,9 +10,9 @@ use crate::factorials::{binomial, rise};
 use crate::node::Node;
 use crate::products::{add_products, product_of};
 use basis_change::whole_of;
-use basis_expand::{common_denominator, denominator_product, is_whole, single, sum_of};
 use calc_base::SumFault;
 use coeff_rings::Int;
+use monomial_expand::{common_denominator, denominator_product, is_whole, single, sum_of};
 use sparse_polys::Lin;
 use std::alloc::Global;
 

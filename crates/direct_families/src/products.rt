@@ -5,12 +5,12 @@ ghost use Rattle.sym_model.specs.Polynomial.{Same, scale};
 ghost use Rattle.sym_model.specs.WholeTerms.{numerators, absolute_total};
 ghost use Rattle.sparse_polys.specs.MonomialProducts.{greatest_size};
 ghost use Rattle.basis_change_laws.specs.JoinedLists.{row, joined};
-ghost use Rattle.basis_expand.specs.Tables.{IsTable};
+ghost use Rattle.monomial_expand.specs.Tables.{IsTable};
 
 use basis_change::merged;
-use basis_expand::{Whole, is_whole};
 use calc_base::SumFault;
 use coeff_rings::{Int, Ring};
+use monomial_expand::{Whole, is_whole};
 use partitions::Partition;
 use std::alloc::Global;
 

@@ -6,9 +6,9 @@ ghost use Rattle.sym_model.specs.WholeTerms.{numerators};
 ghost use Rattle.monomial_laws.specs.ExpressionTerms.{over};
 
 use basis_change::{is_table, scaled_number};
-use basis_expand::{Whole, is_whole};
 use calc_base::SumFault;
 use coeff_rings::Frac;
+use monomial_expand::{Whole, is_whole};
 use partitions::Partition;
 use sparse_polys::Lin;
 use std::alloc::Global;

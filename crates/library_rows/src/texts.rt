@@ -2,12 +2,12 @@
 use crate::printing::{expansion, read_as};
 use anyhow::Result;
 use basis_change::to_basis;
-use basis_expand::to_monomial;
 use block_reader::{read_back, read_one_line};
 use calc_base::SumFault;
 use calc_expressions::{Basis, Expr, Formula};
 use coeff_rings::Frac;
 use expansion_printer::Kind;
+use monomial_expand::to_monomial;
 use partitions::Partition;
 use row_texts::said;
 use sparse_polys::Lin;

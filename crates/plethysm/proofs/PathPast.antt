@@ -15,7 +15,7 @@ use Rattle.monomial_laws.specs.ExpressionTerms.{in_monomials, over}
 use Rattle.monomial_laws.proofs.Splits.{In-monomial_terms}
 use Rattle.plethysm_laws.proofs.PathBounds.{path-met}
 use Rattle.plethysm_laws.proofs.PathWeights.{weight-met, weight-product, weight-outer}
-use Rattle.basis_expand.specs.Tables.{IsTable}
+use Rattle.monomial_expand.specs.Tables.{IsTable}
 use Rattle.coeff_rings.specs.Fractions.{scaled}
 use Rattle.basis_change.specs.ClearedAnswer.{IsClearedBy}
 use Rattle.basis_change.proofs.ClearedAnswers.{absolute-over}

@@ -7,15 +7,15 @@ ghost use Rattle.sym_model.specs.Polynomial.{Poly};
 ghost use Rattle.sym_model.specs.WholeTerms.{numerators};
 ghost use Rattle.calc_expressions.specs.Trees.{basis_of};
 ghost use Rattle.sparse_polys.specs.MonomialProducts.{greatest_size};
-ghost use Rattle.basis_expand.specs.LabelSizes.{AreWithin};
+ghost use Rattle.monomial_expand.specs.LabelSizes.{AreWithin};
 ghost use Rattle.plethysm.specs.BoundedSums.{IsBoundedSum};
 ghost use Rattle.plethysm.specs.PlethysmLists.{AreNaturalNumbers, IsPlethysmOf};
 
 use crate::path::multiplied_out;
 use basis_change::{factorial, greatest_size, is_table, to_basis};
-use basis_expand::{denominator_product, divided};
 use calc_base::{Basis, SumFault, Weight};
 use coeff_rings::Frac;
+use monomial_expand::{denominator_product, divided};
 use partitions::Partition;
 use sparse_polys::Lin;
 use std::alloc::Global;

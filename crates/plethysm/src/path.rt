@@ -10,9 +10,9 @@ ghost use Rattle.plethysm.specs.PathSums.{power_sum_in, IsPastStep, IsPastPath};
 
 use crate::factors::over_parts;
 use basis_change::scaled_number;
-use basis_expand::{Whole, sum_of};
 use calc_base::SumFault;
 use coeff_rings::{Frac, Int};
+use monomial_expand::{Whole, sum_of};
 use partitions::Partition;
 use sparse_polys::Lin;
 use std::alloc::Global;

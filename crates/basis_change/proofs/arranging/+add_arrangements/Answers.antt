@@ -6,7 +6,7 @@ use Rattle.sym_model.specs.RaisedPart.{without_one}
 use Rattle.sym_model.specs.Alternant.{staircase}
 use Rattle.sym_model.proofs.Parts.{length-staircase, size-append}
 use Rattle.sparse_polys.proofs.Steps.{error_is}
-use Rattle.basis_expand.proofs.StripLists.{row_off}
+use Rattle.monomial_expand.proofs.StripLists.{row_off}
 use Rattle.basis_change.specs.Mixed.{Mixed, Added}
 use Rattle.basis_change.specs.Arranging.{numbers_from, straight_term, straight_terms, OverflowsSomewhere}
 use Rattle.basis_change.proofs.StraightTerms.{Added-same, Added-nothing, Somewhere-same, ended_same, past_zeros_of, few_places, again_terms, terms_with, number-among, number-within, number-listed, number-added, number-past, numbers-done, next_ready, terms_with-is}

@@ -2,8 +2,8 @@ use Rattle.std.proofs.Common.{◌≡◌, ◌*◌, ◌^◌, ◌<◌, ◌≤◌, �
 use Rattle.sym_model.specs.Expansion.{Basis}
 use Rattle.sym_model.specs.Weight.{factorial, growth}
 use Rattle.sparse_polys.proofs.Steps.{error_is}
-use Rattle.basis_expand.proofs.WholeLists.{if_ok_both}
-use Rattle.basis_expand.proofs.Quotients.{Quotients}
+use Rattle.monomial_expand.proofs.WholeLists.{if_ok_both}
+use Rattle.monomial_expand.proofs.Quotients.{Quotients}
 use Rattle.basis_change.specs.Mixed.{weighed, weight, AreReady, converted_terms}
 use Rattle.basis_change.specs.Clearing.{cleared_terms, HasFactors}
 use Rattle.basis_change.specs.Costs.{cost}

@@ -3,7 +3,7 @@ use Rattle.std.specs.Cmp.Lexicographic.{nat_list_eq_equiv}
 use Rattle.std.proofs.lemmas.Slice.Eq.{bytes_eq-Decides}
 use Rattle.sym_model.specs.Bases.{monomial}
 use Rattle.sparse_polys.proofs.Values.{represents-same_coefficients}
-use Rattle.basis_expand.specs.Tables.{equal}
+use Rattle.monomial_expand.specs.Tables.{equal}
 use Rattle.basis_change.proofs.change.copy_of.Goals as goal
 
 same : (x y : List ℕ) → equal x y ≡ true → x ≡ y

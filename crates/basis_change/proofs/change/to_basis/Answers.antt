@@ -4,7 +4,7 @@ use Rattle.sym_model.specs.Polynomial.{Poly}
 use Rattle.sym_model.specs.Expansion.{monomials, IsExpansionOf}
 use Rattle.sym_model.specs.Weight.{factorial, growth}
 use Rattle.calc_expressions.specs.Trees.{basis_of}
-use Rattle.basis_expand.proofs.WholeLists.{if_ok_both}
+use Rattle.monomial_expand.proofs.WholeLists.{if_ok_both}
 use Rattle.sparse_polys.specs.MonomialProducts.{greatest_size}
 use Rattle.basis_change.specs.ClearedAnswer.{IsClearedBy, IsMultiplied}
 use Rattle.basis_change.proofs.change.to_basis.Goals as goal

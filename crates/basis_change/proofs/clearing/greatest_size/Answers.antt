@@ -5,7 +5,7 @@ use Rattle.sym_model.specs.Partition.{size}
 use Rattle.sym_model.specs.Expansion.{Fraction, Terms}
 use Rattle.sparse_polys.proofs.Steps.{all_done}
 use Rattle.sparse_polys.proofs.Rows.{list_whole, list_among}
-use Rattle.basis_expand.specs.LabelSizes.{AreWithin}
+use Rattle.monomial_expand.specs.LabelSizes.{AreWithin}
 use Rattle.basis_change.proofs.Bounds.{itself, AreWithin-push}
 use Rattle.basis_change.proofs.clearing.greatest_size.Goals as goal
 

@@ -1,6 +1,6 @@
 use Rattle.std.proofs.Common.{◌≡◌, ◌≤◌, ℕ, ◌++◌, map}
 use Rattle.std.specs.Map.Iter.{deref_pair}
-use Rattle.basis_expand.specs.LabelSizes.{AreWithin}
+use Rattle.monomial_expand.specs.LabelSizes.{AreWithin}
 use Rattle.basis_change.proofs.clearing.greatest_size.Given as goal
 
 abbrev pub invariant-loop-label : goal.invariant-loop-label

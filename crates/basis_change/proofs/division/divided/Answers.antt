@@ -5,8 +5,8 @@ use Rattle.sym_model.specs.LabelLimits.{is_label}
 use Rattle.sym_model.specs.WholeTerms.{WholeTerms}
 use Rattle.sparse_polys.specs.Combination.{HasMoreAt}
 use Rattle.sparse_polys.proofs.Steps.{error_is, IsCombination-empty}
-use Rattle.basis_expand.specs.Tables.{equal, IsTable}
-use Rattle.basis_expand.proofs.Quotients.{Quotients, Quotients-none, Quotients-next}
+use Rattle.monomial_expand.specs.Tables.{equal, IsTable}
+use Rattle.monomial_expand.proofs.Quotients.{Quotients, Quotients-none, Quotients-next}
 use Rattle.basis_change.specs.declared.mixed.MixedLabel.{MixedLabel}
 use Rattle.basis_change.proofs.Walks.{map-next}
 use Rattle.basis_change.specs.Arranging.{at_label}

@@ -1,6 +1,6 @@
 use Rattle.std.proofs.Common.{◌≡◌, length, take}
-use Rattle.basis_expand.specs.Tables.{IsTable}
-use Rattle.basis_expand.proofs.Quotients.{Quotients}
+use Rattle.monomial_expand.specs.Tables.{IsTable}
+use Rattle.monomial_expand.proofs.Quotients.{Quotients}
 use Rattle.basis_change.specs.Mixed.{converted_terms}
 use Rattle.basis_change.proofs.division.divided.Given as goal
 

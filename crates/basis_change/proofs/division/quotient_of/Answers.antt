@@ -4,7 +4,7 @@ use Rattle.std.specs.Int.{w128}
 use Rattle.std.proofs.lemmas.Int.{to_z_pos}
 use Rattle.coeff_rings.specs.Fractions.{lowest_terms}
 use Rattle.coeff_rings.specs.Checked.{checked_fraction_of}
-use Rattle.basis_expand.proofs.Quotients.{checked-quotient}
+use Rattle.monomial_expand.proofs.Quotients.{checked-quotient}
 use Rattle.basis_change.proofs.division.quotient_of.Goals as goal
 
 pub unwrap-requires : goal.unwrap-requires

@@ -1,6 +1,6 @@
 use Rattle.std.proofs.Common.{subst, sym, ◌∙◌, arith}
 use Rattle.partitions.specs.Limits.{IsWithinLimits}
-use Rattle.basis_expand.proofs.PartitionTerms.{IsWithinLimits-low}
+use Rattle.monomial_expand.proofs.PartitionTerms.{IsWithinLimits-low}
 use Rattle.basis_change_laws.specs.JoinedLists.{merged}
 use Rattle.basis_change_laws.proofs.MergedParts.{IsPartition-merged, size-merged}
 use Rattle.basis_change.proofs.products.add_merged.Goals as goal

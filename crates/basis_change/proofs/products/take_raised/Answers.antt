@@ -3,7 +3,7 @@ use Rattle.sparse_polys.proofs.Steps.{error_is}
 use Rattle.sym_model.specs.RaisedPart.{raise}
 use Rattle.sym_model.proofs.SortedParts.{IsPartition-raise, size-raise, has-zero_or}
 use Rattle.sym_model.proofs.Lists.{slice_get-within}
-use Rattle.basis_expand.proofs.PartitionTerms.{IsWithinLimits-low}
+use Rattle.monomial_expand.proofs.PartitionTerms.{IsWithinLimits-low}
 use Rattle.basis_change.specs.declared.mixed.MixedLabel.{MixedLabel}
 use Rattle.basis_change.specs.Mixed.{Mixed, Added, Overflows, mixed}
 use Rattle.basis_change.proofs.Tables.{Added-then, Overflows-then, Overflows-front}

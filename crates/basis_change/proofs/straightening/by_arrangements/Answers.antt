@@ -1,6 +1,6 @@
 use Rattle.std.proofs.Common.{ap, Err, arith}
 use Rattle.sparse_polys.proofs.Steps.{error_is}
-use Rattle.basis_expand.proofs.WholeLists.{if_ok_both}
+use Rattle.monomial_expand.proofs.WholeLists.{if_ok_both}
 use Rattle.basis_change.proofs.StraightBounds.{large-start, large-end, large-schur, large-denominator_schur}
 use Rattle.basis_change.proofs.StraightValues.{expansion-straightened}
 use Rattle.basis_change.proofs.straightening.by_arrangements.Goals as goal

@@ -4,25 +4,22 @@ use Rattle.std.specs.Vec.Iter.{into_iter_items}
 use Rattle.std.proofs.lemmas.Grind.{common_steps}
 use Rattle.std.proofs.lemmas.List.Elements.{All-head, All-rest}
 use Rattle.calc_expressions.specs.Postorder.{postorder, EndsWith, Evaluates}
-use Rattle.calc_expressions.specs.Trees.{tree_of}
+use Rattle.calc_expressions.proofs.Convertible.{IsConvertible, convertible-operands}
 use Rattle.calc_expressions.proofs.Evaluations.{All-postorder, evaluates-all, evaluates-next, values-taken}
-use Rattle.basis_expand.specs.Clearing.{IsValueOf}
-use Rattle.basis_expand.proofs.Conversions.{done, failed-part}
-use Rattle.basis_expand.proofs.TreeFacts.{IsPart, parts-operands}
+use Rattle.basis_expand.specs.Operands.{IsOperand}
 use Rattle.basis_expand.proofs.conversion.converted.Goals as goal
 
 pub loop-node-init : goal.loop-node-init
 loop-node-init c =
     let e = c.args.tree.now in
     let gives : into_iter_items c.into_iter-node-iterator.result ≡ c.in_ok-nodes.nodes.items = c.into_iter-node-iterator.ensures.into_iter_gives.0 in
-    let all : map (λ n. n.now) (into_iter_items c.into_iter-node-iterator.result) ≡ postorder c.args.tree.now =
-    ap (map (λ n. n.now)) gives ∙ c.in_ok-nodes.ensures in
-    let whole : IsPart e e = record { convertible = record { plain = c.requires.plain; low = c.requires.low }; light = omega arith } in
+    let all : map (λ n. n.now) (into_iter_items c.into_iter-node-iterator.result) ≡ postorder c.args.tree.now = ap (map (λ n. n.now)) gives ∙ c.in_ok-nodes.ensures in
+    let whole : IsConvertible e = record { plain = c.requires.plain; low = c.requires.low } in
     record {
       evaluates =
-          subst (Evaluates IsValueOf e (map (λ n. n.now) (into_iter_items c.into_iter-node-iterator.result))) (sym c.new-values.ensures.items)
-          (subst (λ nodes. Evaluates IsValueOf e nodes []) (sym all) (evaluates-all IsValueOf e));
-      parts = subst (All (IsPart e)) (sym all) (All-postorder (IsPart e) (parts-operands e) e whole);
+          subst (Evaluates IsOperand e (map (λ n. n.now) (into_iter_items c.into_iter-node-iterator.result))) (sym c.new-values.ensures.items)
+          (subst (λ nodes. Evaluates IsOperand e nodes []) (sym all) (evaluates-all IsOperand e));
+      convertible = subst (All IsConvertible) (sym all) (All-postorder IsConvertible convertible-operands e whole);
     }
 
 pub loop-node-preserved : goal.loop-node-preserved
@@ -32,41 +29,45 @@ loop-node-preserved c =
     let left = map (λ n. n.now) (into_iter_items c.next.new.self) in
     record {
       evaluates =
-          evaluates-next IsValueOf e c.in-Some.node.now left c.loop-node.values.items c.value_of.new.values.items c.push.new.self.items c.in_ok-value.value
-          (subst (λ nodes. Evaluates IsValueOf e nodes c.loop-node.values.items) next c.loop-node.invariant.evaluates)
-          c.in_ok-value.ensures.taken c.in_ok-value.ensures.value.ok c.in_ok-push.ensures.items;
-      parts = All-rest (IsPart e) c.in-Some.node.now left _ next c.loop-node.invariant.parts;
+          evaluates-next IsOperand e c.in-Some.node.now left c.loop-node.values.items c.value_of.new.values.items c.push.new.self.items c.in_ok-value.value
+          (subst (λ nodes. Evaluates IsOperand e nodes c.loop-node.values.items) next c.loop-node.invariant.evaluates)
+          c.in_ok-value.ensures.taken c.in_ok-value.ensures.value c.in_ok-push.ensures.items;
+      convertible = All-rest IsConvertible c.in-Some.node.now left _ next c.loop-node.invariant.convertible;
     }
 
 pub value_of-requires-clause-plain : goal.value_of-requires-clause-plain
 value_of-requires-clause-plain c =
-    let parts = subst (All (IsPart c.args.tree.now)) (ap (map (λ n. n.now)) c.in-Some.ensures.steps.0) c.loop-node.invariant.parts in
-    let is = All-head (IsPart c.args.tree.now) c.in-Some.node.now (map (λ n. n.now) (into_iter_items c.next.new.self)) parts in
-    is.convertible.plain
+    let parts = subst (All IsConvertible) (ap (map (λ n. n.now)) c.in-Some.ensures.steps.0) c.loop-node.invariant.convertible in
+    let is = All-head IsConvertible c.in-Some.node.now (map (λ n. n.now) (into_iter_items c.next.new.self)) parts in
+    is.plain
 
 pub value_of-requires-clause-low : goal.value_of-requires-clause-low
 value_of-requires-clause-low c =
-    let parts = subst (All (IsPart c.args.tree.now)) (ap (map (λ n. n.now)) c.in-Some.ensures.steps.0) c.loop-node.invariant.parts in
-    let is = All-head (IsPart c.args.tree.now) c.in-Some.node.now (map (λ n. n.now) (into_iter_items c.next.new.self)) parts in
-    is.convertible.low
+    let parts = subst (All IsConvertible) (ap (map (λ n. n.now)) c.in-Some.ensures.steps.0) c.loop-node.invariant.convertible in
+    let is = All-head IsConvertible c.in-Some.node.now (map (λ n. n.now) (into_iter_items c.next.new.self)) parts in
+    is.low
 
 pub value_of-requires-clause-operands : goal.value_of-requires-clause-operands
 value_of-requires-clause-operands c =
-    let steps = subst (λ nodes. Evaluates IsValueOf c.args.tree.now nodes c.loop-node.values.items) (ap (map (λ n. n.now)) c.in-Some.ensures.steps.0) c.loop-node.invariant.evaluates in
+    let steps = subst (λ nodes. Evaluates IsOperand c.args.tree.now nodes c.loop-node.values.items) (ap (map (λ n. n.now)) c.in-Some.ensures.steps.0) c.loop-node.invariant.evaluates in
     (steps.0, steps.1)
 
-pub returns-in_err-value : goal.returns-in_err-value
-returns-in_err-value c =
+pub list_of-requires : goal.list_of-requires
+list_of-requires c =
     let e = c.args.tree.now in
-    let parts = subst (All (IsPart c.args.tree.now)) (ap (map (λ n. n.now)) c.in-Some.ensures.steps.0) c.loop-node.invariant.parts in
-    let is = All-head (IsPart c.args.tree.now) c.in-Some.node.now (map (λ n. n.now) (into_iter_items c.next.new.self)) parts in
-    failed-part (tree_of e) (tree_of c.in-Some.node.now) _ _ c.from_residual-in_err-value.ensures.0 c.from_residual-in_err-value.ensures.1 c.in_err-value.ensures.value is.light
+    let none : into_iter_items c.loop-node.node-iterator ≡ [] = grind (arith, common_steps) in
+    let end : EndsWith IsOperand (c.args.tree.now ∷ []) [] c.loop-node.values.items =
+    subst (λ nodes. Evaluates IsOperand e nodes c.loop-node.values.items) (ap (map (λ n. n.now)) none) c.loop-node.invariant.evaluates in (
+      e,
+      (values-taken IsOperand (e ∷ []) [] c.loop-node.values.items c.take_operand.new.values.items (c.take_operand.result ∷ []) refl end c.take_operand.ensures).0,
+      c.requires.low,
+    )
 
 pub returns : goal.returns
 returns c =
     let e = c.args.tree.now in
     let none : into_iter_items c.loop-node.node-iterator ≡ [] = grind (arith, common_steps) in
-    let end : EndsWith IsValueOf (c.args.tree.now ∷ []) [] c.loop-node.values.items =
-    subst (λ nodes. Evaluates IsValueOf e nodes c.loop-node.values.items) (ap (map (λ n. n.now)) none) c.loop-node.invariant.evaluates in
-    done (tree_of e) c.take_operand.result
-    (values-taken IsValueOf (e ∷ []) [] c.loop-node.values.items c.take_operand.new.values.items (c.take_operand.result ∷ []) refl end c.take_operand.ensures).0
+    let end : EndsWith IsOperand (c.args.tree.now ∷ []) [] c.loop-node.values.items =
+    subst (λ nodes. Evaluates IsOperand e nodes c.loop-node.values.items) (ap (map (λ n. n.now)) none) c.loop-node.invariant.evaluates in
+    c.list_of.ensures e
+    (values-taken IsOperand (e ∷ []) [] c.loop-node.values.items c.take_operand.new.values.items (c.take_operand.result ∷ []) refl end c.take_operand.ensures).0

@@ -4,8 +4,8 @@ use Rattle.sym_model.specs.Expansion.{monomials}
 use Rattle.sym_model.specs.Expression.{cleared_value, degree, denominator}
 use Rattle.sym_model.specs.Plethysm.{plethysm_weight}
 use Rattle.sym_model.specs.Weight.{numerator}
-use Rattle.basis_expand.specs.LabelSizes.{AreWithin}
-use Rattle.basis_expand.proofs.AtomLists.{greatest-within}
+use Rattle.monomial_expand.specs.LabelSizes.{AreWithin}
+use Rattle.monomial_expand.proofs.AtomLists.{greatest-within}
 use Rattle.calc_expressions.specs.Trees.{tree_of}
 use Rattle.calc_expressions.proofs.WeightFacts.{positive}
 use Rattle.calc_expressions.proofs.GrowthFacts.{wide-weight}

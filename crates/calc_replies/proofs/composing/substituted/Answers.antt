@@ -3,7 +3,7 @@ use Rattle.std.proofs.lemmas.Nat.{mul-le}
 use Rattle.std.proofs.lemmas.Result.{IfOk-weaker, err_from_is_err_and}
 use Rattle.sym_model.specs.Expansion.{monomials, IsExpansionOf}
 use Rattle.sym_model.specs.Expression.{cleared_value, degree, denominator}
-use Rattle.basis_expand.proofs.AtomLists.{greatest-within}
+use Rattle.monomial_expand.proofs.AtomLists.{greatest-within}
 use Rattle.calc_expressions.specs.Trees.{tree_of}
 use Rattle.calc_expressions.proofs.WeightFacts.{positive}
 use Rattle.calc_expressions.proofs.GrowthFacts.{wide-weight}

@@ -1,7 +1,7 @@
 use Rattle.std.proofs.Common.{arith, refl, rules}
 use Rattle.sym_model.specs.Expression.{sum, difference, product, negation}
 use Rattle.calc_expressions.specs.Trees.{tree_of}
-use Rattle.basis_expand.proofs.TreeFacts.{HasDenominators-plain}
+use Rattle.monomial_expand.proofs.TreeFacts.{HasDenominators-plain}
 use Rattle.basis_change.specs.Factors.{polynomial_of}
 use Rattle.direct_families.proofs.Nodes.{weight-left, weight-right, weight-left_factor, weight-right_factor, node-greatest}
 use Rattle.direct_families.proofs.NodeSums.{failed-part, converted-difference}

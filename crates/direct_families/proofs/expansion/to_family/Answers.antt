@@ -7,9 +7,9 @@ use Rattle.monomial_laws.proofs.Growths.{factorial-positive}
 use Rattle.monomial_laws.proofs.WeightBounds.{denominator-positive}
 use Rattle.sparse_polys.proofs.Steps.{error_is}
 use Rattle.calc_expressions.specs.Trees.{tree_of}
-use Rattle.basis_expand.proofs.Quotients.{Quotients}
-use Rattle.basis_expand.proofs.TreeFacts.{HasDenominators-plain}
-use Rattle.basis_expand.proofs.WholeLists.{if_ok_both}
+use Rattle.monomial_expand.proofs.Quotients.{Quotients}
+use Rattle.monomial_expand.proofs.TreeFacts.{HasDenominators-plain}
+use Rattle.monomial_expand.proofs.WholeLists.{if_ok_both}
 use Rattle.basis_change_laws.proofs.GrowthBounds.{grown}
 use Rattle.basis_change.specs.Factors.{polynomial_of}
 use Rattle.direct_families.specs.Nodes.{ClearsTo}

@@ -3,7 +3,7 @@ use Rattle.sym_model.specs.Sum.{each}
 use Rattle.sym_model.specs.Partition.{after}
 use Rattle.sym_model.specs.Weight.{factorial}
 use Rattle.sym_model.specs.WholeTerms.{numerators}
-use Rattle.basis_expand.specs.Tables.{IsTable}
+use Rattle.monomial_expand.specs.Tables.{IsTable}
 use Rattle.basis_change_laws.specs.JoinedLists.{Stands}
 use Rattle.basis_change.specs.Factors.{polynomial_of, sign}
 use Rattle.basis_change_laws.proofs.NewtonLists.{newton_term}

@@ -3,7 +3,7 @@ use Rattle.std.proofs.Common.{◌≤◌, ◌^◌, pos, ◌*ℤ◌, ap, subst, �
 use Rattle.std.specs.Int.{w128}
 use Rattle.sym_model.specs.Expression.{sum}
 use Rattle.sym_model.specs.Weight.{factorial}
-use Rattle.basis_expand.proofs.CommonMultiples.{from_left-again, from_right-again}
+use Rattle.monomial_expand.proofs.CommonMultiples.{from_left-again, from_right-again}
 use Rattle.direct_families.proofs.Nodes.{failed, done, refused}
 use Rattle.direct_families.proofs.NodeSums.{clears-sum, large-sum, large-factors, large-sum_denominator}
 use Rattle.direct_families.proofs.operations.added.Goals as goal

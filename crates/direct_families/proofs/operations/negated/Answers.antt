@@ -2,8 +2,8 @@ use Rattle.std.proofs.Common.{refl, ap, subst, Err, negsuc, ◌≡◌}
 use Rattle.sym_model.specs.Expression.{negation}
 use Rattle.sym_model.specs.Polynomial.{Same, scale}
 use Rattle.sym_model.specs.WholeTerms.{numerators}
-use Rattle.basis_expand.specs.Large.{HasLarge}
-use Rattle.basis_expand.proofs.TableSums.{Same-multiple, large_product}
+use Rattle.monomial_expand.specs.Large.{HasLarge}
+use Rattle.monomial_expand.proofs.TableSums.{Same-multiple, large_product}
 use Rattle.direct_families.proofs.Nodes.{failed, done, clears-negation, large-negation}
 use Rattle.direct_families.proofs.operations.negated.Goals as goal
 

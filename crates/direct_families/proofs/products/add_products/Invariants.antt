@@ -2,7 +2,7 @@ use Rattle.std.proofs.Common.{◌≡◌, ◌++◌, map}
 use Rattle.std.specs.Map.Iter.{deref_pair}
 use Rattle.sym_model.specs.Polynomial.{Same, scale}
 use Rattle.sym_model.specs.WholeTerms.{numerators}
-use Rattle.basis_expand.specs.Tables.{IsTable}
+use Rattle.monomial_expand.specs.Tables.{IsTable}
 use Rattle.basis_change_laws.specs.JoinedLists.{joined}
 use Rattle.direct_families.proofs.products.add_products.Given as goal
 

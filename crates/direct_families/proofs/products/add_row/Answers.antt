@@ -10,7 +10,7 @@ use Rattle.sparse_polys.specs.Combination.{terms_of}
 use Rattle.sparse_polys.proofs.Steps.{all_done, error_is}
 use Rattle.sparse_polys.specs.MonomialProducts.{greatest_size}
 use Rattle.sparse_polys.proofs.Rows.{greatest_size-among, list_whole}
-use Rattle.basis_expand.proofs.WholeLists.{Finds, more_as, Same-from_look_ups}
+use Rattle.monomial_expand.proofs.WholeLists.{Finds, more_as, Same-from_look_ups}
 use Rattle.sparse_polys.proofs.Coefficients.{numerators-terms}
 use Rattle.basis_change_laws.specs.JoinedLists.{merged}
 use Rattle.basis_change_laws.specs.JoinedLists.{row}

@@ -1,8 +1,8 @@
 use Rattle.std.proofs.Common.{◌≡◌, ◌++◌, map}
 use Rattle.std.specs.Map.Iter.{deref_pair}
 use Rattle.sym_model.specs.WholeTerms.{numerators}
-use Rattle.basis_expand.specs.Tables.{IsTable}
-use Rattle.basis_expand.proofs.WholeLists.{Finds}
+use Rattle.monomial_expand.specs.Tables.{IsTable}
+use Rattle.monomial_expand.proofs.WholeLists.{Finds}
 use Rattle.basis_change_laws.specs.JoinedLists.{row}
 use Rattle.direct_families.proofs.products.add_row.Given as goal
 

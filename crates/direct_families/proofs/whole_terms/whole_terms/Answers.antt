@@ -11,8 +11,8 @@ use Rattle.monomial_laws.specs.ExpressionTerms.{over}
 use Rattle.sparse_polys.specs.Combination.{terms_of}
 use Rattle.sparse_polys.proofs.Steps.{all_done, error_is, IsCombination-empty}
 use Rattle.sparse_polys.proofs.Rows.{list_whole}
-use Rattle.basis_expand.specs.Tables.{equal, IsTable}
-use Rattle.basis_expand.proofs.WholeLists.{Finds, Finds-next, more_as, Same-from_look_ups}
+use Rattle.monomial_expand.specs.Tables.{equal, IsTable}
+use Rattle.monomial_expand.proofs.WholeLists.{Finds, Finds-next, more_as, Same-from_look_ups}
 use Rattle.basis_change.proofs.Bounds.{itself}
 use Rattle.direct_families.proofs.RowSteps.{refused-sum}
 use Rattle.direct_families.proofs.WholeSteps.{over-push, large-number, large-term}

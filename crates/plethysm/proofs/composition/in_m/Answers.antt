@@ -9,9 +9,9 @@ use Rattle.monomial_laws.proofs.Growths.{factorial-positive}
 use Rattle.sparse_polys.specs.MonomialProducts.{greatest_size}
 use Rattle.sparse_polys.proofs.Rows.{greatest_size-among}
 use Rattle.sparse_polys.proofs.Steps.{error_is}
-use Rattle.basis_expand.proofs.AtomLists.{greatest-within}
-use Rattle.basis_expand.proofs.Quotients.{Quotients}
-use Rattle.basis_expand.proofs.WholeLists.{if_ok_both}
+use Rattle.monomial_expand.proofs.AtomLists.{greatest-within}
+use Rattle.monomial_expand.proofs.Quotients.{Quotients}
+use Rattle.monomial_expand.proofs.WholeLists.{if_ok_both}
 use Rattle.basis_change.proofs.ClearedAnswers.{greatest_is}
 use Rattle.plethysm_laws.proofs.PathWeights.{weight-outer, weight-denominator}
 use Rattle.plethysm.specs.PathSums.{power_sum_in, IsPastPath}

@@ -9,7 +9,7 @@ use Rattle.sparse_polys.specs.MonomialProducts.{greatest_size}
 use Rattle.sparse_polys.proofs.Coefficients.{if_answered}
 use Rattle.sparse_polys.proofs.Rows.{greatest_size-among}
 use Rattle.sparse_polys.proofs.Steps.{error_is}
-use Rattle.basis_expand.proofs.AtomLists.{greatest-within}
+use Rattle.monomial_expand.proofs.AtomLists.{greatest-within}
 use Rattle.basis_change.proofs.ClearedAnswers.{greatest_is}
 use Rattle.plethysm_laws.proofs.RepeatedMonomials.{repeated-places}
 use Rattle.plethysm_laws.proofs.PathWeights.{weight-finished, weight-number, weight-rises}

@@ -14,9 +14,9 @@ use Rattle.sparse_polys.specs.MonomialProducts.{greatest_size}
 use Rattle.sparse_polys.proofs.Steps.{all_done, error_is, IsCombination-empty}
 use Rattle.sparse_polys.proofs.Rows.{list_whole, list_among}
 use Rattle.sparse_polys.proofs.WholeTables.{labels_term}
-use Rattle.basis_expand.specs.Tables.{equal, found, IsTable}
-use Rattle.basis_expand.specs.LabelSizes.{AreWithin}
-use Rattle.basis_expand.proofs.WholeLists.{Finds, Finds-next, equal_tells, more_as, Same-from_look_ups}
+use Rattle.monomial_expand.specs.Tables.{equal, found, IsTable}
+use Rattle.monomial_expand.specs.LabelSizes.{AreWithin}
+use Rattle.monomial_expand.proofs.WholeLists.{Finds, Finds-next, equal_tells, more_as, Same-from_look_ups}
 use Rattle.basis_change.proofs.Bounds.{itself}
 use Rattle.plethysm_laws.specs.PowerSumPlethysm.{dilated}
 use Rattle.plethysm_laws.proofs.Dilations.{coefficient-dilated}

@@ -1,7 +1,0 @@
-mod Weights
-mod Expansions
-mod Tables
-mod Expressions
-mod ListProducts
-mod OneTerms
-mod Factors

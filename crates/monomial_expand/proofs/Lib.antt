@@ -1,0 +1,15 @@
+pub mod WholeLists
+pub mod Bounds
+pub mod PartitionTerms
+pub mod ListedTerms
+pub mod TableSums
+pub mod CommonMultiples
+pub mod Conversions
+pub mod AtomLists
+pub mod Quotients
+pub mod DividedLists
+pub mod TreeFacts
+pub mod StripLists
+pub mod StripTerms
+pub mod StripTables
+pub mod ContentCounts

@@ -1,0 +1,17 @@
+use Rattle.std.proofs.Common.{◌≡◌, ℕ, List, ◌++◌, length}
+use Rattle.sym_model.specs.PartitionList.{partitions_of}
+use Rattle.monomial_expand.specs.Tables.{IsTable}
+use Rattle.monomial_expand.proofs.WholeLists.{Finds}
+use Rattle.monomial_expand.proofs.PartitionTerms.{ones}
+use Rattle.monomial_expand.proofs.whole.complete.Given as goal
+
+-- the table has the partitions so far, and they and the rest are all
+abbrev pub invariant-loop-alloc : goal.invariant-loop-alloc
+invariant-loop-alloc l = (done : List (List ℕ)) × record {
+  listed : done ++ l.labels.0 ≡ partitions_of l.k;
+  finds : Finds l.list (ones done);
+  table : IsTable l.list;
+}
+
+abbrev pub decreases-loop-alloc : goal.decreases-loop-alloc
+decreases-loop-alloc l = length l.labels.0

@@ -1,0 +1,132 @@
+//! Schur polynomials as lists of terms in m: the coefficient of a partition is the number of ways in which the shape is
+//! taken off by horizontal strips with so many cells as the parts. All partitions are made in one walk, part by part.
+ghost use Rattle.std.specs.Prelude.{◌≡◌, ℕ, ℤ, pos, ◌≤ℤ◌, ◌≤◌, ◌^◌, [], ◌∷◌, ◌++◌, List, IfOk, OnOk, IsErrOf};
+ghost use Rattle.sym_model.specs.Expansion.{monomials};
+ghost use Rattle.sym_model.specs.Partition.{IsPartition, size};
+ghost use Rattle.sym_model.specs.Polynomial.{Same, coefficient};
+ghost use Rattle.sym_model.specs.Schur.{schur};
+ghost use Rattle.sym_model.specs.Weight.{growth};
+ghost use Rattle.sym_model.specs.WholeTerms.{numerators};
+ghost use Rattle.partitions.specs.Limits.{IsWithinLimits};
+ghost use Rattle.monomial_laws.specs.ExpressionTerms.{IsList};
+ghost use Rattle.monomial_expand.specs.Contents.{CountsContents, HasNoneBehind, IsContent, Leads};
+ghost use Rattle.monomial_expand.specs.Large.{HasLarge};
+ghost use Rattle.monomial_expand.specs.Strips.{terms_at, strip_terms, AreNatural, ArePartitions};
+
+use crate::strips::strips_off;
+use crate::whole::{Whole, is_whole, single};
+use calc_base::{NoMemory, SumFault};
+use coeff_rings::Int;
+use partitions::Partition;
+use sparse_polys::Lin;
+use std::alloc::Global;
+
+/// Adds the shapes to the list, each with the coefficient, which is not negative.
+fn add_each(list: &mut Whole, shapes: Vec<Partition>, c: Int) -> Result<(), SumFault>
+    requires shapes { ArePartitions shapes.items }
+    requires natural { pos 0 ≤ℤ c }
+    requires list { (label : List ℕ) → pos 0 ≤ℤ coefficient (numerators list.old) label }
+    ensures value { OnOk result (Same (numerators list.new) (numerators list.old ++ terms_at c shapes.items)) }
+    ensures large { IsErrOf result SumFault.Large → HasLarge (numerators list.old ++ terms_at c shapes.items) }
+{
+    is_whole(list);
+    for shape in shapes {
+        list.add_term(shape, c)?;
+    }
+    Ok(())
+}
+
+/// What is left of each shape when a horizontal strip of k cells is taken off. No coefficient is negative.
+fn stripped(alloc: Global, terms: &Whole, k: u16) -> Result<Whole, SumFault>
+    requires { AreNatural (numerators terms.now) }
+    ensures value { IfOk result (λ list. Same (numerators list) (strip_terms k (numerators terms.now))) }
+    ensures natural { IfOk result (λ list. AreNatural (numerators list)) }
+    ensures large { IsErrOf result SumFault.Large → HasLarge (strip_terms k (numerators terms.now)) }
+{
+    is_whole(terms);
+    let mut list = Lin::new(alloc);
+    for (shape, c) in terms.iter() {
+        add_each(&mut list, strips_off(alloc, k, shape.parts())?, *c)?;
+    }
+    is_whole(&list);
+    Ok(list)
+}
+
+/// The parts and one more.
+fn with_part(alloc: Global, parts: &[u16], part: u16) -> Result<Vec<u16>, NoMemory>
+    ensures { IfOk result (λ longer. longer.items ≡ parts.now ++ part ∷ []) }
+{
+    let mut longer = Vec::from_slice(alloc, parts)?;
+    longer.push(part)?;
+    Ok(longer)
+}
+
+/// Adds the label of the chosen parts, with the number of ways to the empty shape.
+fn add_content(
+    alloc: Global,
+    terms: &Whole,
+    chosen: &[u16],
+    list: &mut Whole,
+) -> Result<(), SumFault>
+    requires limits { IsWithinLimits chosen.now }
+    requires fresh { HasNoneBehind chosen.now (numerators list.old) }
+    ensures counted { (largest : ℕ) → OnOk result
+        (CountsContents (numerators terms.now) chosen.now largest 0 (numerators list.old) (numerators list.new)) }
+    ensures small { ¬ IsErrOf result SumFault.Large }
+{
+    is_whole(terms);
+    is_whole(list);
+    let nothing = Partition::from_valid_parts(alloc, &[])?;
+    let label = Partition::from_valid_parts(alloc, chosen)?;
+    list.add_term(label, terms.coefficient(&nothing))
+}
+
+/// Adds each content that begins with the chosen parts and goes on with parts of `left` cells, none above the largest, with the
+/// number of ways to take the terms off with what goes on.
+///
+/// The terms are what is left when strips of the chosen parts are taken off a shape. So contents that begin alike share these
+/// steps, and none is made on whose way no shape is left.
+fn add_contents(
+    alloc: Global,
+    terms: &Whole,
+    chosen: &[u16],
+    largest: u16,
+    left: u16,
+    list: &mut Whole,
+) -> Result<(), SumFault>
+    requires natural { AreNatural (numerators terms.now) }
+    requires limits { (rest : List ℕ) → IsContent largest left rest → IsWithinLimits (chosen.now ++ rest) }
+    requires low { left ≤ 512 }
+    requires fresh { HasNoneBehind chosen.now (numerators list.old) }
+    ensures counted { OnOk result
+        (CountsContents (numerators terms.now) chosen.now largest left (numerators list.old) (numerators list.new)) }
+    ensures large { IsErrOf result SumFault.Large → (shape content : List ℕ) → IsPartition shape
+        → Leads shape content (numerators terms.now) → 2 ^ 127 ≤ growth monomials (size shape) }
+{
+    if left == 0 {
+        return add_content(alloc, terms, chosen, list);
+    }
+    for part in 1..largest.min(left) + 1 {
+        let next = stripped(alloc, terms, part)?;
+        if next.is_empty() {
+            continue;
+        }
+        let longer = with_part(alloc, chosen, part)?;
+        add_contents(alloc, &next, &longer, part, left - part, list)?;
+    }
+    Ok(())
+}
+
+/// s_λ: the Kostka number of each partition of its size.
+pub(crate) fn schur(alloc: Global, label: &Partition) -> Result<Whole, SumFault>
+    requires { size label.now ≤ 512 }
+    ensures value { IfOk result (λ list. IsList (numerators list) (schur label.now)) }
+    ensures large { IsErrOf result SumFault.Large → 2 ^ 127 ≤ growth monomials (size label.now) }
+{
+    let terms = single(alloc, label.parts(), 1)?;
+    is_whole(&terms);
+    let mut list = Lin::new(alloc);
+    let cells = label.size();
+    add_contents(alloc, &terms, &[], cells, cells, &mut list)?;
+    Ok(list)
+}
