@@ -4,6 +4,7 @@
 mod atoms;
 mod conversion;
 mod expansion;
+mod operand;
 mod products;
 mod strips;
 
