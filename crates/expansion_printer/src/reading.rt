@@ -6,7 +6,7 @@ ghost use Rattle.sym_model.specs.TableauList.{letter_of_cell, reading_cells};
 use crate::rows::Entries;
 use calc_base::NoMemory;
 use partitions::Partition;
-use skew_shapes::{Filled, Skew};
+use skew_shapes::{Filled, Skew, filling_with_reading};
 use std::alloc::{AllocError, Global};
 use std::marker::Model;
 
@@ -34,7 +34,7 @@ impl ReadingOrder {
         ensures { IfOk result (λ order. order ≡ shape) }
     {
         let numbers = numbers_below(alloc, shape.outer().size() + 1)?;
-        let places = Filled::with_reading(alloc, shape, &numbers)?;
+        let places = filling_with_reading(alloc, shape, &numbers)?;
         Ok(ReadingOrder { places })
     }
 
