@@ -13,3 +13,4 @@ pub mod Endings
 pub mod SmallNumbers
 pub mod MonomialAtoms
 pub mod Weights
+pub mod ExpressionParts

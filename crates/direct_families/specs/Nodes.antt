@@ -8,6 +8,8 @@ use Rattle.sym_model.specs.Expression.{Tree, denominator, degree, cleared_value}
 use Rattle.sym_model.specs.Weight.{factorial, growth, numerator, weight}
 use Rattle.sym_model.specs.WholeTerms.{numerators}
 use Rattle.basis_change_laws.specs.JoinedLists.{Stands}
+use Rattle.calc_expressions.specs.declared.expr.Expr.{Expr}
+use Rattle.calc_expressions.specs.Trees.{tree_of}
 use Rattle.direct_families.specs.declared.node.Node.{Node}
 
 -- the list is the cleared value of the expression times the factorial of its degree, and is bounded by N and the growth
@@ -20,3 +22,7 @@ pub record ClearsTo (P : ℕ → ℕ → Poly) (e : Tree) (c : Node) : Type 0 wh
 pub record IsConverted (P : ℕ → ℕ → Poly) (e : Tree) (result : Result Node SumFault) : Type 0 where
   pub ok : IfOk result (ClearsTo P e)
   pub large : IsErrOf result Large → 2 ^ 127 ≤ weight Basis.completes e
+
+-- the same of an expression of the calculator
+abbrev pub IsValueOf : (ℕ → ℕ → Poly) → Expr → Node → Type 0
+IsValueOf P e c = ClearsTo P (tree_of e) c

@@ -152,7 +152,6 @@ fn by_monomials(
 }
 
 /// A partition in a basis.
-#[inline(never)]
 pub(crate) fn atom(
     alloc: Global,
     target: Family,

@@ -1,6 +1,6 @@
 //! What expressions are made of, as lists in the target: numbers, negations, sums and products.
-ghost use Rattle.std.specs.Prelude.{◌≡◌, ℕ, ◌+◌, ◌<◌, ◌≤◌, ◌^◌, ◌≤ℤ◌, ◌*ℤ◌, pos, nat_abs, MatchOption};
-ghost use Rattle.sym_model.specs.Expression.{Tree, number, fraction, negation, sum, product};
+ghost use Rattle.std.specs.Prelude.{◌≡◌, ℕ, ◌+◌, ◌<◌, ◌≤◌, ◌^◌, ◌≤ℤ◌, ◌*ℤ◌, pos, nat_abs, IfOk, MatchOption};
+ghost use Rattle.sym_model.specs.Expression.{Tree, number, fraction, negation, sum, difference, product};
 ghost use Rattle.sym_model.specs.Polynomial.{Poly, In};
 ghost use Rattle.monomial_laws.specs.ExpressionTerms.{HasDenominators};
 ghost use Rattle.sparse_polys.specs.MonomialProducts.{greatest_size};
@@ -17,7 +17,6 @@ use sparse_polys::Lin;
 use std::alloc::Global;
 
 /// A number over another.
-#[inline(never)]
 pub(crate) fn quotient(alloc: Global, num: i128, den: u128) -> Result<Node, SumFault>
     requires sign { pos 0 ≤ℤ num }
     requires den { (0 < den) × (den < 2 ^ 127) }
@@ -34,9 +33,10 @@ pub(crate) fn quotient(alloc: Global, num: i128, den: u128) -> Result<Node, SumF
 }
 
 /// The negation.
-#[inline(never)]
 pub(crate) fn negated(inner: Node) -> Result<Node, SumFault>
-    ensures { (P : ℕ → ℕ → Poly) (e : Tree) → HasDenominators e → ClearsTo P e inner → IsConverted P (negation e) result }
+    ensures degree { IfOk result (λ turned. turned.degree ≡ inner.degree) }
+    ensures value { (P : ℕ → ℕ → Poly) (e : Tree) → HasDenominators e → ClearsTo P e inner
+        → IsConverted P (negation e) result }
 {
     let Node { terms, den, degree } = inner;
     is_whole(&terms);
@@ -46,7 +46,6 @@ pub(crate) fn negated(inner: Node) -> Result<Node, SumFault>
 }
 
 /// The product.
-#[inline(never)]
 pub(crate) fn multiplied(alloc: Global, left: Node, right: Node) -> Result<Node, SumFault>
     requires low { left.degree + right.degree ≤ 20 }
     requires sizes { greatest_size left.terms + greatest_size right.terms ≤ 512 }
@@ -76,7 +75,6 @@ fn times(from: i128, by: u128) -> Option<Int>
 }
 
 /// The sum, over the least common denominator and the factorial of the greater degree.
-#[inline(never)]
 pub(crate) fn added(left: Node, right: Node) -> Result<Node, SumFault>
     requires { (left.degree ≤ 20) × (right.degree ≤ 20) }
     ensures { (P : ℕ → ℕ → Poly) (e f : Tree) → HasDenominators e → HasDenominators f → ClearsTo P e left → ClearsTo P f right
@@ -101,4 +99,14 @@ pub(crate) fn added(left: Node, right: Node) -> Result<Node, SumFault>
         den: common.den,
         degree,
     })
+}
+
+/// The difference, as the sum with the negation.
+pub(crate) fn subtracted(left: Node, right: Node) -> Result<Node, SumFault>
+    requires { (left.degree ≤ 20) × (right.degree ≤ 20) }
+    ensures { (P : ℕ → ℕ → Poly) (e f : Tree) → HasDenominators e → HasDenominators f → ClearsTo P e left → ClearsTo P f right
+        → IsConverted P (difference e f) result }
+{
+    let turned = negated(right)?;
+    added(left, turned)
 }

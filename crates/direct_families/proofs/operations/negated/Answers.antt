@@ -7,8 +7,8 @@ use Rattle.monomial_expand.proofs.TableSums.{Same-multiple, large_product}
 use Rattle.direct_families.proofs.Nodes.{failed, done, clears-negation, large-negation}
 use Rattle.direct_families.proofs.operations.negated.Goals as goal
 
-pub returns-in_err-terms : goal.returns-in_err-terms
-returns-in_err-terms c P e d h =
+pub returns-in_err-terms-clause-value : goal.returns-in_err-terms-clause-value
+returns-in_err-terms-clause-value c P e d h =
     failed P (negation e) _ _ c.from_residual.ensures.0 c.from_residual.ensures.1
     (λ large.
     let refused = c.in_err-terms.ensures.large.0 (ap Err large) in
@@ -17,8 +17,8 @@ returns-in_err-terms c P e d h =
     (subst (λ z. HasLarge (scale z (numerators c.args.inner.terms))) q
     (large_product c.args.inner.terms c.new.result c.is_whole.ensures.table c.is_whole.ensures.whole refused)))
 
-pub returns : goal.returns
-returns c P e d h =
+pub returns-clause-value : goal.returns-clause-value
+returns-clause-value c P e d h =
     let q : c.new.result ≡ negsuc 0 = c.new.ensures in
     done P (negation e) _
     (clears-negation P e c.args.inner _ c.is_whole-2.ensures.table refl refl
