@@ -35,7 +35,8 @@ enum calc_status {
  *
  * What is proved: where the status is CALC_DONE and the text had room, the text read back is a canonical list of terms, and this list is what
  * the command names, by the defining polynomials; of a batch each block is; words that offend, and words that are no command, are refused by
- * their own line; where there is no room, out is unchanged.
+ * their own line, and words that are neither only where the answer is too large or memory was refused; another code than these seven never
+ * comes; where there is no room, out is unchanged.
  *
  * What the caller owes: no pointer is NULL, also not where the length is 0; the buffers lie where he says, do not overlap, and are
  * shorter than 2^63 bytes. Memory comes from malloc and is given back before the call returns. The stack of the calling thread needs 8 MB
