@@ -30,3 +30,9 @@ returns-clause-lines g c = λ runs through before told.
     elim through [ inl done ↦ (left_by g c Done done).is_settled | inr refused ↦ (left_by g c SomeRefused refused).1.is_settled ] in
     subst (PrintsLines before (g.R.Read.remaining c.args.source.now.reader))
     (handed_on g.W.Write.contents c.run.new.sink settled) (c.run.ensures.lines runs through before told)
+
+pub returns-clause-offended : goal.returns-clause-offended
+returns-clause-offended g c = λ offence first. (c.run.ensures.offended offence first).ends
+
+pub returns-clause-no_command : goal.returns-clause-no_command
+returns-clause-no_command g c = λ word byte place. (c.run.ensures.no_command word byte place).ends

@@ -4,8 +4,8 @@ use Rattle.calc_c.proofs.run_words.Goals as goal
 
 pub returns-clause-lines : goal.returns-clause-lines
 returns-clause-lines c = λ runs through room.
-    lines_carried c.source.rest c.args.input.now c.new-sink.result.bytes c.run-status.new.sink.bytes
-    (take c.put_front.result c.put_front.new.out) (search rules) (search rules) (search rules)
+    lines_carried c.args.input.now c.args.input.now c.new-sink.result.bytes c.run-status.new.sink.bytes
+    (take c.put_front.result c.put_front.new.out) refl (search rules) (search rules)
     (c.run-status.ensures.lines runs through c.new-sink.result.bytes refl)
 
 pub returns-clause-offended : goal.returns-clause-offended
