@@ -39,8 +39,8 @@ enum calc_status {
  * comes; where there is no room, out is unchanged.
  *
  * What the caller owes: no pointer is NULL, also not where the length is 0; the buffers lie where he says, do not overlap, and are
- * shorter than 2^63 bytes. Memory comes from malloc and is given back before the call returns. The stack of the calling thread needs 8 MB
- * for the longest sums of `expand`, and 256 kB for everything else. */
+ * shorter than 2^63 bytes. Memory comes from malloc and is given back before the call returns. The stack of the calling thread needs
+ * 256 kB. */
 uint8_t calc_run(const uint8_t *line, size_t line_length,
                  const uint8_t *input, size_t input_length,
                  uint8_t *out, size_t room, size_t *needed);
