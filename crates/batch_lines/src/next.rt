@@ -19,8 +19,10 @@ pub enum Next {
 /// Why no line is read.
 #[derive(Clone, Copy, Debug, PartialEq, Eq, Hash, Error)]
 pub enum LineFault {
+    /// A call of the source failed.
     #[error("reading failed")]
     SourceFault,
+    /// Memory was refused.
     #[error("out of memory")]
     NoMemory,
 }

@@ -9,8 +9,10 @@ use thiserror::Error;
 /// Why a text is not read back as an answer.
 #[derive(Clone, Copy, Debug, PartialEq, Eq, Hash, Error)]
 pub enum ReadBackFault {
+    /// The text is no block that an answer of this kind prints.
     #[error("no printed block of this kind")]
     NotPrinted,
+    /// Memory was refused.
     #[error("out of memory")]
     NoMemory,
 }

@@ -23,8 +23,10 @@ pub struct SinkFault;
 /// Why a sum of terms is not given: a coefficient is too large, or memory was refused.
 #[derive(Clone, Copy, Debug, PartialEq, Eq, Hash, Error)]
 pub enum SumFault {
+    /// A coefficient is too large.
     #[error("a coefficient is too large")]
     Large,
+    /// Memory was refused.
     #[error("out of memory")]
     NoMemory,
 }

@@ -9,21 +9,28 @@ use thiserror::Error;
 /// A place in the words of a command: a word and a byte of it, both counted from 0.
 #[derive(Clone, Copy, Debug, PartialEq, Eq, PartialOrd, Ord, Hash)]
 pub struct Place {
+    /// The word, counted from 0.
     pub word: u64,
+    /// The byte in it, counted from 0.
     pub byte: u64,
 }
 
 /// Why words are no command that can be run: the first offence and its place, or memory was refused.
 #[derive(Clone, Copy, Debug, PartialEq, Eq, Hash, Error)]
 pub enum WordsFault {
+    /// The words are no command from this place on.
     #[error("no command, at byte {byte} of word {word}", byte = .at.byte, word = .at.word)]
     Syntax { at: Place },
+    /// A number past 2^127 - 1 begins here.
     #[error("a number too large, at byte {byte} of word {word}", byte = .at.byte, word = .at.word)]
     Literal { at: Place },
+    /// A limit is passed here.
     #[error("past a limit, at byte {byte} of word {word}", byte = .at.byte, word = .at.word)]
     Range { at: Place },
+    /// A list stands here that is none of its kind, as parts that rise.
     #[error("a list out of shape, at byte {byte} of word {word}", byte = .at.byte, word = .at.word)]
     Shape { at: Place },
+    /// Memory was refused.
     #[error("out of memory")]
     NoMemory,
 }
@@ -55,10 +62,15 @@ impl<T: Drop> From<AllocFailed<T>> for WordsFault {
 /// A basis of the symmetric functions: monomial, elementary, complete homogeneous, power sums and Schur functions.
 #[derive(Clone, Copy, Debug, PartialEq, Eq, Hash)]
 pub enum Basis {
+    /// Monomial symmetric functions.
     M,
+    /// Elementary symmetric functions.
     E,
+    /// Complete homogeneous symmetric functions.
     H,
+    /// Power sums.
     P,
+    /// Schur functions.
     S,
 }
 
@@ -66,6 +78,8 @@ pub enum Basis {
 /// `den` is bounded by `num` as the list's degree says.
 #[derive(Clone, Copy, Debug, PartialEq, Eq, Hash)]
 pub struct Weight {
+    /// What bounds the coefficients times the denominator.
     pub num: u128,
+    /// A multiple of each denominator.
     pub den: u128,
 }

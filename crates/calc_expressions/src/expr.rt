@@ -10,12 +10,19 @@ use partitions::Partition;
 /// An expression: a number, a fraction that need not be in lowest terms, an atom, and what is made of these.
 #[derive(Debug)]
 pub enum Expr {
+    /// A whole number.
     Number { num: i128 },
+    /// A numerator over a denominator.
     Fraction { num: i128, den: i128 },
+    /// The symmetric function of a partition in a basis.
     Atom { basis: Basis, label: Partition },
+    /// An expression with the other sign.
     Negation { inner: Box<Expr> },
+    /// The sum of two expressions.
     Sum { left: Box<Expr>, right: Box<Expr> },
+    /// The left expression less the right one.
     Difference { left: Box<Expr>, right: Box<Expr> },
+    /// The product of two expressions.
     Product { left: Box<Expr>, right: Box<Expr> },
 }
 

@@ -22,14 +22,19 @@ use thiserror::Error;
 /// memory was refused.
 #[derive(Clone, Copy, Debug, PartialEq, Eq, Hash, Error)]
 pub enum ExpressionFault {
+    /// The word is no expression from this byte on.
     #[error("no expression, at byte {byte}")]
     Syntax { byte: u64 },
+    /// A number past 2^127 - 1 begins at this byte.
     #[error("a number too large, at byte {byte}")]
     Literal { byte: u64 },
+    /// A limit is passed at this byte.
     #[error("past a limit, at byte {byte}")]
     Range { byte: u64 },
+    /// A list of parts that rises, or a denominator 0, stands at this byte.
     #[error("a list out of shape, at byte {byte}")]
     Shape { byte: u64 },
+    /// Memory was refused.
     #[error("out of memory")]
     NoMemory,
 }

@@ -7,8 +7,11 @@ use calc_base::{Place, WordsFault};
 /// What a number offends by.
 #[derive(Clone, Copy, Debug)]
 pub enum Kind {
+    /// It is past 2^127 - 1.
     Literal,
+    /// It is past a limit.
     Range,
+    /// It can stand in no such list.
     Shape,
 }
 

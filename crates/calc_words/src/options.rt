@@ -16,7 +16,9 @@ use calc_base::WordsFault;
 /// for on one line.
 #[derive(Clone, Copy, Debug)]
 pub struct Options {
+    /// The number of rows, where it is given.
     pub rows: RowsWord,
+    /// Whether the answer is asked for on one line.
     pub one_line: bool,
 }
 

@@ -122,7 +122,9 @@ pub(crate) fn two_letter_lists<'a>(
 /// The number of rows as it is written, where it is there; its value is kept where it is no more than 2^127 - 1.
 #[derive(Clone, Copy, Debug)]
 pub enum RowsWord {
+    /// There is no number of rows.
     Absent,
+    /// It is there, with a value that is kept up to 2^127 - 1.
     Given { value: Option<u128> },
 }
 

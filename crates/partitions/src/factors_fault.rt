@@ -9,10 +9,13 @@ use thiserror::Error;
 /// Why a list of factors is not made, or takes no further factor.
 #[derive(Clone, Copy, Debug, PartialEq, Eq, Hash, Error)]
 pub enum FactorsFault {
+    /// There would be more than 8 factors.
     #[error("more than 8 factors")]
     TooMany,
+    /// They would have more than 4,096 cells or 512 rows together.
     #[error("more than 4096 cells or 512 rows in all")]
     TooBig,
+    /// Memory was refused.
     #[error("out of memory")]
     NoMemory,
 }

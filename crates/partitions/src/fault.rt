@@ -9,13 +9,16 @@ use thiserror::Error;
 /// Why a list of numbers is not taken as a partition.
 #[derive(Clone, Copy, Debug, PartialEq, Eq, Hash, Error)]
 pub enum PartFault {
+    /// There are more than 512 parts.
     #[error("more than 512 parts")]
     TooMany,
     /// The number at the place `at`, counted from 0, is greater than the one before it.
     #[error("the number at place {at} is greater than the one before it")]
     Rising { at: usize },
+    /// They have more than 4,096 cells together.
     #[error("more than 4096 cells")]
     TooBig,
+    /// Memory was refused.
     #[error("out of memory")]
     NoMemory,
 }

@@ -9,13 +9,16 @@ use thiserror::Error;
 /// Why a list of numbers is not taken as the letters of a permutation, or as its code.
 #[derive(Clone, Copy, Debug, PartialEq, Eq, Hash, Error)]
 pub enum PermFault {
+    /// There is no letter.
     #[error("no letter")]
     Empty,
+    /// There are more than 255 letters.
     #[error("more than 255 letters")]
     TooMany,
     /// The number at the place `at`, counted from 0, can't stand there.
     #[error("the number at place {at} can't stand there")]
     Letter { at: usize },
+    /// Memory was refused.
     #[error("out of memory")]
     NoMemory,
 }

@@ -17,8 +17,11 @@ use std::alloc::{AllocError, Global};
 /// The bases in which the polynomial of a partition is the product over its parts.
 #[derive(Clone, Copy)]
 pub enum PlainBasis {
+    /// Elementary symmetric polynomials.
     Elementary,
+    /// Complete homogeneous symmetric polynomials.
     Complete,
+    /// Power sums.
     PowerSum,
 }
 

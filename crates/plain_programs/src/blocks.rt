@@ -10,8 +10,11 @@ use std::alloc::{AllocError, Global};
 /// A term of a list: its label and its coefficient, a fraction.
 #[derive(Drop)]
 pub struct PlainTerm {
+    /// What the coefficient belongs to.
     pub label: Vec<u64>,
+    /// The numerator of the coefficient.
     pub numerator: i128,
+    /// Its denominator.
     pub denominator: u128,
 }
 

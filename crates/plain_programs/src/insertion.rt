@@ -11,7 +11,9 @@ use std::alloc::{AllocError, Global};
 /// The insertion tableau and the recording tableau of a word, each by its rows.
 #[derive(Drop)]
 pub struct TableauPair {
+    /// The rows of the insertion tableau.
     pub insertion: Vec<Vec<u64>>,
+    /// The rows of the recording tableau.
     pub recording: Vec<Vec<u64>>,
 }
 

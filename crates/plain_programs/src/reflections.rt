@@ -14,7 +14,9 @@ use std::alloc::{AllocError, Global};
 /// A list of numbers with a sign.
 #[derive(Drop)]
 pub struct Signed {
+    /// The numbers.
     pub numbers: Vec<u64>,
+    /// Whether the sign is a minus.
     pub is_negative: bool,
 }
 

@@ -13,15 +13,20 @@ use std::alloc::{AllocError, Global};
 /// What is left where a rim hook is removed from a partition, and the height of that rim hook.
 #[derive(Drop)]
 pub struct Removal {
+    /// The partition that is left.
     pub left: Vec<u64>,
+    /// In how many rows the rim hook stood.
     pub height: u64,
 }
 
 /// An end of the removals, with a sign and the number of removals.
 #[derive(Drop)]
 pub struct Core {
+    /// What is left at the end.
     pub shape: Vec<u64>,
+    /// Whether the sign is a minus.
     pub is_negative: bool,
+    /// How many rim hooks were removed.
     pub power: u64,
 }
 

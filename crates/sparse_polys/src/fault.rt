@@ -9,10 +9,13 @@ use thiserror::Error;
 /// Why a list of numbers is not taken as the exponents of a monomial.
 #[derive(Clone, Copy, Debug, PartialEq, Eq, Hash, Error)]
 pub enum MonoFault {
+    /// There are more than 255 exponents.
     #[error("more than 255 exponents")]
     TooMany,
+    /// The degree is past 32,385.
     #[error("a degree of more than 32385")]
     TooBig,
+    /// Memory was refused.
     #[error("out of memory")]
     NoMemory,
 }

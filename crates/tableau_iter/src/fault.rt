@@ -9,8 +9,10 @@ use thiserror::Error;
 /// Why a list of tableaux is not gone on with after a word.
 #[derive(Clone, Copy, Debug, PartialEq, Eq, Hash, Error)]
 pub enum ResumeFault {
+    /// The word is not in the list.
     #[error("the word is not in the list")]
     NotInList,
+    /// Memory was refused.
     #[error("out of memory")]
     NoMemory,
 }

@@ -13,7 +13,9 @@ use std::alloc::Global;
 /// Why no rows were cut out of words: they go wrong where so many are left, or memory is wanting.
 #[derive(Clone, Copy, Debug)]
 pub enum RowsFault {
+    /// The words go wrong where so many are left.
     Wrong { left: usize },
+    /// Memory was refused.
     NoMemory,
 }
 
