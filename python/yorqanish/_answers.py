@@ -2,6 +2,7 @@
 from __future__ import annotations
 
 from fractions import Fraction
+from functools import lru_cache
 from typing import Any, Callable, Dict, NamedTuple, Tuple, Union
 
 Number = Union[int, Fraction]
@@ -16,6 +17,8 @@ class Pair(NamedTuple):
     recording: Tableau
 
 
+# (labels recur from answer to answer)
+@lru_cache(1 << 16)
 def numbers(label: str) -> Numbers:
     """The numbers of a label: `(2,1)` is (2, 1)."""
     inner = label[1:-1]
@@ -80,23 +83,28 @@ def powered(label: "Tuple[int, Numbers]") -> str:
     return q + indexed("\\sigma", label[1])
 
 
-class Kind(NamedTuple):
-    """How the labels of a kind of answer are read, and written in LaTeX."""
+# How the labels of each kind of answer are read.
+READ: Dict[str, Callable[[str], Any]] = {
+    "symmetric": numbers,
+    "pairs": two,
+    "powers": power,
+    "monomials": numbers,
+    "permutations": numbers,
+    "shifts": two,
+}
 
-    read: Callable[[str], Any]
-    latex: Callable[[Any], str]
 
-
-def kind_of(name: str, basis: str) -> Kind:
-    kinds: Dict[str, Kind] = {
-        "symmetric": Kind(numbers, lambda label: indexed(basis, label)),
-        "pairs": Kind(two, lambda pair: f"{indexed('s', pair[0])} \\otimes {indexed('s', pair[1])}"),
-        "powers": Kind(power, powered),
-        "monomials": Kind(numbers, lambda label: product("x", label)),
-        "permutations": Kind(numbers, permuted),
-        "shifts": Kind(two, lambda pair: f"{product('y', pair[1])} {permuted(pair[0])}".strip()),
+def latex_of(kind: str, basis: str) -> Callable[[Any], str]:
+    """How the labels of a kind of answer are written in LaTeX."""
+    kinds: Dict[str, Callable[[Any], str]] = {
+        "symmetric": lambda label: indexed(basis, label),
+        "pairs": lambda pair: f"{indexed('s', pair[0])} \\otimes {indexed('s', pair[1])}",
+        "powers": powered,
+        "monomials": lambda label: product("x", label),
+        "permutations": permuted,
+        "shifts": lambda pair: f"{product('y', pair[1])} {permuted(pair[0])}".strip(),
     }
-    return kinds[name]
+    return kinds[kind]
 
 
 class Expansion(Dict[Any, Number]):
@@ -123,7 +131,7 @@ class Expansion(Dict[Any, Number]):
         """The list of terms that a block says."""
         answer = Expansion((), kind, basis)
         if text != "0\n":
-            read = kind_of(kind, basis).read
+            read = READ[kind]
             for line in text.splitlines():
                 coefficient, label = line.split("  ", 1)
                 answer[read(label)] = number(coefficient)
@@ -139,7 +147,7 @@ class Expansion(Dict[Any, Number]):
         >>> Expansion({(2, 1): 1, (): 2}, "monomials").latex()
         'x_{1}^{2} x_{2}+2'
         """
-        label_of = kind_of(self.kind, self.basis).latex
+        label_of = latex_of(self.kind, self.basis)
         texts = []
         for label, c in self.items():
             written = label_of(label)
