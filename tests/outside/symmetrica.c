@@ -45,19 +45,47 @@ static void schubert(int n, const int *letters)
     freeall(f);
 }
 
+static const char BASES_IN_ORDER[] = "mehps";
+
+/* The changes of an element of one basis into another, by the places of their letters. */
+static INT (*const CHANGE_OF[5][5])() = {
+    {copy, t_MONOMIAL_ELMSYM, t_MONOMIAL_HOMSYM, t_MONOMIAL_POWSYM, t_MONOMIAL_SCHUR},
+    {t_ELMSYM_MONOMIAL, copy, t_ELMSYM_HOMSYM, t_ELMSYM_POWSYM, t_ELMSYM_SCHUR},
+    {t_HOMSYM_MONOMIAL, t_HOMSYM_ELMSYM, copy, t_HOMSYM_POWSYM, t_HOMSYM_SCHUR},
+    {t_POWSYM_MONOMIAL, t_POWSYM_ELMSYM, t_POWSYM_HOMSYM, copy, t_POWSYM_SCHUR},
+    {t_SCHUR_MONOMIAL, t_SCHUR_ELMSYM, t_SCHUR_HOMSYM, t_SCHUR_POWSYM, copy},
+};
+
+/* An element of one basis in another one. */
+static OP changed(char from, char target, OP one)
+{
+    OP f = callocobject();
+    CHANGE_OF[strchr(BASES_IN_ORDER, from) - BASES_IN_ORDER][strchr(BASES_IN_ORDER, target) - BASES_IN_ORDER](one, f);
+    return f;
+}
+
+/* The element of a basis with this label, in another one. */
+static OP element(char from, char target, OP label)
+{
+    OP one = callocobject();
+    switch (from) {
+    case 'm': m_pa_mon(label, one); break;
+    case 'e': m_pa_e(label, one); break;
+    case 'h': m_pa_h(label, one); break;
+    case 'p': m_pa_ps(label, one); break;
+    case 's': m_pa_s(label, one); break;
+    }
+    OP f = changed(from, target, one);
+    freeall(one);
+    return f;
+}
+
 /* An atom, in m. */
 static OP atom(char letter, int n, const int *parts)
 {
-    OP v = vector_of(n, parts), label = callocobject(), f = callocobject(), g = callocobject();
-    b_ks_pa(VECTOR, v, label);
-    switch (letter) {
-    case 'm': m_pa_mon(label, g); break;
-    case 's': m_pa_s(label, f); t_SCHUR_MONOMIAL(f, g); break;
-    case 'h': m_pa_h(label, f); t_HOMSYM_MONOMIAL(f, g); break;
-    case 'e': m_pa_e(label, f); t_ELMSYM_MONOMIAL(f, g); break;
-    case 'p': m_pa_ps(label, f); t_POWSYM_MONOMIAL(f, g); break;
-    }
-    return g;
+    OP label = callocobject();
+    b_ks_pa(VECTOR, vector_of(n, parts), label);
+    return element(letter, 'm', label);
 }
 
 /* A sum of atoms with coefficients, in m. */
@@ -90,47 +118,14 @@ static OP sum_of(char *text)
 
 static void plethysm_in(char target, char *outer, char *inner)
 {
-    OP f = sum_of(outer), g = sum_of(inner), in_m = callocobject(), answer = callocobject();
+    OP f = sum_of(outer), g = sum_of(inner), in_m = callocobject();
     if (nullp(f))
         return;
     plet_monomial_monomial(f, g, in_m);
-    switch (target) {
-    case 'm': copy(in_m, answer); break;
-    case 's': t_MONOMIAL_SCHUR(in_m, answer); break;
-    case 'h': t_MONOMIAL_HOMSYM(in_m, answer); break;
-    case 'e': t_MONOMIAL_ELMSYM(in_m, answer); break;
-    case 'p': t_MONOMIAL_POWSYM(in_m, answer); break;
-    }
+    OP answer = changed('m', target, in_m);
     print_terms(answer, 0);
     freeall(in_m);
     freeall(answer);
-}
-
-static const char BASES_IN_ORDER[] = "mehps";
-
-/* The changes of an element of one basis into another, by the places of their letters. */
-static INT (*const CHANGE_OF[5][5])() = {
-    {NULL, t_MONOMIAL_ELMSYM, t_MONOMIAL_HOMSYM, t_MONOMIAL_POWSYM, t_MONOMIAL_SCHUR},
-    {t_ELMSYM_MONOMIAL, NULL, t_ELMSYM_HOMSYM, t_ELMSYM_POWSYM, t_ELMSYM_SCHUR},
-    {t_HOMSYM_MONOMIAL, t_HOMSYM_ELMSYM, NULL, t_HOMSYM_POWSYM, t_HOMSYM_SCHUR},
-    {t_POWSYM_MONOMIAL, t_POWSYM_ELMSYM, t_POWSYM_HOMSYM, NULL, t_POWSYM_SCHUR},
-    {t_SCHUR_MONOMIAL, t_SCHUR_ELMSYM, t_SCHUR_HOMSYM, t_SCHUR_POWSYM, NULL},
-};
-
-/* An element of a basis in another one. */
-static OP changed(char from, char target, OP label)
-{
-    OP one = callocobject(), f = callocobject();
-    switch (from) {
-    case 'm': m_pa_mon(label, one); break;
-    case 'e': m_pa_e(label, one); break;
-    case 'h': m_pa_h(label, one); break;
-    case 'p': m_pa_ps(label, one); break;
-    case 's': m_pa_s(label, one); break;
-    }
-    CHANGE_OF[strchr(BASES_IN_ORDER, from) - BASES_IN_ORDER][strchr(BASES_IN_ORDER, target) - BASES_IN_ORDER](one, f);
-    freeall(one);
-    return f;
 }
 
 /* The partition that is written with its parts falling. */
@@ -151,7 +146,7 @@ static OP label_of(char *text)
 
 static void change(char from, char target, char *parts)
 {
-    OP label = label_of(parts), f = changed(from, target, label);
+    OP label = label_of(parts), f = element(from, target, label);
     print_terms(f, 0);
     freeall(label);
     freeall(f);
@@ -164,7 +159,7 @@ static void table(char from, char target, int size)
     M_I_I((INT)size, of);
     makevectorofpart(of, parts);
     for (INT i = 0; i < S_V_LI(parts); i++) {
-        OP f = changed(from, target, S_V_I(parts, i));
+        OP f = element(from, target, S_V_I(parts, i));
         for (OP z = f; z != NULL; z = S_S_N(z))
             terms++;
         freeall(f);
