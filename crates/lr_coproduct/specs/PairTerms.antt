@@ -1,13 +1,13 @@
 -- Terms labelled by pairs of partitions (this project's own).
-use Rattle.std.specs.Prelude.{◌≡◌, ℕ, Bool, ◌&&◌, ℤ, pos, List, map}
+use Rattle.std.specs.Prelude.{◌≡◌, ℕ, ℤ, pos, List, map}
 use Rattle.std.specs.declared.cmp.Ordering.TheVariants.{Less}
-use Rattle.sym_model.specs.Polynomial.{Poly, same}
+use Rattle.sym_model.specs.Polynomial.{Poly}
 use Rattle.sym_model.specs.Partition.{IsPartition, Holds}
 use Rattle.sym_model.specs.GoodTableau.{skew_count}
 use Rattle.sym_model.specs.Sum.{Among}
 use Rattle.sym_model.specs.PrintedOrder.{printed_order}
 use Rattle.sym_model.specs.Expansion.{Fraction, Terms, pair_polynomial}
-use Rattle.sym_model.specs.WholeTerms.{combined, coefficient_by, numerators}
+use Rattle.sym_model.specs.WholeTerms.{combined, coefficient_by, numerators, same_pair}
 
 -- the polynomial of terms in n variables and k variables after them
 abbrev pub pair_sum : ℕ → ℕ → Terms (List ℕ × List ℕ) → Poly
@@ -16,10 +16,6 @@ pair_sum n k terms = combined (pair_polynomial n k) (numerators terms)
 -- the polynomial of terms labelled by second partitions, where the first is given
 abbrev pub second_sum : ℕ → ℕ → List ℕ → Terms (List ℕ) → Poly
 second_sum n k first terms = combined (λ (second : List ℕ). pair_polynomial n k (first, second)) (numerators terms)
-
--- whether both pairs have the same partitions
-abbrev pub same_pair : List ℕ × List ℕ → List ℕ × List ℕ → Bool
-same_pair a b = same a.0 b.0 && same a.1 b.1
 
 -- the coefficient of a pair: the sum of the coefficients of its terms
 abbrev pub pair_coefficient : Terms (List ℕ × List ℕ) → List ℕ → List ℕ → ℤ
