@@ -1,0 +1,15 @@
+use Rattle.special_hook_laws.proofs.HookShapes.{hook_rest, hook_number}
+use Rattle.special_hook_laws.proofs.HookSums.{complete_sum, elementary_sum}
+use Rattle.special_hook_laws.proofs.hook_expansions.special_hooks_law.Goals as goal
+
+pub returns-clause-complete : goal.returns-clause-complete
+returns-clause-complete c = complete_sum
+
+pub returns-clause-elementary : goal.returns-clause-elementary
+returns-clause-elementary c = elementary_sum
+
+pub returns-clause-shapes : goal.returns-clause-shapes
+returns-clause-shapes c parts h p m = let r = hook_rest parts h p m in (r.partition, r.some, r.sized)
+
+pub returns-clause-number : goal.returns-clause-number
+returns-clause-number c = hook_number
