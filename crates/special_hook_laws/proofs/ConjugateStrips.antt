@@ -2,7 +2,7 @@
 use Rattle.std.proofs.Common.{◌≡◌, ℕ, zero, suc, ◌+◌, ◌-◌, ◌<◌, ◌≤◌, List, map, get_or, refl, sym, ◌∙◌, ap, subst, inl, inr, arith}
 use Rattle.std.proofs.lemmas.Bool.{cases_lt}
 use Rattle.sym_model.specs.Sum.{Among}
-use Rattle.sym_model.specs.Partition.{Falls, ArePositive, IsPartition, IsCell, Holds, part, columns}
+use Rattle.sym_model.specs.Partition.{Falls, IsPartition, IsCell, Holds, part, columns}
 use Rattle.sym_model.specs.Conjugate.{count_from, conjugate}
 use Rattle.sym_model.specs.Strip.{IsHorizontalStrip, IsVerticalStrip}
 use Rattle.sym_model.proofs.Sums.{Among-map, Among_from_map, Once-map}
@@ -58,17 +58,12 @@ twice_at parts k f =
         let d = row_reaches (suc n) parts k f (omega arith) (omega arith) in
         row_reaches (suc k) (conjugate parts) n g (omega arith) (omega arith)
 
--- two partitions with the same rows are one
-equal_rows : (α β : List ℕ) → ArePositive α → ArePositive β → ((k : ℕ) → get_or α k 0 ≡ get_or β k 0) → α ≡ β
-equal_rows α β p q e =
-    let a = rows_held α β p (λ k. omega (arith, e k)) in
-    let b = rows_held β α q (λ k. omega (arith, e k)) in
-    same_places α β (omega arith) (λ i l. e i)
-
 pub conjugate_twice : (parts : List ℕ) → IsPartition parts → conjugate (conjugate parts) ≡ parts
 conjugate_twice parts p =
     let q = IsPartition-conjugate (conjugate parts) (IsPartition-conjugate parts p.falls).falls in
-    equal_rows (conjugate (conjugate parts)) parts q.positive p.positive (λ k. twice_at parts k p.falls)
+    let a = rows_held (conjugate (conjugate parts)) parts q.positive (λ k. omega (arith, twice_at parts k p.falls)) in
+    let b = rows_held parts (conjugate (conjugate parts)) p.positive (λ k. omega (arith, twice_at parts k p.falls)) in
+    same_places (conjugate (conjugate parts)) parts (omega arith) (λ k l. twice_at parts k p.falls)
 
 -- ---- cells and strips
 

@@ -1,4 +1,4 @@
--- The signs of the special rim hooks whose rests a shape covers by a horizontal strip: they cancel but at the shape itself.
+-- The signs of the special rim hooks whose rests a shape covers by a horizontal strip: they cancel unless that is the shape of the hooks.
 use Rattle.std.proofs.Common.{◌≡◌, ℕ, suc, ◌+◌, ◌-◌, ◌<◌, ◌≤◌, Bool, true, false, ◌&&◌, not, cond, nat_le, List, [], ◌∷◌, map, length, refl, sym, ◌∙◌, ap, ap₂, inl, inr, arith, ℤ, pos, ◌+ℤ◌, ◌*ℤ◌, neg_ℤ}
 use Rattle.std.proofs.lemmas.Int.{ints}
 use Rattle.std.proofs.lemmas.Bool.{true≢false, false≢true, not-true, and_parts, and_from, le-leb, lt-leb, leb-true, leb-false, cases_lt}
@@ -214,7 +214,8 @@ pub signed_sum : (F : List ℕ → ℤ) (a : ℕ) (bs : List ℕ) → IsPartitio
     → total (λ (h : SpecialHook). h.sign *ℤ total F (select (λ ν. covers (length bs) ν h.rest) (partitions_of (size (a ∷ bs))))) (special_hooks (a ∷ bs))
     ≡ F (a ∷ bs)
 signed_sum F a bs p =
-    total_ext (λ (h : SpecialHook). h.sign *ℤ total F (select (λ ν. covers (length bs) ν h.rest) shapes)) (λ (h : SpecialHook). total (λ (ν : List ℕ). F ν *ℤ (h.sign *ℤ indicator (covers (length bs) ν h.rest))) shapes)
+    total_ext (λ (h : SpecialHook). h.sign *ℤ total F (select (λ ν. covers (length bs) ν h.rest) shapes))
+    (λ (h : SpecialHook). total (λ (ν : List ℕ). F ν *ℤ (h.sign *ℤ indicator (covers (length bs) ν h.rest))) shapes)
     (λ h.
     ap (λ z. h.sign *ℤ z) (total_select F (λ ν. covers (length bs) ν h.rest) shapes)
     ∙ sym (total_scale h.sign (λ (ν : List ℕ). cond (covers (length bs) ν h.rest) (F ν) (pos 0)) shapes)

@@ -1,4 +1,5 @@
 pub mod HookShapes
+pub mod HookHeights
 pub mod HookSigns
 pub mod HookStrips
 pub mod ConjugateStrips

@@ -17,8 +17,8 @@ shortened parts = without_last_zeros (map (λ a. a - 1) parts)
 abbrev pub below_row : ℕ → SpecialHook → SpecialHook
 below_row a h = record { sign = h.sign; cells = h.cells; rest = a ∷ h.rest }
 
--- the special rim hooks of a shape, one for each row in which the hook can end, from the first row down. The hook that ends in the
--- first row has a cell for each of that row and one more for each row below, and leaves these rows one cell shorter and one row higher
+-- the special rim hooks of a shape, one for each row in which the hook can end, from the first row down. The one that ends in the
+-- first row has as many cells as that row and one more for each row below, and leaves these rows, each one cell shorter
 abbrev pub special_hooks : List ℕ → List SpecialHook
 special_hooks [] = []
 special_hooks (a ∷ parts) =

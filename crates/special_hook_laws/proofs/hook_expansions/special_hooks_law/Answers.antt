@@ -1,4 +1,5 @@
 use Rattle.special_hook_laws.proofs.HookShapes.{hook_rest, hook_number}
+use Rattle.special_hook_laws.proofs.HookHeights.{hook_height}
 use Rattle.special_hook_laws.proofs.HookSums.{complete_sum, elementary_sum}
 use Rattle.special_hook_laws.proofs.hook_expansions.special_hooks_law.Goals as goal
 
@@ -10,6 +11,9 @@ returns-clause-elementary c = elementary_sum
 
 pub returns-clause-shapes : goal.returns-clause-shapes
 returns-clause-shapes c parts h p m = let r = hook_rest parts h p m in (r.partition, r.some, r.sized)
+
+pub returns-clause-rim_hooks : goal.returns-clause-rim_hooks
+returns-clause-rim_hooks c parts h p m = let r = hook_height parts h p m in (r.0, (hook_rest parts h p m).fewer, r.1)
 
 pub returns-clause-number : goal.returns-clause-number
 returns-clause-number c = hook_number
