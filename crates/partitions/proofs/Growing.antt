@@ -1,8 +1,8 @@
 -- Lists of factors with one factor more.
-use Rattle.std.proofs.Common.{◌≡◌, ℕ, ◌+◌, ◌≤◌, ◌<◌, ◌⊎◌, inl, inr, List, [], ◌∷◌, ◌++◌, length, length-append, map, refl, sym, subst, arith}
+use Rattle.std.proofs.Common.{◌≡◌, ℕ, ◌+◌, ◌≤◌, ◌<◌, ◌⊎◌, inl, inr, List, [], ◌∷◌, ◌++◌, length, length-append, sym, subst, arith}
 use Rattle.sym_model.specs.Sum.{Among}
 use Rattle.sym_model.specs.Partition.{IsPartition, size, rows}
-use Rattle.partitions.specs.FactorList.{AreFactors, AreSmall, AreTooBig, HasSums, cells_of, rows_of}
+use Rattle.partitions.specs.FactorList.{AreTooBig, HasSums, cells_of, rows_of}
 
 pub more_cells : (shapes : List (List ℕ)) (next : List ℕ) → cells_of (shapes ++ next ∷ []) ≡ cells_of shapes + size next
 more_cells [] next = omega arith

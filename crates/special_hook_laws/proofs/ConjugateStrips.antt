@@ -12,7 +12,7 @@ use Rattle.alternant_laws.proofs.FailingColumns.{at_letter}
 use Rattle.alternant_laws.proofs.StraightShapes.{same_places}
 use Rattle.product_laws.specs.StripLists.{ListsEach, AddsHorizontalStrip, AddsVerticalStrip}
 use Rattle.product_laws.proofs.StripShapes.{rows_held}
-use Rattle.partitions.proofs.Conjugates.{count_from-most, count_from-least, IsPartition-conjugate, rows-conjugate, size-conjugate}
+use Rattle.sym_model.proofs.Conjugates.{count_from-most, count_from-least, IsPartition-conjugate, rows-conjugate, size-conjugate}
 
 -- ---- the columns by places
 

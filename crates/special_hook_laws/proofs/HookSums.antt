@@ -9,7 +9,7 @@ use Rattle.sym_model.specs.Schur.{schur}
 use Rattle.sym_model.proofs.Sums.{total_among}
 use Rattle.sym_model.proofs.Polynomials.{pair_each, pair_scale, pair_determined, same_from_pair, Same_trans, same_of_equal}
 use Rattle.tableau_laws.proofs.Padding.{each_map}
-use Rattle.partitions.proofs.Conjugates.{IsPartition-conjugate}
+use Rattle.sym_model.proofs.Conjugates.{IsPartition-conjugate}
 use Rattle.product_laws.proofs.Pieri.{horizontal, vertical}
 use Rattle.special_hook_laws.specs.SpecialHooks.{SpecialHook, special_hooks}
 use Rattle.special_hook_laws.proofs.HookShapes.{hook_rest}

@@ -19,6 +19,7 @@ pub mod LabelKeys
 pub mod Parts
 pub mod Numbers
 pub mod Contents
+pub mod Conjugates
 pub mod Integers
 pub mod Lists
 pub mod Tableaux

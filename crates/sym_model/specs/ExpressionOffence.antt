@@ -4,7 +4,7 @@ use Rattle.sym_model.specs.Sum.{each}
 use Rattle.sym_model.specs.Expansion.{Basis, monomials, schurs}
 use Rattle.sym_model.specs.Expression.{degree}
 use Rattle.sym_model.specs.PrintedBlock.{decimal_value}
-use Rattle.sym_model.specs.Phrase.{Operator, minus, Phrase, numeral, ratio, label, brackets, minus_first, operation, spelling, tree, SpellsPhrase}
+use Rattle.sym_model.specs.Phrase.{Operator, minus, Phrase, numeral, ratio, label, brackets, minus_first, operation, spelling, tree}
 
 -- the kinds of offence in words that spell a command, in the order in which they come at one place (this project's own)
 pub data OffenceKind : Type 0 where

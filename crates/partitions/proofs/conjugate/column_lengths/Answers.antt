@@ -1,5 +1,6 @@
 use Rattle.std.proofs.Common.{◌+◌, [], ◌∷◌, length, ap, ◌∙◌, arith, length-append}
-use Rattle.partitions.proofs.Conjugates.{count_from-bound, count_from-falls, counts-more}
+use Rattle.sym_model.proofs.Conjugates.{count_from-bound, count_from-falls}
+use Rattle.partitions.proofs.Conjugates.{counts-more}
 use Rattle.partitions.proofs.conjugate.column_lengths.Goals as goal
 
 pub loop-j-init : goal.loop-j-init

@@ -1,5 +1,5 @@
 use Rattle.std.proofs.Common.{◌-◌, arith}
-use Rattle.partitions.proofs.Conjugates.{count_from-most, count_from-least}
+use Rattle.sym_model.proofs.Conjugates.{count_from-most, count_from-least}
 use Rattle.partitions.proofs.conjugate.rows_reaching.Goals as goal
 
 pub loop-rows-preserved : goal.loop-rows-preserved

@@ -2,7 +2,8 @@ use Rattle.std.proofs.Common.{◌≡◌, ◌≤◌, subst, sym, ap, ◌∙◌}
 use Rattle.sym_model.specs.Partition.{size, columns}
 use Rattle.sym_model.specs.Conjugate.{conjugate}
 use Rattle.partitions.specs.Limits.{IsWithinLimits}
-use Rattle.partitions.proofs.Conjugates.{IsWithinLimits-conjugate, size-conjugate}
+use Rattle.sym_model.proofs.Conjugates.{size-conjugate}
+use Rattle.partitions.proofs.Conjugates.{IsWithinLimits-conjugate}
 use Rattle.partitions.proofs.partition.Partition.conjugate.Goals as goal
 
 pub invariant_of-result : goal.invariant_of-result
