@@ -10,7 +10,7 @@ use Rattle.sym_model.specs.Sum.{Among}
 use Rattle.sym_model.specs.Partition.{IsPartition, size}
 use Rattle.sym_model.specs.RaisedPart.{raise, without_one}
 use Rattle.sym_model.specs.Weight.{factorial}
-use Rattle.sym_model.proofs.SortedParts.{IsPartition-raise, size-raise, rows-insert_part, has-zero_or, without_one_here, without_one_past, has-among, IsPartition_tail}
+use Rattle.sym_model.proofs.SortedParts.{IsPartition-raise, size-raise, rows-insert_part, has-zero_or, without_one_here, without_one_past, has-among}
 use Rattle.sym_model.proofs.Integers.{zero_or_not}
 use Rattle.basis_change.specs.declared.mixed.MixedLabel.{MixedLabel}
 use Rattle.basis_change.specs.declared.factors.Family.{Family}
@@ -18,6 +18,7 @@ use Rattle.basis_change_laws.specs.JoinedLists.{merged}
 use Rattle.basis_change.specs.Mixed.{Mixed, mixed, weight, is_past, AreLow, unready, AreReady, products, raised, mixed_at, conversion_at, conversions}
 use Rattle.basis_change.specs.Costs.{doubled, cost}
 use Rattle.basis_change.specs.Factors.{IsPowerSum, ArePowerSums}
+use Rattle.basis_change.proofs.LastParts.{IsEnded, last_part}
 use Rattle.basis_change.proofs.Tables.{weight-append}
 use Rattle.basis_change_laws.proofs.MergedParts.{IsPartition-merged, size-merged}
 use Rattle.basis_change.proofs.Walks.{low_label, IsReadyLabel, ready_label, unready-from, zero_weight}
@@ -103,18 +104,20 @@ cost-raised converted a b rest p m =
     let l : factorial (length (raise a b rest)) * doubled (a + size rest) ≤ factorial (length rest) * doubled (a + size rest) = mul-le-mul_right (doubled (a + size rest)) f in
     omega arith
 
-weight-converted : (family : Family) (c : ℤ) (factor : Mixed) (converted : List ℕ) (a : ℕ) (rest : List ℕ) → IsPowerSum family a factor → IsPartition (a ∷ rest)
-    → weight cost (products c factor converted rest ++ raised c converted a rest rest) ≤ nat_abs c * cost (mixed converted (a ∷ rest))
-weight-converted family c factor converted a rest is p =
+weight-converted : (family : Family) (c : ℤ) (factor : Mixed) (converted : List ℕ) (a : ℕ) (rest parts : List ℕ) → IsPowerSum family a factor → IsEnded a rest parts
+    → weight cost (products c factor converted rest ++ raised c converted a rest rest) ≤ nat_abs c * cost (mixed converted parts)
+weight-converted family c factor converted a rest parts is p =
     let P = weight (λ l. 1) factor in
     let F = factorial (length rest) in
     let D = doubled (a + size rest) in
     let x = weight-append cost (products c factor converted rest) (raised c converted a rest rest) in
     let y = weight-products c factor converted rest in
-    let z = weight-raised c converted a rest rest (F * D) (λ b m. cost-raised converted a b rest (IsPartition_tail a rest p) m) in
-    let d = doubled-times P a (size rest) is.few p.positive.0 in
+    let z = weight-raised c converted a rest rest (F * D) (λ b m. cost-raised converted a b rest p.before m) in
+    let d = doubled-times P a (size rest) is.few p.positive in
     let e : (nat_abs c * F) * (P * doubled (size rest)) ≤ (nat_abs c * F) * D = mul-le-mul_left (nat_abs c * F) d in
-    closing (weight cost (products c factor converted rest)) (weight cost (raised c converted a rest rest)) (weight cost (products c factor converted rest ++ raised c converted a rest rest)) P (nat_abs c) F (doubled (size rest)) D (length rest) x y z e
+    let same : cost (mixed converted parts) ≡ suc (length rest) * F * D = ap₂ (λ r s. factorial r * doubled s) p.count p.cells in
+    subst (λ k. weight cost (products c factor converted rest ++ raised c converted a rest rest) ≤ nat_abs c * k) (sym same)
+    (closing (weight cost (products c factor converted rest)) (weight cost (raised c converted a rest rest)) (weight cost (products c factor converted rest ++ raised c converted a rest rest)) P (nat_abs c) F (doubled (size rest)) D (length rest) x y z e)
   where
     closing : (u v t P C F d D r : ℕ) → t ≡ u + v → u ≡ P * (C * (F * d)) → v ≤ r * (C * (F * D)) → (C * F) * (P * d) ≤ (C * F) * D → t ≤ C * (suc r * F * D)
     closing u v t P C F d D r x y z e =
@@ -132,23 +135,20 @@ weight-conversion_at family d rows factors l z are some ready = by (zero_or_not 
       where
         also : (length l.augmented ≡ rows) ⊎ (length l.augmented ≡ rows → ⊥) → weight cost (conversion_at factors rows (l, z)) ≤ nat_abs z * cost l
         also (inr k) = let w = ap (weight cost) (conversion_at-other factors rows l z m k) in omega arith
-        also (inl k) = parts l.augmented refl
+        also (inl k) = parts (ready m)
           where
-            parts : (aug : List ℕ) → l.augmented ≡ aug → weight cost (conversion_at factors rows (l, z)) ≤ nat_abs z * cost l
-            parts [] e = absurd (let s = ap length e in let t : length {A = ℕ} [] ≡ 0 = refl in omega arith)
-            parts (a ∷ rest) e =
-                let r = ready m in
-                let p : IsPartition (a ∷ rest) = subst IsPartition e r.augmented in
+            parts : IsReadyLabel d rows l → weight cost (conversion_at factors rows (l, z)) ≤ nat_abs z * cost l
+            parts r =
+                let s = last_part l.augmented r.augmented (omega arith) in
+                let e : IsEnded s.0 s.1 l.augmented = s.2 in
                 let low = r.low in
-                let s = ap size e in
-                let q = p.positive.0 in
-                let i : a - 1 < d = omega arith in
-                let j : a - 1 + 1 ≡ a = omega arith in
-                let is : IsPowerSum family a (mixed_at factors (a - 1)) = subst (λ k. IsPowerSum family k (mixed_at factors (a - 1))) j (are (a - 1) i) in
-                let w = ap (weight cost) (conversion_at-here factors rows l z a rest m k e) in
-                let h = weight-converted family z (mixed_at factors (a - 1)) l.converted a rest is p in
-                let same : cost (mixed l.converted (a ∷ rest)) ≡ cost l = ap (λ (aug : List ℕ). cost (mixed l.converted aug)) (sym e) in
-                subst (λ x. weight cost (conversion_at factors rows (l, z)) ≤ nat_abs z * x) same (subst (λ x. x ≤ nat_abs z * cost (mixed l.converted (a ∷ rest))) (sym w) h)
+                let size = e.cells in
+                let q = e.positive in
+                let i : s.0 - 1 < d = omega arith in
+                let j : s.0 - 1 + 1 ≡ s.0 = omega arith in
+                let is : IsPowerSum family s.0 (mixed_at factors (s.0 - 1)) = subst (λ k. IsPowerSum family k (mixed_at factors (s.0 - 1))) j (are (s.0 - 1) i) in
+                let w = ap (weight cost) (conversion_at-here factors rows l z s.0 s.1 m k e.is) in
+                subst (λ x. x ≤ nat_abs z * cost l) (sym w) (weight-converted family z (mixed_at factors (s.0 - 1)) l.converted s.0 s.1 l.augmented is e)
 
 pub weight-conversions : (family : Family) (d rows : ℕ) (factors : List Mixed) (es : Mixed) → ArePowerSums family d factors → 0 < rows → AreReady d rows es
     → weight cost (conversions factors rows es) ≤ weight cost es
@@ -210,26 +210,27 @@ ready-conversion_at family d rows factors l z are ready = by (zero_or_not z)
             let u = unready-from d rows l (record { converted = r.converted; augmented = r.augmented; low = low; few = omega arith }) in
             subst (λ (m : Mixed). AreReady d rows m) (sym (conversion_at-other factors (suc rows) l z m k))
             (let v : nat_abs z * unready d rows l ≡ nat_abs z * 0 = ap (λ x. nat_abs z * x) u in let w : nat_abs z * unready d rows l + 0 ≡ 0 = omega arith in w)
-        also (inl k) = parts l.augmented refl
+        also (inl k) = parts (ready m)
           where
-            parts : (aug : List ℕ) → l.augmented ≡ aug → AreReady d rows (conversion_at factors (suc rows) (l, z))
-            parts [] e = absurd (let s = ap length e in let t : length {A = ℕ} [] ≡ 0 = refl in omega arith)
-            parts (a ∷ rest) e =
-                let r = ready m in
-                let p : IsPartition (a ∷ rest) = subst IsPartition e r.augmented in
+            parts : IsReadyLabel d (suc rows) l → AreReady d rows (conversion_at factors (suc rows) (l, z))
+            parts r =
+                let s = last_part l.augmented r.augmented (omega arith) in
+                let a = s.0 in
+                let rest = s.1 in
+                let e : IsEnded s.0 s.1 l.augmented = s.2 in
                 let low = r.low in
-                let s = ap size e in
-                let n = ap length e in
-                let q = p.positive.0 in
-                let i : a - 1 < d = omega arith in
-                let j : a - 1 + 1 ≡ a = omega arith in
-                let is : IsPowerSum family a (mixed_at factors (a - 1)) = subst (λ k. IsPowerSum family k (mixed_at factors (a - 1))) j (are (a - 1) i) in
+                let size = e.cells in
+                let n = e.count in
+                let q = e.positive in
+                let i : s.0 - 1 < d = omega arith in
+                let j : s.0 - 1 + 1 ≡ s.0 = omega arith in
+                let is : IsPowerSum family s.0 (mixed_at factors (s.0 - 1)) = subst (λ k. IsPowerSum family k (mixed_at factors (s.0 - 1))) j (are (s.0 - 1) i) in
                 let xs = products z (mixed_at factors (a - 1)) l.converted rest in
                 let ys = raised z l.converted a rest rest in
-                let x : AreReady d rows (products z (mixed_at factors (a - 1)) l.converted rest) = ready-products family d rows z a (mixed_at factors (a - 1)) l.converted rest is.low r.converted (IsPartition_tail a rest p) (omega arith) (omega arith) in
-                let y : AreReady d rows (raised z l.converted a rest rest) = ready-raised d rows z l.converted a rest rest r.converted (IsPartition_tail a rest p) (omega arith) (omega arith) (λ b h. h) in
+                let x : AreReady d rows (products z (mixed_at factors (s.0 - 1)) l.converted s.1) = ready-products family d rows z a (mixed_at factors (a - 1)) l.converted rest is.low r.converted e.before (omega arith) (omega arith) in
+                let y : AreReady d rows (raised z l.converted s.0 s.1 s.1) = ready-raised d rows z l.converted a rest rest r.converted e.before (omega arith) (omega arith) (λ b h. h) in
                 let w = weight-append (unready d rows) xs ys in
-                subst (λ (m : Mixed). AreReady d rows m) (sym (conversion_at-here factors (suc rows) l z a rest m k e)) (w ∙ ap₂ ◌+◌ x y ∙ omega arith)
+                subst (λ (m : Mixed). AreReady d rows m) (sym (conversion_at-here factors (suc rows) l z a rest m k e.is)) (w ∙ ap₂ ◌+◌ x y ∙ omega arith)
 
 pub ready-conversions : (family : Family) (d rows : ℕ) (factors : List Mixed) (es : Mixed) → ArePowerSums family d factors → AreReady d (suc rows) es → AreReady d rows (conversions factors (suc rows) es)
 ready-conversions family d rows factors [] are h = refl

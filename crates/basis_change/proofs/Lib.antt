@@ -2,6 +2,7 @@ pub mod Tables
 pub mod PartLists
 pub mod Signs
 pub mod SortingSigns
+pub mod LastParts
 pub mod Walks
 pub mod Conversions
 pub mod Values

@@ -1,23 +1,22 @@
 -- What terms stand for: the target's polynomial times an augmented monomial.
---     value-conversion       converting the first part changes no value
+--     value-converted        converting the last part changes no value
 --     value-conversions      and so for all terms
-use Rattle.std.proofs.Common.{◌≡◌, ◌⊎◌, ℕ, zero, suc, ◌+◌, ◌*◌, ◌-◌, ◌<◌, ◌≤◌, Bool, true, false, cond, nat_le, List, [], ◌∷◌, ◌++◌, length, refl, sym, ap, ap₂, ◌∙◌, subst, inl, inr, arith, ℤ, pos, negsuc, neg_ℤ, ◌+ℤ◌, ◌*ℤ◌}
+use Rattle.std.proofs.Common.{◌≡◌, ◌⊎◌, ℕ, suc, ◌+◌, ◌*◌, ◌-◌, ◌<◌, ◌≤◌, true, List, [], ◌∷◌, ◌++◌, length, refl, sym, ap, ap₂, ◌∙◌, subst, inl, inr, arith, ℤ, pos, negsuc, neg_ℤ, ◌+ℤ◌, ◌*ℤ◌}
 use Rattle.std.specs.Prelude.{nat_abs}
 use Rattle.std.proofs.lemmas.Int.{ints}
 use Rattle.std.proofs.lemmas.Bool.{cases_lt, cases_eq}
 use Rattle.sym_model.specs.Sum.{total, each}
-use Rattle.sym_model.specs.Polynomial.{Poly, Same, In, same, join, plus, pair, times, one}
-use Rattle.sym_model.specs.Partition.{IsPartition, ArePositive, size, insert_part, sorted_parts}
+use Rattle.sym_model.specs.Polynomial.{Poly, In, same, join, plus, pair, times}
+use Rattle.sym_model.specs.Partition.{IsPartition, size, insert_part, sorted_parts}
 use Rattle.sym_model.specs.Bases.{product_over, power_sum_of, monomial, at_most_one, has}
 use Rattle.sym_model.specs.RaisedPart.{raise}
 use Rattle.sym_model.proofs.Ring.{ring}
 use Rattle.sym_model.proofs.Sums.{total_ext, total_map, total_scale}
-use Rattle.sym_model.proofs.Polynomials.{pair_ext, pair_plus, pair_each, pair_times, pair_total, pair_determined, Same_refl, Same_sym, Same_trans, times_respects, In_times, In_scale}
+use Rattle.sym_model.proofs.Polynomials.{pair_ext, pair_plus, pair_each, pair_times, pair_total, pair_determined, Same_refl, times_respects, In_scale}
 use Rattle.sym_model.proofs.Monomials.{In-monomials}
-use Rattle.sym_model.proofs.PolynomialLaws.{times_comm, times_assoc, times-plus, one-times}
-use Rattle.sym_model.proofs.SortedParts.{insert_part-front, IsPartition_tail}
+use Rattle.sym_model.proofs.PolynomialLaws.{times-plus}
+use Rattle.basis_change.proofs.LastParts.{IsEnded, last_part}
 use Rattle.sym_model.proofs.Integers.{zero_or_not}
-use Rattle.monomial_laws.proofs.Powers.{In-product_over}
 use Rattle.basis_change_laws.specs.AugmentedMonomial.{augmented, multiplicity_factorials}
 use Rattle.basis_change_laws.proofs.AugmentedMonomials.{power_sum_times_augmented}
 use Rattle.basis_change_laws.proofs.MergedParts.{front, product_over-merged}
@@ -100,9 +99,9 @@ value-raised f c converted a rest numbers =
     turned x y = simp ring (omega (arith, ints))
 
 -- p_a times an augmented monomial, and another polynomial
-value-power_sum : (n a : ℕ) (C : Poly) (rest : List ℕ) (φ : List ℕ → ℤ) → 0 < a → IsPartition rest → insert_part a rest ≡ a ∷ rest
-    → pair (times (power_sum_of a n) (times C (augmented rest n))) φ ≡ pair (times C (augmented (a ∷ rest) n)) φ +ℤ total (λ (b : ℕ). pair (times C (augmented (raise a b rest) n)) φ) rest
-value-power_sum n a C rest φ h p e =
+value-power_sum : (n a : ℕ) (C : Poly) (rest : List ℕ) (φ : List ℕ → ℤ) → 0 < a → IsPartition rest
+    → pair (times (power_sum_of a n) (times C (augmented rest n))) φ ≡ pair (times C (augmented (insert_part a rest) n)) φ +ℤ total (λ (b : ℕ). pair (times C (augmented (raise a b rest) n)) φ) rest
+value-power_sum n a C rest φ h p =
     let A = augmented rest n in
     let X = augmented (insert_part a rest) n in
     let Y = each (λ b. augmented (raise a b rest) n) rest in
@@ -111,7 +110,7 @@ value-power_sum n a C rest φ h p e =
     (times_respects C C (times (power_sum_of a n) A) (plus X Y) (Same_refl C) (power_sum_times_augmented a n rest h p))
     ∙ pair_determined (times C (plus X Y)) (plus (times C X) (times C Y)) φ (times-plus C X Y)
     ∙ pair_plus (times C X) (times C Y) φ
-    ∙ ap₂ ◌+ℤ◌ (ap (λ l. pair (times C (augmented l n)) φ) e) spread
+    ∙ ap (λ z. pair (times C X) φ +ℤ z) spread
   where
     spread : pair (times C (each (λ b. augmented (raise a b rest) n) rest)) φ ≡ total (λ (b : ℕ). pair (times C (augmented (raise a b rest) n)) φ) rest
     spread =
@@ -124,15 +123,16 @@ value-power_sum n a C rest φ h p e =
 
 -- ---- converting changes no value
 
-value-converted : (family : Family) (n : ℕ) (φ : List ℕ → ℤ) (c : ℤ) (factor : Mixed) (converted : List ℕ) (a : ℕ) (rest : List ℕ) → IsPowerSum family a factor → IsPartition (a ∷ rest)
-    → weighed (product_value family n φ) (products c factor converted rest ++ raised c converted a rest rest) ≡ c *ℤ product_value family n φ (mixed converted (a ∷ rest))
-value-converted family n φ c factor converted a rest is p =
+value-converted : (family : Family) (n : ℕ) (φ : List ℕ → ℤ) (c : ℤ) (factor : Mixed) (converted : List ℕ) (a : ℕ) (rest parts : List ℕ) → IsPowerSum family a factor → IsEnded a rest parts
+    → weighed (product_value family n φ) (products c factor converted rest ++ raised c converted a rest rest) ≡ c *ℤ product_value family n φ (mixed converted parts)
+value-converted family n φ c factor converted a rest parts is e =
     let f = product_value family n φ in
     let C = product_over (polynomial_of family) converted n in
     weighed-append f (products c factor converted rest) (raised c converted a rest rest)
-    ∙ ap₂ ◌+ℤ◌ (value-products family n φ c a factor converted rest is ∙ ap (λ z. c *ℤ z) (value-power_sum n a C rest φ p.positive.0 (IsPartition_tail a rest p) (insert_part-front a rest p.positive.0 p.falls)))
+    ∙ ap₂ ◌+ℤ◌ (value-products family n φ c a factor converted rest is ∙ ap (λ z. c *ℤ z) (value-power_sum n a C rest φ e.positive e.before))
     (value-raised f c converted a rest rest)
-    ∙ left c (f (mixed converted (a ∷ rest))) (total (λ (b : ℕ). f (mixed converted (raise a b rest))) rest)
+    ∙ left c (f (mixed converted (insert_part a rest))) (total (λ (b : ℕ). f (mixed converted (raise a b rest))) rest)
+    ∙ ap (λ (l : List ℕ). c *ℤ product_value family n φ (mixed converted l)) e.put
   where
     left : (c x y : ℤ) → c *ℤ (x +ℤ y) +ℤ neg_ℤ (c *ℤ y) ≡ c *ℤ x
     left c x y = simp ring (omega (arith, ints))
@@ -153,22 +153,22 @@ value-conversion_at family d rows n φ factors l z are some ready = by (zero_or_
         also (inr k) =
             ap (weighed (product_value family n φ)) (conversion_at-other factors rows l z m k)
             ∙ (let x = z *ℤ product_value family n φ l in let r : (z *ℤ product_value family n φ l) +ℤ pos 0 ≡ z *ℤ product_value family n φ l = omega (arith, ints) in r)
-        also (inl k) = parts l.augmented refl
+        also (inl k) = parts (ready m)
           where
-            parts : (aug : List ℕ) → l.augmented ≡ aug → weighed (product_value family n φ) (conversion_at factors rows (l, z)) ≡ z *ℤ product_value family n φ l
-            parts [] e = absurd (let s = ap length e in let t : length {A = ℕ} [] ≡ 0 = refl in omega arith)
-            parts (a ∷ rest) e =
-                let r = ready m in
-                let p : IsPartition (a ∷ rest) = subst IsPartition e r.augmented in
+            parts : IsReadyLabel d rows l → weighed (product_value family n φ) (conversion_at factors rows (l, z)) ≡ z *ℤ product_value family n φ l
+            parts r =
+                let s = last_part l.augmented r.augmented (omega arith) in
+                let a = s.0 in
+                let rest = s.1 in
+                let e : IsEnded s.0 s.1 l.augmented = s.2 in
                 let low = r.low in
-                let s = ap size e in
-                let q = p.positive.0 in
-                let i : a - 1 < d = omega arith in
-                let j : a - 1 + 1 ≡ a = omega arith in
-                let is : IsPowerSum family a (mixed_at factors (a - 1)) = subst (λ k. IsPowerSum family k (mixed_at factors (a - 1))) j (are (a - 1) i) in
-                ap (weighed (product_value family n φ)) (conversion_at-here factors rows l z a rest m k e)
-                ∙ value-converted family n φ z (mixed_at factors (a - 1)) l.converted a rest is p
-                ∙ ap (λ (aug : List ℕ). z *ℤ product_value family n φ (mixed l.converted aug)) (sym e)
+                let size = e.cells in
+                let q = e.positive in
+                let i : s.0 - 1 < d = omega arith in
+                let j : s.0 - 1 + 1 ≡ s.0 = omega arith in
+                let is : IsPowerSum family s.0 (mixed_at factors (s.0 - 1)) = subst (λ k. IsPowerSum family k (mixed_at factors (s.0 - 1))) j (are (s.0 - 1) i) in
+                ap (weighed (product_value family n φ)) (conversion_at-here factors rows l z a rest m k e.is)
+                ∙ value-converted family n φ z (mixed_at factors (a - 1)) l.converted a rest l.augmented is e
 
 -- for all terms
 pub value-conversions : (family : Family) (d rows n : ℕ) (φ : List ℕ → ℤ) (factors : List Mixed) (es : Mixed) → ArePowerSums family d factors → 0 < rows → AreReady d rows es

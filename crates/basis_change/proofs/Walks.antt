@@ -11,6 +11,7 @@ use Rattle.std.proofs.lemmas.Bool.{and_from}
 use Rattle.sym_model.specs.Bases.{has}
 use Rattle.sym_model.proofs.SortedParts.{has_here}
 use Rattle.basis_change.specs.declared.mixed.MixedLabel.{MixedLabel}
+use Rattle.basis_change.proofs.LastParts.{IsEnded}
 use Rattle.basis_change.specs.Mixed.{Mixed, weight, is_past, AreLow, unready, AreReady, mixed_at}
 use native.Mathlib.Nat.{mul-pos}
 
@@ -156,12 +157,12 @@ mixed_at-index {M} entries [] i d m h e = absurd (omega arith)
 mixed_at-index {M} entries (n ∷ ms) zero d m h e = ap entries (sym e)
 mixed_at-index {M} entries (n ∷ ms) (suc i) d m h e = mixed_at-index entries ms i d m (omega arith) e
 
--- a term that is ready, with its first part
-pub ready-first : (d rows : ℕ) (l : MixedLabel) (z : ℤ) (a : ℕ) (rest : List ℕ) → AreReady d rows ((l, z) ∷ []) → (z ≡ pos 0 → ⊥) → l.augmented ≡ a ∷ rest → size l.converted + (a + size rest) ≤ d
-ready-first d rows l z a rest h n e =
+-- a term that is ready, with its last part
+pub ready-last : (d rows : ℕ) (l : MixedLabel) (z : ℤ) (a : ℕ) (rest : List ℕ) → AreReady d rows ((l, z) ∷ []) → (z ≡ pos 0 → ⊥) → IsEnded a rest l.augmented → size l.converted + (a + size rest) ≤ d
+ready-last d rows l z a rest h n e =
     let t = unready-tells d rows l (weight-none (unready d rows) ((l, z) ∷ []) 0 l z h refl n) in
     let s = t.0 in
-    let f = ap size e in
+    let f = e.cells in
     omega arith
 
 pub ready-at : (d rows : ℕ) (es : Mixed) (i : ℕ) (l : MixedLabel) (z : ℤ) → AreReady d rows es → slice_get es i ≡ Some (l, z) → AreReady d rows ((l, z) ∷ [])

@@ -1,8 +1,8 @@
 -- Sums of products of a polynomial of the target and an augmented monomial symmetric polynomial (this project's own): what stands
 -- half way between two bases.
-use Rattle.std.specs.Prelude.{◌≡◌, ℕ, zero, suc, ◌+◌, ◌-◌, ◌*◌, ◌^◌, ◌≤◌, nat_abs, nat_le, nat_eq, Bool, true, false, ◌&&◌, cond, ℤ, pos, negsuc, ◌+ℤ◌, ◌*ℤ◌, neg_ℤ, List, [], ◌∷◌, ◌++◌, map, length}
+use Rattle.std.specs.Prelude.{◌≡◌, ℕ, zero, suc, ◌+◌, ◌-◌, ◌*◌, ◌^◌, ◌≤◌, nat_abs, nat_le, nat_eq, Bool, true, false, ◌&&◌, cond, ℤ, pos, negsuc, ◌+ℤ◌, ◌*ℤ◌, neg_ℤ, List, [], ◌∷◌, ◌++◌, map, length, take}
 use Rattle.sym_model.specs.Sum.{total, each}
-use Rattle.sym_model.specs.Partition.{size}
+use Rattle.sym_model.specs.Partition.{size, rows, part}
 use Rattle.sym_model.specs.RaisedPart.{raise}
 use Rattle.sym_model.specs.LabelLimits.{is_partition}
 use Rattle.sym_model.specs.WholeTerms.{WholeTerms}
@@ -72,11 +72,15 @@ mixed_at [] i = []
 mixed_at (m ∷ lists) zero = m
 mixed_at (m ∷ lists) (suc i) = mixed_at lists i
 
--- what comes of a term whose first part is converted: with the parts (a, rest) of the augmented monomial, p_a times that of
--- `rest` less those in which a part of `rest` is raised by a; the lists are those of p_1, p_2 and so on
+-- what comes of a term whose last part is converted, a smallest one: with this part a of the augmented monomial and the parts
+-- `rest` before it, p_a times that of `rest` less those in which a part of `rest` is raised by a; the lists are those of p_1,
+-- p_2 and so on
 abbrev pub conversion : List Mixed → ℤ → List ℕ → List ℕ → Mixed
 conversion factors c converted [] = (mixed converted [], c) ∷ []
-conversion factors c converted (a ∷ rest) =
+conversion factors c converted (b ∷ others) =
+    let parts = b ∷ others in
+    let a = part parts (rows parts) in
+    let rest = take (rows parts - 1) parts in
     products c (mixed_at factors (a - 1)) converted rest ++ raised c converted a rest rest
 
 -- whether the number is 0

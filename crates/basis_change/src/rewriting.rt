@@ -1,4 +1,4 @@
-//! The parts of augmented monomials converted one after another.
+//! The parts of augmented monomials converted one after another, the smallest first.
 ghost use Rattle.std.specs.Prelude.{◌≡◌, ℕ, ◌+◌, ◌*◌, ◌^◌, ◌<◌, ◌≤◌, ℤ, List, ◌∷◌, [], map, length, IfOk, OnOk, IsErrOf};
 ghost use Rattle.basis_change.specs.Mixed.{weighed, weight, Added, Overflows, AreReady, conversion_at, conversions};
 ghost use Rattle.basis_change.specs.Factors.{ArePowerSums, product_value};
@@ -13,7 +13,8 @@ use coeff_rings::{Int, Scalar};
 use indexmap::IndexMap;
 use std::alloc::Global;
 
-/// Adds what comes of a term where augmented monomials of so many parts are converted.
+/// Adds what comes of a term where augmented monomials of so many parts are converted. The smallest part is the one converted:
+/// its power sum has the fewest terms.
 fn add_conversion(
     alloc: Global,
     family: Family,
@@ -37,15 +38,15 @@ fn add_conversion(
     if label.augmented.rows() != rows {
         return add(next, label.copy()?, c);
     }
-    let Some((first, rest)) = label.augmented.parts().split_first() else {
+    let Some((last, rest)) = label.augmented.parts().split_last() else {
         return add(next, label.copy()?, c);
     };
-    let factor = &factors[usize::from(*first) - 1];
+    let factor = &factors[usize::from(*last) - 1];
     add_products(alloc, next, factor, label.converted.parts(), rest, c)?;
-    take_raised(alloc, next, &label.converted, rest, *first, c)
+    take_raised(alloc, next, &label.converted, rest, *last, c)
 }
 
-/// The terms whose augmented monomials have `rows` parts with the first one converted, and the other terms.
+/// The terms whose augmented monomials have `rows` parts with the last one converted, and the other terms.
 fn step(
     alloc: Global,
     family: Family,
