@@ -17,10 +17,6 @@ use Rattle.basis_change_laws.specs.JoinedLists.{merged}
 use native.Mathlib.Nat.{mul-pos, mul-le-mul_left}
 use Rattle.monomial_laws.proofs.Growths.{factorial-mono}
 
--- what is still to come of a copy without one part, which was found already or was not
-abbrev pub rest_of : Bool → ℕ → List ℕ → List ℕ
-rest_of found k xs = cond found xs (without_one k xs)
-
 -- ---- factorials
 
 pub factorial-fits : (i n : ℕ) → n ≡ factorial i → i < 20 → n * (i + 1) < 2 ^ 128

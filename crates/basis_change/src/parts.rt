@@ -48,40 +48,35 @@ pub fn merged(alloc: Global, more: &[u16], parts: &[u16]) -> Result<Vec<u16>, Al
     requires { ArePositive more.now }
     ensures { IfOk result (λ all. all.items ≡ merged more.now parts.now) }
 {
-    let mut all = copy_of(alloc, parts)?;
-    insert_parts(&mut all, more)?;
+    let mut all = Vec::new(alloc);
+    put_merged(&mut all, more, parts)?;
     Ok(all)
 }
 
-/// The parts with the first one that is `from` made `by` greater.
-pub(crate) fn raised(
-    alloc: Global,
+/// Puts the parts of both lists in the place of what the first vector holds: those of `more` one after another into the others.
+pub(crate) fn put_merged(all: &mut Vec<u16>, more: &[u16], parts: &[u16]) -> Result<(), AllocError>
+    requires { ArePositive more.now }
+    ensures { OnOk result (all.new.items ≡ merged more.now parts.now) }
+{
+    all.clear();
+    all.extend_from_slice(parts)?;
+    insert_parts(all, more)
+}
+
+/// Puts the parts in the place of what the first vector holds, with the first one that is `from` made `by` greater.
+pub(crate) fn put_raised(
+    raised: &mut Vec<u16>,
     parts: &[u16],
     from: u16,
     by: u16,
-) -> Result<Vec<u16>, AllocError>
+) -> Result<(), AllocError>
     requires { (0 < by) × (by + from < 2 ^ 16) }
-    ensures { IfOk result (λ raised. raised.items ≡ raise by from parts.now) }
+    ensures { OnOk result (raised.new.items ≡ raise by from parts.now) }
 {
-    let mut rest = without_part(alloc, parts, from)?;
-    insert_part(&mut rest, by + from)?;
-    Ok(rest)
-}
-
-/// The parts without the first one that is the number.
-pub(crate) fn without_part(alloc: Global, parts: &[u16], part: u16) -> Result<Vec<u16>, AllocError>
-    ensures { IfOk result (λ rest. rest.items ≡ without_one part parts.now) }
-{
-    let mut rest = Vec::new(alloc);
-    let mut found = false;
-    for p in parts {
-        if !found && *p == part {
-            found = true;
-        } else {
-            rest.push(*p)?;
-        }
-    }
-    Ok(rest)
+    raised.clear();
+    raised.extend_from_slice(parts)?;
+    take_part(raised, from);
+    insert_part(raised, by + from)
 }
 
 /// Takes the first part that is the number off.

@@ -7,17 +7,18 @@ ghost use Rattle.basis_change_laws.specs.JoinedLists.{merged};
 ghost use Rattle.basis_change.specs.Mixed.{mixed, Added, Overflows, AreLow, products, raised};
 
 use crate::mixed::MixedLabel;
-use crate::parts::{merged, raised};
+use crate::parts::{put_merged, put_raised};
 use crate::table::{Mixed, add, entry_at};
 use calc_base::SumFault;
 use coeff_rings::{Int, Ring, Scalar};
 use partitions::Partition;
 use std::alloc::Global;
 
-/// Adds a term whose converted partition has the parts of both lists.
+/// Adds a term whose converted partition has the parts of both lists, which are put together in `room`.
 fn add_merged(
     alloc: Global,
     sum: &mut Mixed,
+    room: &mut Vec<u16>,
     more: &[u16],
     converted: &[u16],
     augmented: &[u16],
@@ -31,18 +32,20 @@ fn add_merged(
     ensures large { IsErrOf result SumFault.Large
         → Overflows ((mixed (merged more.now converted.now) augmented.now, c) ∷ []) sum.old.entries }
 {
-    let parts = merged(alloc, more, converted)?;
+    put_merged(room, more, converted)?;
     let label = MixedLabel {
-        converted: Partition::from_valid_parts(alloc, &parts)?,
+        converted: Partition::from_valid_parts(alloc, room.as_slice())?,
         augmented: Partition::from_valid_parts(alloc, augmented)?,
     };
     add(sum, label, c)
 }
 
-/// Adds a term of a list times c, times the target's polynomial of a partition, times an augmented monomial.
+/// Adds a term of a list times c, times the target's polynomial of a partition, times an augmented monomial. The parts of the two
+/// partitions are put together in `room`.
 fn add_product(
     alloc: Global,
     sum: &mut Mixed,
+    room: &mut Vec<u16>,
     label: &MixedLabel,
     have: Int,
     converted: &[u16],
@@ -65,6 +68,7 @@ fn add_product(
     add_merged(
         alloc,
         sum,
+        room,
         label.converted.parts(),
         converted,
         augmented,
@@ -89,17 +93,19 @@ pub(crate) fn add_products(
     ensures large { IsErrOf result SumFault.Large
         → Overflows (products c factor.now.entries converted.now augmented.now) sum.old.entries }
 {
+    let mut room = Vec::new(alloc);
     for at in 0..factor.len() {
         let (label, have) = entry_at(factor, at);
-        add_product(alloc, sum, label, have, converted, augmented, c)?;
+        add_product(alloc, sum, &mut room, label, have, converted, augmented, c)?;
     }
     Ok(())
 }
 
-/// Takes c times the augmented monomial away in which a part is raised.
+/// Takes c times the augmented monomial away in which a part is raised; its parts are put together in `room`.
 fn take_one(
     alloc: Global,
     sum: &mut Mixed,
+    room: &mut Vec<u16>,
     converted: &Partition,
     augmented: &[u16],
     by: u16,
@@ -116,10 +122,10 @@ fn take_one(
     let Some(minus) = c.neg() else {
         return Err(SumFault::Large);
     };
-    let parts = raised(alloc, augmented, part, by)?;
+    put_raised(room, augmented, part, by)?;
     let label = MixedLabel {
         converted: converted.copy()?,
-        augmented: Partition::from_valid_parts(alloc, &parts)?,
+        augmented: Partition::from_valid_parts(alloc, room.as_slice())?,
     };
     add(sum, label, minus)
 }
@@ -140,8 +146,9 @@ pub(crate) fn take_raised(
     ensures large { IsErrOf result SumFault.Large
         → Overflows (raised c converted.now by augmented.now augmented.now) sum.old.entries }
 {
+    let mut room = Vec::new(alloc);
     for part in augmented {
-        take_one(alloc, sum, converted, augmented, by, *part, c)?;
+        take_one(alloc, sum, &mut room, converted, augmented, by, *part, c)?;
     }
     Ok(())
 }

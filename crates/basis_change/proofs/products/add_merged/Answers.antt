@@ -11,4 +11,4 @@ from_valid_parts-requires c =
     let converted = c.args.converted.now in
     let s = size-merged more converted in
     let low = IsWithinLimits-low (merged more converted) (IsPartition-merged more converted c.requires.converted) (omega (arith, c.requires.sizes)) in
-    subst (λ l. IsWithinLimits l) (sym (c.deref.ensures.value ∙ c.in_ok-parts.ensures)) low
+    subst (λ l. IsWithinLimits l) (sym (c.as_slice.ensures.value ∙ c.in_ok-put_merged.ensures)) low
