@@ -39,7 +39,15 @@ impl HorizontalStrips {
         ensures item { IfOk result (λ l. ⟦<HorizontalStrips as Lister>⟧.item l ≡ None) }
     {
         let mut shapes = Vec::new(alloc);
-        add_strips(alloc, inner.part(1) + k, k, inner.parts(), &[], &mut shapes)?;
+        let mut above = Vec::with_capacity(alloc, usize::from(inner.rows()) + 1)?;
+        add_strips(
+            alloc,
+            inner.part(1) + k,
+            k,
+            inner.parts(),
+            &mut above,
+            &mut shapes,
+        )?;
         Ok(HorizontalStrips { shapes, listed: 0 })
     }
 }
@@ -63,53 +71,58 @@ impl Lister for HorizontalStrips {
     }
 }
 
-/// Adds the shapes that begin with the rows, and go on with what a strip of `left` cells makes of the rows of a partition,
-/// where no first row is longer than `most`.
+/// Adds the shapes that begin with the rows of `above`, which stay as they are, and go on with what a strip of `left` cells makes
+/// of the rows of a partition, where no first row is longer than `most`.
 fn add_strips(
     alloc: Global,
     most: u16,
     left: u16,
     inner: &[u16],
-    rows: &[u16],
+    above: &mut Vec<u16>,
     shapes: &mut Vec<Partition>,
 ) -> Result<(), NoMemory>
     requires falls { Falls (most ∷ inner.now) }
     requires room { left ≤ most }
     requires small { most < 2 ^ 15 }
-    requires limits { (rest : List ℕ) → Among rest (strips_on most left inner.now) → IsWithinLimits (rows.now ++ rest) }
-    ensures { OnOk result (shapes.new.items
-        ≡ shapes.old.items ++ map (λ rest. rows.now ++ rest) (strips_on most left inner.now)) }
+    requires limits { (rest : List ℕ) → Among rest (strips_on most left inner.now) → IsWithinLimits (above.old.items ++ rest) }
+    ensures same { OnOk result (above.new.items ≡ above.old.items) }
+    ensures shapes { OnOk result (shapes.new.items
+        ≡ shapes.old.items ++ map (λ rest. above.old.items ++ rest) (strips_on most left inner.now)) }
 {
     let [first, below @ ..] = inner else {
-        return add_last(alloc, left, rows, shapes);
+        return add_last(alloc, left, above, shapes);
     };
+    let len = above.len();
     let longest = most.min(*first + left);
     let shortest = left.max(*first);
     for shorter in 0..longest + 1 - shortest {
         let row = longest - shorter;
-        let mut longer = Vec::from_slice(alloc, rows)?;
-        longer.push(row)?;
-        add_strips(alloc, *first, left + *first - row, below, &longer, shapes)?;
+        above.push(row)?;
+        add_strips(alloc, *first, left + *first - row, below, above, shapes)?;
+        above.truncate(len);
     }
     Ok(())
 }
 
-/// Adds the shape of the rows, and of a last row of `left` cells where that is not 0.
+/// Adds the shape of the rows of `above`, which stay as they are, and of a last row of `left` cells where that is not 0.
 fn add_last(
     alloc: Global,
     left: u16,
-    rows: &[u16],
+    above: &mut Vec<u16>,
     shapes: &mut Vec<Partition>,
 ) -> Result<(), NoMemory>
-    requires { (rest : List ℕ) → Among rest (strips_on left left []) → IsWithinLimits (rows.now ++ rest) }
-    ensures { OnOk result (shapes.new.items ≡ shapes.old.items ++ map (λ rest. rows.now ++ rest) (strips_on left left [])) }
+    requires { (rest : List ℕ) → Among rest (strips_on left left []) → IsWithinLimits (above.old.items ++ rest) }
+    ensures same { OnOk result (above.new.items ≡ above.old.items) }
+    ensures shapes { OnOk result (shapes.new.items
+        ≡ shapes.old.items ++ map (λ rest. above.old.items ++ rest) (strips_on left left [])) }
 {
     if left == 0 {
-        shapes.push(Partition::from_valid_parts(alloc, rows)?)?;
+        shapes.push(Partition::from_valid_parts(alloc, above)?)?;
         return Ok(());
     }
-    let mut shape = Vec::from_slice(alloc, rows)?;
-    shape.push(left)?;
-    shapes.push(Partition::from_valid_parts(alloc, &shape)?)?;
+    let len = above.len();
+    above.push(left)?;
+    shapes.push(Partition::from_valid_parts(alloc, above)?)?;
+    above.truncate(len);
     Ok(())
 }

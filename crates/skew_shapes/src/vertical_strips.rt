@@ -39,7 +39,15 @@ impl VerticalStrips {
         ensures item { IfOk result (λ l. ⟦<VerticalStrips as Lister>⟧.item l ≡ None) }
     {
         let mut shapes = Vec::new(alloc);
-        add_strips(alloc, inner.part(1) + 1, k, inner.parts(), &[], &mut shapes)?;
+        let mut above = Vec::with_capacity(alloc, usize::from(inner.rows() + k))?;
+        add_strips(
+            alloc,
+            inner.part(1) + 1,
+            k,
+            inner.parts(),
+            &mut above,
+            &mut shapes,
+        )?;
         Ok(VerticalStrips { shapes, listed: 0 })
     }
 }
@@ -63,49 +71,51 @@ impl Lister for VerticalStrips {
     }
 }
 
-/// Adds the shapes that begin with the rows, and go on with what a strip of `left` cells makes of the rows of a partition,
-/// where no first row is longer than `most`.
+/// Adds the shapes that begin with the rows of `above`, which stay as they are, and go on with what a strip of `left` cells makes
+/// of the rows of a partition, where no first row is longer than `most`.
 fn add_strips(
     alloc: Global,
     most: u16,
     left: u16,
     inner: &[u16],
-    rows: &[u16],
+    above: &mut Vec<u16>,
     shapes: &mut Vec<Partition>,
 ) -> Result<(), NoMemory>
     requires falls { Falls (most ∷ inner.now) }
     requires small { most + left < 2 ^ 14 }
-    requires limits { (rest : List ℕ) → Among rest (vertical_on most left inner.now) → IsWithinLimits (rows.now ++ rest) }
-    ensures { OnOk result (shapes.new.items
-        ≡ shapes.old.items ++ map (λ rest. rows.now ++ rest) (vertical_on most left inner.now)) }
+    requires limits { (rest : List ℕ) → Among rest (vertical_on most left inner.now) → IsWithinLimits (above.old.items ++ rest) }
+    ensures same { OnOk result (above.new.items ≡ above.old.items) }
+    ensures shapes { OnOk result (shapes.new.items
+        ≡ shapes.old.items ++ map (λ rest. above.old.items ++ rest) (vertical_on most left inner.now)) }
 {
     let [first, below @ ..] = inner else {
-        return add_ones(alloc, left, rows, shapes);
+        return add_ones(alloc, left, above, shapes);
     };
+    let len = above.len();
     let longest = most.min(*first + left.min(1));
     for shorter in 0..longest + 1 - *first {
         let row = longest - shorter;
-        let mut longer = Vec::from_slice(alloc, rows)?;
-        longer.push(row)?;
-        add_strips(alloc, row, left + *first - row, below, &longer, shapes)?;
+        above.push(row)?;
+        add_strips(alloc, row, left + *first - row, below, above, shapes)?;
+        above.truncate(len);
     }
     Ok(())
 }
 
-/// Adds the shape of the rows and of `left` rows of one cell behind them.
+/// Adds the shape of the rows of `above`, which stay as they are, and of `left` rows of one cell behind them.
 fn add_ones(
     alloc: Global,
     left: u16,
-    rows: &[u16],
+    above: &mut Vec<u16>,
     shapes: &mut Vec<Partition>,
 ) -> Result<(), NoMemory>
-    requires limits { IsWithinLimits (rows.now ++ replicate left 1) }
-    ensures { OnOk result (shapes.new.items ≡ shapes.old.items ++ ((rows.now ++ replicate left 1) ∷ [])) }
+    requires limits { IsWithinLimits (above.old.items ++ replicate left 1) }
+    ensures same { OnOk result (above.new.items ≡ above.old.items) }
+    ensures shapes { OnOk result (shapes.new.items ≡ shapes.old.items ++ ((above.old.items ++ replicate left 1) ∷ [])) }
 {
-    let mut shape = Vec::from_slice(alloc, rows)?;
-    for _ in 0..left {
-        shape.push(1)?;
-    }
-    shapes.push(Partition::from_valid_parts(alloc, &shape)?)?;
+    let len = above.len();
+    above.resize(len + usize::from(left), 1)?;
+    shapes.push(Partition::from_valid_parts(alloc, above)?)?;
+    above.truncate(len);
     Ok(())
 }

@@ -9,5 +9,8 @@ decreases-add_strips l = length l.inner.now
 
 -- the shapes with the first rows so far are added
 abbrev pub invariant-loop-shorter : goal.invariant-loop-shorter
-invariant-loop-shorter l =
-    l.shapes.items ≡ l.initial.shapes.items ++ map (λ rest. l.rows ++ rest) (each (grown l.first l.left l.below) (counting_down l.longest l.shorter))
+invariant-loop-shorter l = record {
+  same : l.above.items ≡ l.fn.above.items;
+  listed :
+      l.shapes.items ≡ l.fn.shapes.items ++ map (λ rest. l.fn.above.items ++ rest) (each (grown l.first l.left l.below) (counting_down l.longest l.shorter));
+}

@@ -1,4 +1,5 @@
-use Rattle.std.proofs.Common.{◌≡◌, ◌+◌, ◌-◌, ◌≤◌, ◌++◌, [], ◌∷◌, List, ℕ, get_or, take, drop, length, map, subst, sym, ap, ◌∙◌, arith, append_assoc}
+use Rattle.std.proofs.Common.{◌≡◌, ◌+◌, ◌-◌, ◌≤◌, ◌++◌, [], ◌∷◌, List, ℕ, get_or, take, drop, length, map, subst, sym, ap, ◌∙◌, arith, append_assoc, append-nil, refl}
+use Rattle.std.proofs.lemmas.List.{take_at}
 use Rattle.sym_model.specs.Partition.{Falls}
 use Rattle.sym_model.specs.Sum.{Among, each}
 use Rattle.sym_model.proofs.Parts.{split_first}
@@ -16,42 +17,62 @@ falls_rows a b c below inner e f l = let g : Falls (a ∷ b ∷ below) = subst (
     more b c [] l f = tt
     more b c (d ∷ below) l f = (let x = f.0 in omega arith, f.1)
 
+pub loop-shorter-init : goal.loop-shorter-init
+loop-shorter-init t c = record { same = refl; listed = sym (append-nil c.args.shapes.now.items) }
+
 pub add_strips-requires : goal.add_strips-requires
 add_strips-requires t c =
     let a = get_or c.args.inner.now 0 0 in
+    let below = take (length c.args.inner.now - 1) (drop 1 c.args.inner.now) in
+    let above = c.args.above.now.items in
     let split = split_first c.args.inner.now c.in-len1-up.len_at_least in
     let shorter = ap length split in
-    let first = (falls_rows c.args.most (get_or c.args.inner.now 0 0) (get_or c.args.inner.now 0 0) (take (length c.args.inner.now - 1) (drop 1 c.args.inner.now)) c.args.inner.now split c.requires.falls (omega arith)).0 in
-    let falls = falls_rows c.args.most (get_or c.args.inner.now 0 0) (c.min-longest.result - c.loop-shorter.shorter) (take (length c.args.inner.now - 1) (drop 1 c.args.inner.now)) c.args.inner.now split c.requires.falls (omega arith) in
-    let longer : c.deref.result.now ≡ c.args.rows.now ++ ((c.min-longest.result - c.loop-shorter.shorter) ∷ []) =
-    c.deref.ensures.value ∙ c.in_ok-push.ensures.items ∙ ap (λ l. l ++ ((c.min-longest.result - c.loop-shorter.shorter) ∷ [])) c.in_ok-longer.ensures.items in (
+    let row = c.min-longest.result - c.loop-shorter.shorter in
+    let first = (falls_rows c.args.most a a below c.args.inner.now split c.requires.falls (omega arith)).0 in
+    let falls = falls_rows c.args.most a row below c.args.inner.now split c.requires.falls (omega arith) in
+    let longer = c.in_ok-push.ensures.items ∙ ap (λ (l : List ℕ). l ++ (row ∷ [])) c.loop-shorter.invariant.same in (
       omega arith,
       (
         falls.1,
         (
           omega arith,
           λ rest m.
-              subst IsWithinLimits (sym (append_assoc c.args.rows.now ((c.min-longest.result - c.loop-shorter.shorter) ∷ []) rest) ∙ ap (λ l. l ++ rest) (sym longer))
-              (c.requires.limits ((c.min-longest.result - c.loop-shorter.shorter) ∷ rest)
-              (subst (λ l. Among ((c.min-longest.result - c.loop-shorter.shorter) ∷ rest) (vertical_on c.args.most c.args.left l)) split
-              (listed_further c.args.most c.args.left (get_or c.args.inner.now 0 0) (c.min-longest.result - c.loop-shorter.shorter) c.loop-shorter.shorter
-              (take (length c.args.inner.now - 1) (drop 1 c.args.inner.now)) rest (omega arith) (omega arith) m))),
+              subst IsWithinLimits (sym (append_assoc above (row ∷ []) rest) ∙ ap (λ (l : List ℕ). l ++ rest) (sym longer))
+              (c.requires.limits (row ∷ rest)
+              (subst (λ l. Among (row ∷ rest) (vertical_on c.args.most c.args.left l)) split
+              (listed_further c.args.most c.args.left a row c.loop-shorter.shorter below rest (omega arith) (omega arith) m))),
         ),
       ),
     )
 
 pub loop-shorter-preserved : goal.loop-shorter-preserved
 loop-shorter-preserved t c =
-    each-next (λ row. vertical_on row (c.args.left + get_or c.args.inner.now 0 0 - row) (take (length c.args.inner.now - 1) (drop 1 c.args.inner.now))) c.min-longest.result c.loop-shorter.shorter
-    c.args.rows.now c.deref.result.now c.args.shapes.now.items c.loop-shorter.shapes.items c.add_strips.new.shapes.items c.loop-shorter.invariant
-    (c.deref.ensures.value ∙ c.in_ok-push.ensures.items ∙ ap (λ l. l ++ ((c.min-longest.result - c.loop-shorter.shorter) ∷ [])) c.in_ok-longer.ensures.items)
-    c.in_ok-add_strips.ensures
+    let a = get_or c.args.inner.now 0 0 in
+    let below = take (length c.args.inner.now - 1) (drop 1 c.args.inner.now) in
+    let above = c.args.above.now.items in
+    let row = c.min-longest.result - c.loop-shorter.shorter in
+    let longer = c.in_ok-push.ensures.items ∙ ap (λ (l : List ℕ). l ++ (row ∷ [])) c.loop-shorter.invariant.same in
+    record {
+      same =
+          c.truncate.ensures.items ∙ ap (take c.len-len.result) (c.in_ok-add_strips.ensures.same ∙ longer)
+          ∙ take_at above (row ∷ []) c.len-len.result (omega arith);
+      listed =
+          each-next (λ row. vertical_on row (c.args.left + a - row) below) c.min-longest.result c.loop-shorter.shorter
+          above c.push.new.self.items c.args.shapes.now.items c.loop-shorter.shapes.items c.add_strips.new.shapes.items
+          c.loop-shorter.invariant.listed longer c.in_ok-add_strips.ensures.shapes;
+    }
 
-pub returns : goal.returns
-returns t c =
+pub returns-clause-same : goal.returns-clause-same
+returns-clause-same t c = c.loop-shorter.invariant.same
+
+pub returns-clause-shapes : goal.returns-clause-shapes
+returns-clause-shapes t c =
+    let a = get_or c.args.inner.now 0 0 in
+    let below = take (length c.args.inner.now - 1) (drop 1 c.args.inner.now) in
+    let above = c.args.above.now.items in
     let split = split_first c.args.inner.now c.in-len1-up.len_at_least in
-    widened_all c.args.most c.args.left (get_or c.args.inner.now 0 0) c.loop-shorter.shorter (take (length c.args.inner.now - 1) (drop 1 c.args.inner.now)) c.args.rows.now c.args.inner.now
+    widened_all c.args.most c.args.left a c.loop-shorter.shorter below above c.args.inner.now
     c.args.shapes.now.items c.loop-shorter.shapes.items split (let m = c.min.ensures in omega arith)
-    (c.loop-shorter.invariant
-    ∙ ap (λ n. c.args.shapes.now.items ++ map (λ rest. c.args.rows.now ++ rest)
-    (each (λ row. map (λ rest. row ∷ rest) (vertical_on row (c.args.left + get_or c.args.inner.now 0 0 - row) (take (length c.args.inner.now - 1) (drop 1 c.args.inner.now)))) (counting_down n c.loop-shorter.shorter))) (let m = c.min.ensures in omega arith))
+    (c.loop-shorter.invariant.listed
+    ∙ ap (λ n. c.args.shapes.now.items ++ map (λ rest. above ++ rest) (each (λ row. map (λ rest. row ∷ rest) (vertical_on row (c.args.left + a - row) below)) (counting_down n c.loop-shorter.shorter)))
+    (let m = c.min.ensures in omega arith))

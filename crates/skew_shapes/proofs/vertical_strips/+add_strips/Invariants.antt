@@ -9,6 +9,9 @@ decreases-add_strips l = length l.inner.now
 
 -- the shapes with the first rows so far are added
 abbrev pub invariant-loop-shorter : goal.invariant-loop-shorter
-invariant-loop-shorter l =
-    l.shapes.items
-    ≡ l.initial.shapes.items ++ map (λ rest. l.rows ++ rest) (each (λ row. map (λ rest. row ∷ rest) (vertical_on row (l.left + l.first - row) l.below)) (counting_down l.longest l.shorter))
+invariant-loop-shorter l = record {
+  same : l.above.items ≡ l.fn.above.items;
+  listed :
+      l.shapes.items
+      ≡ l.fn.shapes.items ++ map (λ rest. l.fn.above.items ++ rest) (each (λ row. map (λ rest. row ∷ rest) (vertical_on row (l.left + l.first - row) l.below)) (counting_down l.longest l.shorter));
+}

@@ -1,29 +1,26 @@
-use Rattle.std.proofs.Common.{◌≡◌, ◌+◌, ◌++◌, [], ◌∷◌, List, ℕ, zero, suc, subst, sym, ap, ◌∙◌, arith, refl, append_assoc, append-nil}
+use Rattle.std.proofs.Common.{◌≡◌, ◌+◌, ◌-◌, ◌++◌, [], ◌∷◌, List, ℕ, length, take, subst, sym, ap, ap₂, ◌∙◌, arith}
 use Rattle.std.specs.Prelude.{replicate}
+use Rattle.std.specs.Vec.{vec_len}
+use Rattle.std.proofs.lemmas.List.{take_all, take_at}
 use Rattle.partitions.specs.Limits.{IsWithinLimits}
 use Rattle.skew_shapes.proofs.vertical_strips.add_ones.Goals as goal
 
-one_more : (n : ℕ) → ◌++◌ {A = ℕ} (replicate n 1) (1 ∷ []) ≡ replicate (n + 1) 1
-one_more zero = refl
-one_more (suc n) = ap (λ (l : List ℕ). 1 ∷ l) (one_more n) ∙ ap (λ (k : ℕ). replicate {A = ℕ} k 1) (let e : suc (n + 1) ≡ suc n + 1 = omega arith in e)
-
-pub loop-init : goal.loop-init
-loop-init c = c.in_ok-shape.ensures.items ∙ sym (append-nil c.args.rows.now)
-
-pub loop-preserved : goal.loop-preserved
-loop-preserved c =
-    c.in_ok-push.ensures.items ∙ ap (λ (l : List ℕ). l ++ (1 ∷ [])) c.loop.invariant
-    ∙ append_assoc c.args.rows.now (replicate c.loop.counter 1) (1 ∷ [])
-    ∙ ap (λ (l : List ℕ). c.args.rows.now ++ l) (one_more c.loop.counter)
+-- the rows with rows of one cell behind them
+resized : (above longer : List ℕ) (left len n : ℕ) → len ≡ length above → n ≡ len + left → longer ≡ take n above ++ replicate (n - len) 1
+    → longer ≡ above ++ replicate left 1
+resized above longer left len n l e r = r ∙ ap₂ ◌++◌ (take_all n above (omega arith)) (ap (λ (k : ℕ). replicate {A = ℕ} k 1) (let m : n - len ≡ left = omega arith in m))
 
 pub from_valid_parts-requires : goal.from_valid_parts-requires
 from_valid_parts-requires c =
-    let e : c.loop.counter ≡ c.args.left = omega arith in
-    subst IsWithinLimits (sym (c.deref.ensures.value ∙ c.loop.invariant ∙ ap (λ n. c.args.rows.now ++ replicate n 1) e)) c.requires.limits
+    let above = c.args.above.now.items in
+    let longer = resized above c.resize.new.self.items c.args.left (vec_len c.args.above.now) (c.len-len.result + c.from.result) (omega arith) (omega arith) c.in_ok-resize.ensures.items in
+    subst IsWithinLimits (sym (c.deref.ensures.value ∙ longer)) c.requires.limits
 
 pub returns : goal.returns
 returns c =
-    let e : c.loop.counter ≡ c.args.left = omega arith in
-    let shape : c.in_ok-from_valid_parts.field-0 ≡ c.args.rows.now ++ replicate c.args.left 1 =
-    c.in_ok-from_valid_parts.ensures.ok ∙ c.deref.ensures.value ∙ c.loop.invariant ∙ ap (λ n. c.args.rows.now ++ replicate n 1) e in
-    c.in_ok-push-2.ensures.items ∙ ap (λ (x : List ℕ). c.args.shapes.now.items ++ (x ∷ [])) shape
+    let above = c.args.above.now.items in
+    let longer = resized above c.resize.new.self.items c.args.left (vec_len c.args.above.now) (c.len-len.result + c.from.result) (omega arith) (omega arith) c.in_ok-resize.ensures.items in
+    record {
+      same = c.truncate.ensures.items ∙ ap (take c.len-len.result) longer ∙ take_at above (replicate c.args.left 1) c.len-len.result (omega arith);
+      shapes = c.in_ok-push.ensures.items ∙ ap (λ (x : List ℕ). c.args.shapes.now.items ++ (x ∷ [])) (c.in_ok-from_valid_parts.ensures.ok ∙ c.deref.ensures.value ∙ longer);
+    }

@@ -1,6 +1,7 @@
-use Rattle.std.proofs.Common.{◌≡◌, ◌+◌, ◌++◌, ◌∷◌, List, ℕ, subst, sym, ap₂, ◌∙◌}
+use Rattle.std.proofs.Common.{◌≡◌, ◌+◌, ◌++◌, ◌∷◌, List, ℕ, map, subst, sym, ap₂, ◌∙◌}
 use Rattle.sym_model.specs.Partition.{part, Falls}
 use Rattle.sym_model.specs.Sum.{Among}
+use Rattle.partitions.specs.Limits.{IsWithinLimits}
 use Rattle.skew_shapes.specs.HorizontalStrips.{strips_on, AreHorizontalStrips}
 use Rattle.skew_shapes.proofs.StripLists.{grown_limits, most_falls, horizontal_strips, map_rest}
 use Rattle.skew_shapes.proofs.horizontal_strips.HorizontalStrips.new.Goals as goal
@@ -12,15 +13,18 @@ add_strips-requires-clause-falls c =
 
 pub add_strips-requires-clause-limits : goal.add_strips-requires-clause-limits
 add_strips-requires-clause-limits c rest m =
-    grown_limits c.args.inner.now c.args.k c.parts.ensures.limits.partition c.requires.cells c.requires.rows rest
+    subst (λ (above : List ℕ). IsWithinLimits (above ++ rest)) (sym c.in_ok-above.ensures.items)
+    (grown_limits c.args.inner.now c.args.k c.parts.ensures.limits.partition c.requires.cells c.requires.rows rest
     (subst (λ n. Among rest (strips_on (n + c.args.k) c.args.k c.args.inner.now)) c.part.ensures.value
-    (subst (λ l. Among rest (strips_on (c.part.result + c.args.k) c.args.k l)) c.parts.ensures.value m))
+    (subst (λ l. Among rest (strips_on (c.part.result + c.args.k) c.args.k l)) c.parts.ensures.value m)))
 
 pub returns-clause-strips : goal.returns-clause-strips
 returns-clause-strips c =
     let inner = c.args.inner.now in
+    let list = strips_on (c.part.result + c.args.k) c.args.k c.parts.result.now in
     let is : c.add_strips.new.shapes.items ≡ strips_on (part inner 1 + c.args.k) c.args.k inner =
-    c.in_ok-add_strips.ensures
-    ∙ ap₂ (λ (x : List (List ℕ)) (y : List (List ℕ)). x ++ y) c.new-shapes.ensures.items (map_rest (strips_on (c.part.result + c.args.k) c.args.k c.parts.result.now))
+    c.in_ok-add_strips.ensures.shapes
+    ∙ ap₂ (λ (x : List (List ℕ)) (above : List ℕ). x ++ map (λ rest. above ++ rest) list) c.new-shapes.ensures.items c.in_ok-above.ensures.items
+    ∙ map_rest list
     ∙ ap₂ (λ (n : ℕ) (l : List ℕ). strips_on (n + c.args.k) c.args.k l) c.part.ensures.value c.parts.ensures.value in
     subst (AreHorizontalStrips inner c.args.k) (sym is) (horizontal_strips inner c.args.k c.parts.ensures.limits.partition)

@@ -1,6 +1,7 @@
-use Rattle.std.proofs.Common.{◌≡◌, ◌+◌, ◌++◌, ◌∷◌, List, ℕ, subst, sym, ap₂, ◌∙◌}
+use Rattle.std.proofs.Common.{◌≡◌, ◌+◌, ◌++◌, ◌∷◌, List, ℕ, map, subst, sym, ap₂, ◌∙◌}
 use Rattle.sym_model.specs.Partition.{part, Falls}
 use Rattle.sym_model.specs.Sum.{Among}
+use Rattle.partitions.specs.Limits.{IsWithinLimits}
 use Rattle.skew_shapes.proofs.StripLists.{map_rest}
 use Rattle.skew_shapes.specs.VerticalStrips.{vertical_on, AreVerticalStrips}
 use Rattle.skew_shapes.proofs.ShapeLists.{widened_limits, first_falls, vertical_strips}
@@ -13,15 +14,18 @@ add_strips-requires-clause-falls c =
 
 pub add_strips-requires-clause-limits : goal.add_strips-requires-clause-limits
 add_strips-requires-clause-limits c rest m =
-    widened_limits c.args.inner.now c.args.k c.parts.ensures.limits.partition c.requires.cells c.requires.rows rest
+    subst (λ (above : List ℕ). IsWithinLimits (above ++ rest)) (sym c.in_ok-above.ensures.items)
+    (widened_limits c.args.inner.now c.args.k c.parts.ensures.limits.partition c.requires.cells c.requires.rows rest
     (subst (λ n. Among rest (vertical_on (n + 1) c.args.k c.args.inner.now)) c.part.ensures.value
-    (subst (λ l. Among rest (vertical_on (c.part.result + 1) c.args.k l)) c.parts.ensures.value m))
+    (subst (λ l. Among rest (vertical_on (c.part.result + 1) c.args.k l)) c.parts.ensures.value m)))
 
 pub returns-clause-strips : goal.returns-clause-strips
 returns-clause-strips c =
     let inner = c.args.inner.now in
+    let list = vertical_on (c.part.result + 1) c.args.k c.parts.result.now in
     let is : c.add_strips.new.shapes.items ≡ vertical_on (part inner 1 + 1) c.args.k inner =
-    c.in_ok-add_strips.ensures
-    ∙ ap₂ (λ (x : List (List ℕ)) (y : List (List ℕ)). x ++ y) c.new-shapes.ensures.items (map_rest (vertical_on (c.part.result + 1) c.args.k c.parts.result.now))
+    c.in_ok-add_strips.ensures.shapes
+    ∙ ap₂ (λ (x : List (List ℕ)) (above : List ℕ). x ++ map (λ rest. above ++ rest) list) c.new-shapes.ensures.items c.in_ok-above.ensures.items
+    ∙ map_rest list
     ∙ ap₂ (λ (n : ℕ) (l : List ℕ). vertical_on (n + 1) c.args.k l) c.part.ensures.value c.parts.ensures.value in
     subst (AreVerticalStrips inner c.args.k) (sym is) (vertical_strips inner c.args.k c.parts.ensures.limits.partition)
