@@ -38,17 +38,10 @@ impl VerticalStrips {
         ensures strips { IfOk result (λ l. AreVerticalStrips inner.now k (⟦<VerticalStrips as Lister>⟧.rest l)) }
         ensures item { IfOk result (λ l. ⟦<VerticalStrips as Lister>⟧.item l ≡ None) }
     {
-        let mut shapes = Vec::new(alloc);
-        let mut above = Vec::with_capacity(alloc, usize::from(inner.rows() + k))?;
-        add_strips(
-            alloc,
-            inner.part(1) + 1,
-            k,
-            inner.parts(),
-            &mut above,
-            &mut shapes,
-        )?;
-        Ok(VerticalStrips { shapes, listed: 0 })
+        Ok(VerticalStrips {
+            shapes: with_vertical_strip(alloc, inner, k)?,
+            listed: 0,
+        })
     }
 }
 
@@ -69,6 +62,30 @@ impl Lister for VerticalStrips {
     fn current(&self) -> &[u16] {
         self.shapes[self.listed - 1].parts()
     }
+}
+
+/// The partitions ν for which ν/inner is a vertical strip of k cells, in falling lexicographic order, each once. The cells of
+/// `inner` and k together are at most 4,096, and its rows and k at most 512. For k = 0 there is `inner` alone.
+pub fn with_vertical_strip(
+    alloc: Global,
+    inner: &Partition,
+    k: u16,
+) -> Result<Vec<Partition>, NoMemory>
+    requires cells { size inner.now + k ≤ 4096 }
+    requires rows { rows inner.now + k ≤ 512 }
+    ensures { IfOk result (λ shapes. AreVerticalStrips inner.now k shapes.items) }
+{
+    let mut shapes = Vec::new(alloc);
+    let mut above = Vec::with_capacity(alloc, usize::from(inner.rows() + k))?;
+    add_strips(
+        alloc,
+        inner.part(1) + 1,
+        k,
+        inner.parts(),
+        &mut above,
+        &mut shapes,
+    )?;
+    Ok(shapes)
 }
 
 /// Adds the shapes that begin with the rows of `above`, which stay as they are, and go on with what a strip of `left` cells makes

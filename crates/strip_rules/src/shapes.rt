@@ -16,29 +16,28 @@ ghost use Rattle.strip_rules.specs.Adding.{IsDenominator, AreSmall, AddsShapes, 
 use calc_base::{Lister, SumFault};
 use coeff_rings::Ring;
 use partitions::Partition;
-use skew_shapes::{HooksAdded, HorizontalStrips, VerticalStrips};
+use skew_shapes::{HooksAdded, with_horizontal_strip, with_vertical_strip};
 use sparse_polys::Lin;
 use std::alloc::Global;
 
-/// Adds a coefficient at each of the shapes that are still to come.
-fn add_each<R: Ring, L: Lister>(
-    alloc: Global,
+/// Adds a coefficient at each of the shapes.
+fn add_each<R: Ring>(
     sum: &mut Lin<Partition, R>,
-    shapes: &mut L,
+    shapes: Vec<Partition>,
     c: R,
 ) -> Result<(), SumFault>
-    requires limits { (ν : List ℕ) → Among ν (L.rest shapes.old) → IsWithinLimits ν }
-    requires once { Once (L.rest shapes.old) }
+    requires partitions { (ν : List ℕ) → Among ν shapes.items → IsPartition ν }
+    requires once { Once shapes.items }
     ensures ok { OnOk result ((q : ℕ) → IsDenominator q (R.value c) → AreCleared q sum.old
-        → AddsShapes q sum.old (scaled q (R.value c)) (λ ν. pos 1) (L.rest shapes.old) sum.new) }
-    ensures labels { OnOk result ((cells lengths : ℕ) → AreSmall cells lengths (L.rest shapes.old)
+        → AddsShapes q sum.old (scaled q (R.value c)) (λ ν. pos 1) shapes.items sum.new) }
+    ensures labels { OnOk result ((cells lengths : ℕ) → AreSmall cells lengths shapes.items
         → AreWithin cells lengths sum.old → AreWithin cells lengths sum.new) }
     ensures large { IsErrOf result SumFault.Large → (q : ℕ) → IsDenominator q (R.value c) → q < 2 ^ 127
         → AreCleared q sum.old → Overflows q sum.old (magnitude q (R.value c)) }
 {
     is_lowest(c);
-    while shapes.advance() {
-        sum.add_term(Partition::from_valid_parts(alloc, shapes.current())?, c)?;
+    for shape in shapes {
+        sum.add_term(shape, c)?;
     }
     Ok(())
 }
@@ -105,8 +104,7 @@ pub(crate) fn add_horizontal<R: Ring>(
     ensures { IsAdded (complete_of k) k label.now (R.value c) sum.old sum.new result }
 {
     is_partition(label);
-    let mut strips = HorizontalStrips::new(alloc, label, k)?;
-    add_each(alloc, sum, &mut strips, c)
+    add_each(sum, with_horizontal_strip(alloc, label, k)?, c)
 }
 
 /// Adds the product of a term and e_k.
@@ -122,8 +120,7 @@ pub(crate) fn add_vertical<R: Ring>(
     ensures { IsAdded (elementary_of k) k label.now (R.value c) sum.old sum.new result }
 {
     is_partition(label);
-    let mut strips = VerticalStrips::new(alloc, label, k)?;
-    add_each(alloc, sum, &mut strips, c)
+    add_each(sum, with_vertical_strip(alloc, label, k)?, c)
 }
 
 /// Adds the product of a term and p_k, for k at least 1.

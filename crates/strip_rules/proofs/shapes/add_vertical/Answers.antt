@@ -2,24 +2,23 @@ use Rattle.std.proofs.Common.{pos}
 use Rattle.sym_model.specs.Bases.{elementary_of}
 use Rattle.sparse_polys.proofs.ClearedSums.{on_ok}
 use Rattle.product_laws.proofs.StripCounts.{vertical_count}
-use Rattle.strip_rules.proofs.ShapeLists.{vertical_list, vertical_around, shape_limits, shapes_small}
+use Rattle.strip_rules.proofs.ShapeLists.{vertical_list, vertical_around, shapes_small}
 use Rattle.strip_rules.proofs.TermProducts.{columns_value, AddsProduct-from}
 use Rattle.strip_rules.proofs.shapes.add_vertical.Goals as goal
 
-pub add_each-requires-clause-limits : goal.add_each-requires-clause-limits
-add_each-requires-clause-limits g c ν m =
-    let label = c.args.label.now in
-    let each = vertical_list c.args.k label _ c.in_ok-strips.ensures.strips in
-    shape_limits c.args.k label ν c.is_partition.ensures c.requires.cells c.requires.rows (vertical_around c.args.k label _ each ν m)
+pub add_each-requires-clause-partitions : goal.add_each-requires-clause-partitions
+add_each-requires-clause-partitions g c ν m =
+    let each = vertical_list c.args.k c.args.label.now _ c.in_ok-with_vertical_strip.ensures in
+    (vertical_around c.args.k c.args.label.now _ each ν m).partition
 
 pub add_each-requires-clause-once : goal.add_each-requires-clause-once
-add_each-requires-clause-once g c = (vertical_list c.args.k c.args.label.now _ c.in_ok-strips.ensures.strips).once
+add_each-requires-clause-once g c = (vertical_list c.args.k c.args.label.now _ c.in_ok-with_vertical_strip.ensures).once
 
 pub returns : goal.returns
 returns g c =
     let k = c.args.k in
     let label = c.args.label.now in
-    let each = vertical_list k label _ c.in_ok-strips.ensures.strips in
+    let each = vertical_list k label _ c.in_ok-with_vertical_strip.ensures in
     record {
       ok =
           on_ok c.add_each.result c.add_each.ensures.ok

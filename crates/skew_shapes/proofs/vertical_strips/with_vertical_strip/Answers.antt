@@ -5,7 +5,7 @@ use Rattle.partitions.specs.Limits.{IsWithinLimits}
 use Rattle.skew_shapes.proofs.StripLists.{map_rest}
 use Rattle.skew_shapes.specs.VerticalStrips.{vertical_on, AreVerticalStrips}
 use Rattle.skew_shapes.proofs.ShapeLists.{widened_limits, first_falls, vertical_strips}
-use Rattle.skew_shapes.proofs.vertical_strips.VerticalStrips.new.Goals as goal
+use Rattle.skew_shapes.proofs.vertical_strips.with_vertical_strip.Goals as goal
 
 pub add_strips-requires-clause-falls : goal.add_strips-requires-clause-falls
 add_strips-requires-clause-falls c =
@@ -19,8 +19,8 @@ add_strips-requires-clause-limits c rest m =
     (subst (λ n. Among rest (vertical_on (n + 1) c.args.k c.args.inner.now)) c.part.ensures.value
     (subst (λ l. Among rest (vertical_on (c.part.result + 1) c.args.k l)) c.parts.ensures.value m)))
 
-pub returns-clause-strips : goal.returns-clause-strips
-returns-clause-strips c =
+pub returns : goal.returns
+returns c =
     let inner = c.args.inner.now in
     let list = vertical_on (c.part.result + 1) c.args.k c.parts.result.now in
     let is : c.add_strips.new.shapes.items ≡ vertical_on (part inner 1 + 1) c.args.k inner =

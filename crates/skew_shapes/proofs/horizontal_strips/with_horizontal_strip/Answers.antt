@@ -4,7 +4,7 @@ use Rattle.sym_model.specs.Sum.{Among}
 use Rattle.partitions.specs.Limits.{IsWithinLimits}
 use Rattle.skew_shapes.specs.HorizontalStrips.{strips_on, AreHorizontalStrips}
 use Rattle.skew_shapes.proofs.StripLists.{grown_limits, most_falls, horizontal_strips, map_rest}
-use Rattle.skew_shapes.proofs.horizontal_strips.HorizontalStrips.new.Goals as goal
+use Rattle.skew_shapes.proofs.horizontal_strips.with_horizontal_strip.Goals as goal
 
 pub add_strips-requires-clause-falls : goal.add_strips-requires-clause-falls
 add_strips-requires-clause-falls c =
@@ -18,8 +18,8 @@ add_strips-requires-clause-limits c rest m =
     (subst (λ n. Among rest (strips_on (n + c.args.k) c.args.k c.args.inner.now)) c.part.ensures.value
     (subst (λ l. Among rest (strips_on (c.part.result + c.args.k) c.args.k l)) c.parts.ensures.value m)))
 
-pub returns-clause-strips : goal.returns-clause-strips
-returns-clause-strips c =
+pub returns : goal.returns
+returns c =
     let inner = c.args.inner.now in
     let list = strips_on (c.part.result + c.args.k) c.args.k c.parts.result.now in
     let is : c.add_strips.new.shapes.items ≡ strips_on (part inner 1 + c.args.k) c.args.k inner =
