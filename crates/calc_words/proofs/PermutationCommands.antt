@@ -4,20 +4,15 @@ use Rattle.std.specs.Prelude.{codes}
 use Rattle.sym_model.specs.Sum.{each, Among}
 use Rattle.sym_model.specs.Form.{EachOf, Has}
 use Rattle.sym_model.specs.Command.{Command}
-use Rattle.sym_model.specs.CommandOffence.{Offence, first_offence, offences_by, rows_rule, permutation_offences, permutation_offences_within, permutation_rule_within, most_permuted}
-use Rattle.sym_model.specs.Grammar.{stanley_entry}
+use Rattle.sym_model.specs.CommandOffence.{Offence, first_offence, permutation_offences, permutation_offences_within, permutation_rule_within, most_permuted}
 use Rattle.sym_model.specs.Permutation.{kept}
-use Rattle.sym_model.specs.PrintedBlock.{decimal_value}
 use Rattle.sym_model.specs.WordForms.{numbers}
 use Rattle.word_laws.specs.Words.{Words}
-use Rattle.word_laws.proofs.Classes.{number_sound}
 use Rattle.calc_base.specs.declared.words.WordsFault.{WordsFault}
 use Rattle.calc_words.specs.NumberRuns.{IsNumber}
 use Rattle.calc_words.specs.PermutationWords.{one_permutation, permutation_entry, two_permutations, pair_entry}
-use Rattle.calc_words.specs.Reading.{IsRead, IsPartRead, IsJudged, IsFirst}
-use Rattle.calc_commands.specs.declared.command.Command.{Command as Read}
-use Rattle.calc_commands.specs.declared.command.Command.TheVariants.{Stanley}
-use Rattle.calc_words.proofs.Commands.{may_be, singles, read_judged, part_judged, judged_err, judged_later}
+use Rattle.calc_words.specs.Reading.{IsPartRead, IsJudged, IsFirst}
+use Rattle.calc_words.proofs.Commands.{may_be, singles, part_judged, judged_err, judged_later}
 use Rattle.calc_words.proofs.FirstOffences.{within, AllBefore, none-append}
 
 -- the words of a command on one permutation
@@ -61,26 +56,9 @@ pair_read name most says words (t ∷ ns) (u ∷ ms) r e s q n m h =
     })
     (λ (p : List ℕ × List ℕ). says p.0 p.1) (kept (numbers (t ∷ ns)), kept (numbers (u ∷ ms))) refl r h
 
--- the words of `stanley`
-pub stanley_read : (words ns : Words) (digits : List ℕ) (r : Result Read WordsFault) → words ≡ codes "stanley" ∷ codes "-r" ∷ digits ∷ ns → IsNumber digits
-    → 0 < length ns → EachOf IsNumber ns
-    → IsJudged (λ c. c ≡ Stanley (decimal_value digits) (kept (numbers ns)))
-    (first_offence (offences_by rows_rule 2 (decimal_value digits ∷ []) ++ permutation_offences 3 (numbers ns))) r
-    → IsRead (stanley_entry ∷ []) words r
-stanley_read words [] digits r e d s n h = absurd (omega (arith, s))
-stanley_read words (t ∷ ns) digits r e d s n h =
-    let m = may_be (t ∷ ns) n in
-    read_judged stanley_entry words
-    (record {
-      written = (tt, ((tt, digits), (t, ns)));
-      allowed = (tt, ((tt, number_sound digits d), (m.0, m.1)));
-      spelled = e ∙ ap (λ ws. codes "stanley" ∷ codes "-r" ∷ digits ∷ t ∷ ws) (sym (singles ns));
-    })
-    (Stanley (decimal_value digits) (kept (numbers (t ∷ ns)))) refl tt r h
-
--- letters behind a number of variables
-pub letters_from : (ns : List ℕ) (p : Offence) → Among p (permutation_offences 3 ns) → 3 ≤ p.0
-letters_from ns p m = (within (permutation_rule_within most_permuted (length ns)) [] 3 ns p m).0
+-- letters offend no earlier than they begin
+pub letters_from : (k : ℕ) (ns : List ℕ) (p : Offence) → Among p (permutation_offences k ns) → k ≤ p.0
+letters_from k ns p m = (within (permutation_rule_within most_permuted (length ns)) [] k ns p m).0
 
 -- the first of two permutations offends
 left_before : (most : ℕ) (left right : Words) → AllBefore (permutation_offences_within most 1 (numbers left)) (permutation_offences_within most (2 + length (numbers left)) (numbers right))

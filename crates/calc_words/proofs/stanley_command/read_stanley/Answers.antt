@@ -1,16 +1,27 @@
-use Rattle.std.proofs.Common.{◌≡◌, ◌-◌, ◌<◌, length, map, refl, sym, ap, ◌∙◌, subst, arith, ◌∷◌}
+-- Words of `stanley`, as far as they have been read.
+use Rattle.std.proofs.Common.{◌≡◌, ℕ, ◌-◌, ◌<◌, List, [], ◌∷◌, ◌++◌, length, map, refl, sym, ap, ◌∙◌, subst, arith, Result, Ok, Err}
 use Rattle.std.specs.Prelude.{string_bytes, codes}
 use Rattle.std.proofs.lemmas.List.{length-map}
+use Rattle.std.proofs.lemmas.Result.{err_from_is_err_and}
+use Rattle.calc_base.specs.declared.words.WordsFault.{WordsFault}
+use Rattle.calc_commands.specs.declared.command.Command.{Command}
+use Rattle.calc_commands.specs.declared.command.Command.TheVariants.{Stanley}
+use Rattle.sym_model.specs.CommandOffence.{first_offence, offences_by, rows_rule, permutation_offences}
 use Rattle.sym_model.specs.Form.{Form, sequence, word, number, EachOf}
 use Rattle.sym_model.specs.Grammar.{stanley_words, stanley_entry}
+use Rattle.sym_model.specs.Permutation.{kept}
 use Rattle.sym_model.specs.PrintedBlock.{decimal_value}
-use Rattle.sym_model.specs.WordForms.{rows_words, permutation_words}
+use Rattle.sym_model.specs.WordForms.{rows_words, permutation_words, numbers}
+use Rattle.word_laws.specs.Words.{Words}
+use Rattle.word_laws.proofs.Classes.{number_sound}
 use Rattle.calc_words.specs.NumberRuns.{IsNumber, narrow}
+use Rattle.calc_words.specs.Reading.{IsRead, IsJudged}
 use Rattle.calc_words.specs.Standing.{WrongAt}
 use Rattle.calc_words.proofs.Standing.{wrong_the, behind_the, wrong_number, behind_number}
 use Rattle.calc_words.proofs.RowsStanding.{wrong_rows, behind_rows, one_word, two_words}
-use Rattle.calc_words.proofs.Commands.{syntax_read}
-use Rattle.calc_words.proofs.PermutationCommands.{stanley_read}
+use Rattle.calc_words.proofs.Commands.{syntax_read, may_be, singles, read_judged, number_faulty, judged_later}
+use Rattle.calc_words.proofs.FirstOffences.{none-append}
+use Rattle.calc_words.proofs.PermutationCommands.{letters_from}
 use Rattle.calc_words.proofs.stanley_command.read_stanley.Goals as goal
 
 abbrev rows_more : Form
@@ -60,16 +71,58 @@ returns-in-Err c =
     (behind_number digits permutation_words letters left number_is.1 c.in-Err.ensures.wrong))))))
     (ap (λ n. n - left) (sym (length-map c.args.words.now string_bytes))) c.syntax-in-Err.ensures
 
-pub returns-in-Ok : goal.returns-in-Ok
-returns-in-Ok c =
+-- letters behind a number of variables, which have been judged
+stanley_read : {A : Type 0} (text : A → List ℕ) (words rest more : Words) (digits : List ℕ) (left letters : List A) (r : Result Command WordsFault)
+    → words ≡ codes "stanley" ∷ rest → rest ≡ codes "-r" ∷ more → (more ≡ digits ∷ map text left) × IsNumber digits
+    → (letters ≡ left) × (0 < length left) × EachOf IsNumber (map text left)
+    → IsJudged (λ c. c ≡ Stanley (decimal_value digits) (kept (numbers (map text letters))))
+    (first_offence (offences_by rows_rule 2 (decimal_value digits ∷ []) ++ permutation_offences 3 (numbers (map text letters)))) r
+    → IsRead (stanley_entry ∷ []) words r
+stanley_read text words rest more digits [] letters r e d m n h = absurd (omega (arith, n.1))
+stanley_read text words rest more digits (t ∷ ts) letters r e d m n h =
+    let others = map text ts in
+    let may = may_be (text t ∷ others) n.2 in
+    read_judged stanley_entry words
+    (record {
+      written = (tt, ((tt, digits), (text t, others)));
+      allowed = (tt, ((tt, number_sound digits m.1), (may.0, may.1)));
+      spelled = e ∙ ap (λ ws. codes "stanley" ∷ ws) (d ∙ ap (λ ws. codes "-r" ∷ ws) (m.0 ∙ ap (λ ws. digits ∷ text t ∷ ws) (sym (singles others))));
+    })
+    (Stanley (decimal_value digits) (kept (numbers (text t ∷ others)))) refl tt r
+    (subst (λ ls. IsJudged (λ c. c ≡ Stanley (decimal_value digits) (kept (numbers (map text ls)))) (first_offence (offences_by rows_rule 2 (decimal_value digits ∷ []) ++ permutation_offences 3 (numbers (map text ls)))) r) n.0 h)
+
+pub returns-in_err-rows-in-Ok : goal.returns-in_err-rows-in-Ok
+returns-in_err-rows-in-Ok c =
     let digits = string_bytes c.in-Some-first_number.rows.now in
-    let letters = map string_bytes c.in-Ok.letters.now in
-    let number_is = c.in-Some-first_number.ensures in
-    let same : letters ≡ map string_bytes c.in-Some-first_number.rest.now = ap (map string_bytes) c.in-Ok.ensures.ok.0 in
-    let some : 0 < length letters = let k = length-map c.in-Ok.letters.now string_bytes in let e = ap length c.in-Ok.ensures.ok.0 in omega (arith, k, e, c.in-Ok.ensures.ok.1) in
-    stanley_read (map string_bytes c.args.words.now) letters digits c.read_limited.result
-    (c.in-Some.ensures
-    ∙ ap (λ ws. codes "stanley" ∷ ws)
-    (c.in-Some-behind.ensures ∙ ap (λ ws. codes "-r" ∷ ws) (number_is.0 ∙ ap (λ ws. digits ∷ ws) (sym same))))
-    number_is.1 some (subst (EachOf IsNumber) (sym same) c.in-Ok.ensures.ok.2)
-    (c.read_limited.ensures (decimal_value digits) (c.value_of.ensures ∙ ap (λ w. narrow (decimal_value w)) c.as_bytes.ensures.value))
+    let letters = numbers (map string_bytes c.in-Ok.letters.now) in
+    let value = c.value_of.ensures ∙ ap (λ w. narrow (decimal_value w)) c.as_bytes.ensures.value in
+    let p = err_from_is_err_and c.from_residual.result c.from_residual.ensures.1 in
+    rw (p.1, p.2)
+    (stanley_read string_bytes (map string_bytes c.args.words.now) (map string_bytes c.in-Some.rest.now) (map string_bytes c.in-Some-behind.rest.now)
+    digits c.in-Some-first_number.rest.now c.in-Ok.letters.now (Err c.in_err-rows-in-Ok.field-0.0)
+    c.in-Some.ensures c.in-Some-behind.ensures c.in-Some-first_number.ensures c.in-Ok.ensures.ok
+    (number_faulty rows_rule 2 (decimal_value digits) (permutation_offences 3 letters) _ (letters_from 3 letters) (c.in_err-rows-in-Ok.ensures (decimal_value digits) value)))
+
+pub returns-in_err-perm-in-Ok : goal.returns-in_err-perm-in-Ok
+returns-in_err-perm-in-Ok c =
+    let digits = string_bytes c.in-Some-first_number.rows.now in
+    let letters = numbers (map string_bytes c.in-Ok.letters.now) in
+    let value = c.value_of.ensures ∙ ap (λ w. narrow (decimal_value w)) c.as_bytes.ensures.value in
+    let p = err_from_is_err_and c.from_residual-in_err-perm-in-Ok.result c.from_residual-in_err-perm-in-Ok.ensures.1 in
+    rw (p.1, p.2)
+    (stanley_read string_bytes (map string_bytes c.args.words.now) (map string_bytes c.in-Some.rest.now) (map string_bytes c.in-Some-behind.rest.now)
+    digits c.in-Some-first_number.rest.now c.in-Ok.letters.now (Err c.in_err-perm-in-Ok.field-0.0)
+    c.in-Some.ensures c.in-Some-behind.ensures c.in-Some-first_number.ensures c.in-Ok.ensures.ok
+    (judged_later (offences_by rows_rule 2 (decimal_value digits ∷ [])) (permutation_offences 3 letters) _ (c.in_ok-rows-in-Ok.ensures (decimal_value digits) value).1 c.in_err-perm-in-Ok.ensures))
+
+pub returns-in_ok-perm-in-Ok : goal.returns-in_ok-perm-in-Ok
+returns-in_ok-perm-in-Ok c =
+    let digits = string_bytes c.in-Some-first_number.rows.now in
+    let letters = numbers (map string_bytes c.in-Ok.letters.now) in
+    let rows = c.in_ok-rows-in-Ok.ensures (decimal_value digits) (c.value_of.ensures ∙ ap (λ w. narrow (decimal_value w)) c.as_bytes.ensures.value) in
+    stanley_read string_bytes (map string_bytes c.args.words.now) (map string_bytes c.in-Some.rest.now) (map string_bytes c.in-Some-behind.rest.now)
+    digits c.in-Some-first_number.rest.now c.in-Ok.letters.now (Ok (Stanley c.in_ok-rows-in-Ok.rows c.in_ok-perm-in-Ok.perm))
+    c.in-Some.ensures c.in-Some-behind.ensures c.in-Some-first_number.ensures c.in-Ok.ensures.ok (
+      ap (λ n. Stanley n c.in_ok-perm-in-Ok.perm) rows.0 ∙ ap (Stanley (decimal_value digits)) c.in_ok-perm-in-Ok.ensures.0,
+      none-append (offences_by rows_rule 2 (decimal_value digits ∷ [])) (permutation_offences 3 letters) rows.1 ∙ c.in_ok-perm-in-Ok.ensures.1,
+    )
