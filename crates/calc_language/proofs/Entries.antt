@@ -12,6 +12,7 @@ use Rattle.sym_model.proofs.Exponents.{same_true, same_from, same_apart}
 use Rattle.sym_model.proofs.Sums.{Among_from_append, Among-append_left}
 use Rattle.word_laws.specs.Words.{Words}
 use Rattle.word_laws.specs.Reading.{forms_of}
+use Rattle.word_laws.proofs.ComputedExamples.{can_be_all}
 use Rattle.word_laws.proofs.LongestPrefixes.{CanBe}
 use Rattle.calc_base.specs.declared.words.WordsFault.{WordsFault}
 use Rattle.calc_base.specs.declared.words.WordsFault.TheVariants.{Syntax}
@@ -90,8 +91,8 @@ named_among all entries t w words rest r is here there h = by (entry_named w all
 
 pub commands_told : AreTold command_entries
 commands_told = record {
-  led = (inl refl, (inl refl, (inl refl, (inl refl, (inl refl, (inl refl, (inl refl, (inl refl, (inl refl, (inl refl, (inl refl, (inl refl, (inl refl, (inl refl, (inl refl, (inl refl, (inl refl, (inr refl, (inl refl, tt)))))))))))))))))));
-  can = (refl, (refl, (refl, (refl, (refl, (refl, (refl, (refl, (refl, (refl, (refl, (refl, (refl, (refl, (refl, (refl, (refl, (refl, (refl, tt)))))))))))))))))));
+  led = search (inl, inr) parts 64;
+  can = can_be_all;
   some = omega arith;
   apart = refl;
 }

@@ -13,15 +13,11 @@ use crate::refusal::syntax;
 use calc_base::WordsFault;
 use std::alloc::Global;
 
-/// Reads the words of a command.
+/// Reads the words of a command: its name, and behind it what the entry of that name asks for (`sym_model/specs/Grammar.antt`).
 ///
-/// The commands are `mult`, `skew`, `coef`, `coprod`, `tab`, `quantum` and `fusion` with their partitions, `schubert` and
-/// `schubmult` with their permutations, `expand` with the letter `m`, `e`, `h`, `p` or `s` of a target and an expression, `rsk`
-/// with its letters, `unrsk` with two tableaux, `rect` with two partitions and a tableau, `growth` with a permutation, `plethysm`
-/// with the letter of a target and two expressions, `dschubmult` with two permutations, `stanley` with a number of variables and
-/// a permutation, `batch`, and `work` with its two numbers. Words that are no command are refused as `Syntax`, at the word where they go wrong, and in the word of an
-/// expression at the byte after its longest prefix that begins one. Otherwise the first offence is refused, as
-/// `calc_words::read_mult` and its like and `calc_expressions::{read_expression, read_outer, read_inner}` say; two expressions of a
+/// Words that are no command are refused as `Syntax`, at the word where they go wrong, and in the word of an expression at the
+/// byte after its longest prefix that begins one. Otherwise the first offence is refused, as the readers of the commands say,
+/// `calc_words::read_mult` and its like, and `calc_expressions::{read_expression, read_outer, read_inner}`; two expressions of a
 /// `plethysm` whose degrees have a product past 10 are refused as `Range` at the end of the second.
 pub fn read_words(alloc: Global, words: &[String]) -> Result<Command, WordsFault>
     ensures read { IsRead (map string_bytes words.now) result }
