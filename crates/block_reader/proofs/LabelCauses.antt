@@ -1,6 +1,6 @@
 -- Why a list of numbers is no label.
-use Rattle.std.proofs.Common.{◌≡◌, ℕ, zero, suc, ◌+◌, ◌-◌, ◌^◌, ◌≤◌, ◌<◌, length, arith, List, [], ◌∷◌, ◌++◌, append-nil, length-append, ◌&&◌, ◌==◌, Bool, true, false, Option, Some, None, sym, ◌∙◌, ap, subst, take, inl, inr}
-use Rattle.std.specs.Prelude.{Result, Ok, Err, OnOk, is_err, slice_index, MatchOption, not, nat_lt, nat_le}
+use Rattle.std.proofs.Common.{◌≡◌, ℕ, zero, suc, ◌+◌, ◌-◌, ◌^◌, ◌≤◌, ◌<◌, length, arith, List, [], ◌∷◌, ◌++◌, append-nil, length-append, ◌&&◌, ◌==◌, true, false, Option, Some, None, sym, ◌∙◌, ap, subst, take, inl, inr}
+use Rattle.std.specs.Prelude.{slice_index, MatchOption, not, nat_lt, nat_le}
 use Rattle.std.proofs.lemmas.Bool.{and_parts, leb-true, ltb-true, eq-eqb, false_from_ne_true, not-true, or_parts}
 use Rattle.sym_model.specs.Sum.{Among}
 use Rattle.sym_model.specs.Polynomial.{same}
@@ -23,11 +23,6 @@ use Rattle.block_reader.specs.Parts.{AreSmall}
 pub at_none : {A : Type 0} (P : Type 0) (Q : A → Type 0) (o : Option A) → o ≡ None → MatchOption o P Q → P
 at_none P Q None e h = h
 at_none P Q (Some x) e h = cc
-
--- what holds where a call went well
-pub at_ok : {T E : Type 0} (P : Type 0) (r : Result T E) (b : Bool) → b ≡ is_err r → b ≡ false → OnOk r P → P
-at_ok P (Ok x) b is well h = h
-at_ok P (Err e) b is well h = let clash : true ≡ false = sym is ∙ well in cc
 
 -- ---- partitions
 

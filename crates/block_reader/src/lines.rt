@@ -26,10 +26,7 @@ pub(crate) fn read_terms<L: Spelled, R: Coefficient>(
     ensures refused { IsErrOf result ReadBackFault.NotPrinted → (is_ordered L.order (block_terms L.line_rules text.now)
         && all_fit R.has_fractions L.is_label (block_terms L.line_rules text.now)) ≡ false }
 {
-    let pairs = match read_pairs(alloc, text) {
-        Ok(pairs) => pairs,
-        Err(fault) => return Err(fault),
-    };
+    let pairs = read_pairs(alloc, text)?;
     match Terms::from_pairs(pairs) {
         Some(terms) => Ok(terms),
         None => Err(ReadBackFault::NotPrinted),
@@ -49,13 +46,8 @@ fn read_pairs<L: Spelled, R: Coefficient>(
     let mut rest = text;
     loop {
         let (line, tail) = cut(rest, b'\n');
-        let found = match read_line(alloc, line) {
-            Ok(found) => found,
-            Err(fault) => return Err(fault),
-        };
-        if push_found(&mut pairs, found).is_err() {
-            return Err(ReadBackFault::NoMemory);
-        }
+        let found = read_line(alloc, line)?;
+        push_found(&mut pairs, found)?;
         if tail.is_empty() {
             return Ok(pairs);
         }
@@ -97,10 +89,9 @@ fn read_line<L: Spelled, R: Coefficient>(
     let Some(c) = coefficient_with(num, den) else {
         return Err(ReadBackFault::NotPrinted);
     };
-    match L::spelled(alloc, name) {
-        Ok(Some(label)) => Ok(Some((label, c))),
-        Ok(None) => Err(ReadBackFault::NotPrinted),
-        Err(NoMemory) => Err(ReadBackFault::NoMemory),
+    match L::spelled(alloc, name)? {
+        Some(label) => Ok(Some((label, c))),
+        None => Err(ReadBackFault::NotPrinted),
     }
 }
 

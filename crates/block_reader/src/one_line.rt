@@ -29,14 +29,9 @@ pub fn read_one_line(
     ensures not_printed { IsErrOf result ReadBackFault.NotPrinted
         → read_in (as_line (basis_of basis)) (kind_of kind) text.now ≡ None }
 {
-    let block = match as_block(alloc, text) {
-        Ok(block) => block,
-        Err(NoMemory) => return Err(ReadBackFault::NoMemory),
-    };
-    match read_back(alloc, &block, kind) {
-        Ok(answer) => checked(alloc, answer, basis, text),
-        Err(fault) => Err(fault),
-    }
+    let block = as_block(alloc, text)?;
+    let answer = read_back(alloc, &block, kind)?;
+    checked(alloc, answer, basis, text)
 }
 
 /// The answer, where the text is its line.
@@ -52,10 +47,10 @@ fn checked(
     ensures not_printed { IsErrOf result ReadBackFault.NotPrinted
         → answer_text_in (as_line (basis_of basis)) (plain_answer answer) ≢ text.now }
 {
-    match is_line(alloc, &answer, basis, text) {
-        Ok(true) => Ok(answer),
-        Ok(false) => Err(ReadBackFault::NotPrinted),
-        Err(NoMemory) => Err(ReadBackFault::NoMemory),
+    if is_line(alloc, &answer, basis, text)? {
+        Ok(answer)
+    } else {
+        Err(ReadBackFault::NotPrinted)
     }
 }
 

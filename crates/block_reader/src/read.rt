@@ -25,10 +25,8 @@ pub fn read_back(alloc: Global, text: &[u8], kind: Kind) -> Result<Answer, ReadB
     ensures printable { IfOk result (λ answer. IsPrintable (plain_answer answer)) }
     ensures not_printed { IsErrOf result ReadBackFault.NotPrinted → read_by (label_rules (kind_of kind)) text.now ≡ None }
 {
-    match candidate(alloc, text, kind) {
-        Ok(answer) => checked(alloc, answer, text),
-        Err(fault) => Err(fault),
-    }
+    let answer = candidate(alloc, text, kind)?;
+    checked(alloc, answer, text)
 }
 
 /// The answer, where the text is its block.
@@ -38,10 +36,10 @@ fn checked(alloc: Global, answer: Answer, text: &[u8]) -> Result<Answer, ReadBac
     ensures printable { IfOk result (λ same. IsPrintable (plain_answer same)) }
     ensures not_printed { IsErrOf result ReadBackFault.NotPrinted → answer_text (plain_answer answer) ≢ text.now }
 {
-    match is_block(alloc, &answer, text) {
-        Ok(true) => Ok(answer),
-        Ok(false) => Err(ReadBackFault::NotPrinted),
-        Err(NoMemory) => Err(ReadBackFault::NoMemory),
+    if is_block(alloc, &answer, text)? {
+        Ok(answer)
+    } else {
+        Err(ReadBackFault::NotPrinted)
     }
 }
 
@@ -105,68 +103,54 @@ fn read_number(text: &[u8]) -> Result<Answer, ReadBackFault>
 fn read_expansion(alloc: Global, text: &[u8]) -> Result<Answer, ReadBackFault>
     ensures { IsReading expansion text.now result }
 {
-    match read_terms(alloc, text) {
-        Ok(terms) => Ok(Answer::Expansion { terms }),
-        Err(fault) => Err(fault),
-    }
+    let terms = read_terms(alloc, text)?;
+    Ok(Answer::Expansion { terms })
 }
 
 /// Partitions with whole coefficients.
 fn read_product(alloc: Global, text: &[u8]) -> Result<Answer, ReadBackFault>
     ensures { IsReading product text.now result }
 {
-    match read_terms(alloc, text) {
-        Ok(terms) => Ok(Answer::Product { terms }),
-        Err(fault) => Err(fault),
-    }
+    let terms = read_terms(alloc, text)?;
+    Ok(Answer::Product { terms })
 }
 
 /// Pairs of partitions.
 fn read_pairs(alloc: Global, text: &[u8]) -> Result<Answer, ReadBackFault>
     ensures { IsReading pairs text.now result }
 {
-    match read_terms(alloc, text) {
-        Ok(terms) => Ok(Answer::Pairs { terms }),
-        Err(fault) => Err(fault),
-    }
+    let terms = read_terms(alloc, text)?;
+    Ok(Answer::Pairs { terms })
 }
 
 /// Partitions with a power of q.
 fn read_powers(alloc: Global, text: &[u8]) -> Result<Answer, ReadBackFault>
     ensures { IsReading powers text.now result }
 {
-    match read_terms(alloc, text) {
-        Ok(terms) => Ok(Answer::Powers { terms }),
-        Err(fault) => Err(fault),
-    }
+    let terms = read_terms(alloc, text)?;
+    Ok(Answer::Powers { terms })
 }
 
 /// Permutations.
 fn read_permutations(alloc: Global, text: &[u8]) -> Result<Answer, ReadBackFault>
     ensures { IsReading permutations text.now result }
 {
-    match read_terms(alloc, text) {
-        Ok(terms) => Ok(Answer::Permutations { terms }),
-        Err(fault) => Err(fault),
-    }
+    let terms = read_terms(alloc, text)?;
+    Ok(Answer::Permutations { terms })
 }
 
 /// Monomials.
 fn read_polynomial(alloc: Global, text: &[u8]) -> Result<Answer, ReadBackFault>
     ensures { IsReading polynomial text.now result }
 {
-    match read_terms(alloc, text) {
-        Ok(terms) => Ok(Answer::Polynomial { terms }),
-        Err(fault) => Err(fault),
-    }
+    let terms = read_terms(alloc, text)?;
+    Ok(Answer::Polynomial { terms })
 }
 
 /// Permutations with a monomial beside them.
 fn read_shifts(alloc: Global, text: &[u8]) -> Result<Answer, ReadBackFault>
     ensures { IsReading shifts text.now result }
 {
-    match read_terms(alloc, text) {
-        Ok(terms) => Ok(Answer::Shifts { terms }),
-        Err(fault) => Err(fault),
-    }
+    let terms = read_terms(alloc, text)?;
+    Ok(Answer::Shifts { terms })
 }

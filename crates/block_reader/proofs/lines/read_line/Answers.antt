@@ -46,8 +46,8 @@ returns-in_default-coefficient_with-clause-refused g c =
     λ e. ap (all_fit g.R.Coefficient.has_fractions g.L.Label.is_label) told
     ∙ term-unfit g.R.Coefficient.has_fractions g.L.Label.is_label (signed_value num) den (rules.spelled name) other unfit
 
-pub returns-in-Ok-Some-clause-ok : goal.returns-in-Ok-Some-clause-ok
-returns-in-Ok-Some-clause-ok g c =
+pub returns-in-Some-2-clause-ok : goal.returns-in-Some-2-clause-ok
+returns-in-Some-2-clause-ok g c =
     let rules = g.L.Spelled.line_rules in
     let name = c.cut.result.1.now in
     let num = c.cut-2.result.0.now in
@@ -57,12 +57,12 @@ returns-in-Ok-Some-clause-ok g c =
     to_z-of_z (subst (FitsSigned w128) (sym c.in-Some.ensures.1) c.in-Some.ensures.0) ∙ c.in-Some.ensures.1 in
     let made : c.new.result ≡ signed_value num = c.new.ensures ∙ raw in
     let other : signed_value num ≢ pos 0 = (λ e. let clash : true ≡ false = sym (c.is_zero.ensures.zero.1 (ap whole (made ∙ e))) ∙ c.if-is_zero.false in cc) in
-    let spelled = rw c.in-Ok-Some.field-0-is at c.in-Ok-Some.ensures in
+    let spelled = rw c.in-Some-2.is at c.in_ok-label.ensures in
     ap₂ (λ l v. (l, v) ∷ []) spelled (c.in-Some-coefficient_with.ensures ∙ ap (λ (z : ℤ). (z, denominator_after den)) raw)
     ∙ sym (told ∙ term-counts g.R.Coefficient.has_fractions g.L.Label.is_label (signed_value num) den (rules.spelled name) other)
 
-pub returns-in-Ok-None-clause-refused : goal.returns-in-Ok-None-clause-refused
-returns-in-Ok-None-clause-refused g c =
+pub returns-in-None-clause-refused : goal.returns-in-None-clause-refused
+returns-in-None-clause-refused g c =
     let rules = g.L.Spelled.line_rules in
     let name = c.cut.result.1.now in
     let num = c.cut-2.result.0.now in
@@ -72,6 +72,6 @@ returns-in-Ok-None-clause-refused g c =
     to_z-of_z (subst (FitsSigned w128) (sym c.in-Some.ensures.1) c.in-Some.ensures.0) ∙ c.in-Some.ensures.1 in
     let made : c.new.result ≡ signed_value num = c.new.ensures ∙ raw in
     let other : signed_value num ≢ pos 0 = (λ e. let clash : true ≡ false = sym (c.is_zero.ensures.zero.1 (ap whole (made ∙ e))) ∙ c.if-is_zero.false in cc) in
-    let unlabelled = rw c.in-Ok-None.field-0-is at c.in-Ok-None.ensures in
+    let unlabelled = rw c.in-None.is at c.in_ok-label.ensures in
     λ e. ap (all_fit g.R.Coefficient.has_fractions g.L.Label.is_label) told
     ∙ term-unlabelled g.R.Coefficient.has_fractions g.L.Label.is_label (signed_value num) den (rules.spelled name) other unlabelled

@@ -4,9 +4,9 @@ use Rattle.sym_model.specs.PrintedBlock.{terms_of as block_terms}
 use Rattle.block_reader.proofs.lines.read_pairs.Given as goal
 
 -- the terms so far, and those of the rest
-abbrev pub invariant-loop-found : goal.invariant-loop-found
-invariant-loop-found g l =
+abbrev pub invariant-loop-pairs : goal.invariant-loop-pairs
+invariant-loop-pairs g l =
     block_terms g.L.Spelled.line_rules l.text ≡ terms_of g.R.Scalar.value l.pairs.items ++ block_terms g.L.Spelled.line_rules l.rest
 
-abbrev pub decreases-loop-found : goal.decreases-loop-found
-decreases-loop-found g l = length l.rest
+abbrev pub decreases-loop-pairs : goal.decreases-loop-pairs
+decreases-loop-pairs g l = length l.rest
