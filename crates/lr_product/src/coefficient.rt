@@ -16,7 +16,7 @@ use crate::columns::ways_by_columns;
 use crate::state::State;
 use crate::step::entry_at;
 use crate::table::{CAP, capped};
-use calc_base::{NoMemory, SumFault};
+use calc_base::SumFault;
 use coeff_rings::Int;
 use indexmap::IndexMap;
 use partitions::Partition;
@@ -83,10 +83,7 @@ fn count_inside(
     }
     let letters = content.rows();
     let parts = content.parts();
-    let table = match ways_by_columns(alloc, &[], outer, inner.parts(), letters, parts) {
-        Ok(table) => table,
-        Err(NoMemory) => return Err(SumFault::NoMemory),
-    };
+    let table = ways_by_columns(alloc, &[], outer, inner.parts(), letters, parts)?;
     let count = count_of(&table, parts);
     if count >= CAP {
         return Err(SumFault::Large);

@@ -14,7 +14,7 @@ use crate::columns::ways_by_columns;
 use crate::state::State;
 use crate::step::entry_at;
 use crate::table::CAP;
-use calc_base::{NoMemory, SumFault};
+use calc_base::SumFault;
 use coeff_rings::Int;
 use indexmap::IndexMap;
 use partitions::Partition;
@@ -40,10 +40,7 @@ pub(crate) fn good_counts(
     ensures fits { OnOk result ((parts : List ℕ) → good_count letters start.now outer.now inner.now parts < 2 ^ 127) }
     ensures large { IsErrOf result SumFault.Large → IsPastSomewhere letters (good_count letters start.now outer.now inner.now) }
 {
-    let table = match ways_by_columns(alloc, start, outer, inner, letters, &[]) {
-        Ok(table) => table,
-        Err(NoMemory) => return Err(SumFault::NoMemory),
-    };
+    let table = ways_by_columns(alloc, start, outer, inner, letters, &[])?;
     terms_of_table(alloc, &table, letters)
 }
 
@@ -53,10 +50,7 @@ pub(crate) fn no_terms(alloc: Global) -> Result<Terms<Partition, Int>, SumFault>
     ensures small { ¬ IsErrOf result SumFault.Large }
 {
     let terms: Lin<Partition, Int> = Lin::new(alloc);
-    match terms.sorted_terms() {
-        Ok(terms) => Ok(terms),
-        Err(NoMemory) => Err(SumFault::NoMemory),
-    }
+    Ok(terms.sorted_terms()?)
 }
 
 /// The numbers of ways to come to each sum, by the partition that the sum is.
@@ -78,14 +72,9 @@ fn terms_of_table(
             continue;
         }
         let sum = &state.numbers()[..usize::from(letters)];
-        if let Err(fault) = add_sum(alloc, &mut terms, sum, ways) {
-            return Err(fault);
-        }
+        add_sum(alloc, &mut terms, sum, ways)?;
     }
-    match terms.sorted_terms() {
-        Ok(terms) => Ok(terms),
-        Err(NoMemory) => Err(SumFault::NoMemory),
-    }
+    Ok(terms.sorted_terms()?)
 }
 
 /// Adds a count to the coefficient of the partition that a sum is.
@@ -105,9 +94,6 @@ fn add_sum(
     if ways >= CAP {
         return Err(SumFault::Large);
     }
-    let label = match Partition::from_valid_numbers(alloc, sum) {
-        Ok(label) => label,
-        Err(NoMemory) => return Err(SumFault::NoMemory),
-    };
+    let label = Partition::from_valid_numbers(alloc, sum)?;
     terms.add_term(label, Int::new(ways as i128))
 }

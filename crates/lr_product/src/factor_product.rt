@@ -16,7 +16,7 @@ ghost use Rattle.lr_product.specs.ProductOfFactors.{AreSmallCounts};
 use crate::counts::no_terms;
 use crate::mult;
 use crate::next_factor::{is_canonical, times_factor};
-use calc_base::{NoMemory, SumFault};
+use calc_base::SumFault;
 use coeff_rings::Int;
 use partitions::{Factors, Partition};
 use sparse_polys::Terms;
@@ -77,21 +77,15 @@ fn product_in(
     ensures large { IsErrOf result SumFault.Large → Reaches variables (2 ^ 127) (classical_product variables factors.now) }
 {
     let len = factors.len();
-    let mut product = match first_two(
+    let mut product = first_two(
         alloc,
         factor_at(factors, 0),
         factor_at(factors, 1),
         variables,
-    ) {
-        Ok(product) => product,
-        Err(fault) => return Err(fault),
-    };
+    )?;
     is_canonical(&product);
     for at in 2..len {
-        let next = match times_factor(alloc, &product, factor_at(factors, at), variables) {
-            Ok(next) => next,
-            Err(fault) => return Err(fault),
-        };
+        let next = times_factor(alloc, &product, factor_at(factors, at), variables)?;
         is_canonical(&next);
         product = next;
     }

@@ -105,10 +105,7 @@ fn add_products(
         (numerators sums.old ++ scale c (classical_product variables (label.now ∷ next.now ∷ []))) }
 {
     let _ = (label.size(), next.size());
-    let terms = match mult(alloc, label, next, Some(variables)) {
-        Ok(terms) => terms,
-        Err(fault) => return Err(fault),
-    };
+    let terms = mult(alloc, label, next, Some(variables))?;
     is_canonical(&terms);
     add_terms(sums, &terms, c)
 }
@@ -149,10 +146,7 @@ pub(crate) fn times_factor(
     ensures small { OnOk result (AreSmallCounts (multiplied variables next.now (numerators product.now))) }
     ensures large { IsErrOf result SumFault.Large → Reaches variables (2 ^ 127) (multiplied variables next.now (numerators product.now)) }
 {
-    let sums = match sums_of_products(alloc, product, next, variables) {
-        Ok(sums) => sums,
-        Err(fault) => return Err(fault),
-    };
+    let sums = sums_of_products(alloc, product, next, variables)?;
     is_whole(&sums);
     Ok(sums.sorted_terms()?)
 }

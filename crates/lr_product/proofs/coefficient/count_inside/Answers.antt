@@ -43,22 +43,22 @@ returns-then-count-ge-CAP-clause-large c =
     λ e.
     let yes : c.contains.result ≡ true = cc in
     let inside = contains-from c.args.outer.now c.args.inner.now (c.contains.ensures.0 yes) in
-    let a = counted_shape c.count_of-count.result c.rows-letters.result c.in-Ok.table.entries c.args.outer.now c.parts-parts.result.now c.parts.result.now c.args.inner.now c.args.content.now c.rows-letters.ensures.value c.parts-parts.ensures.value c.parts.ensures.value
-    c.size.ensures.limits.partition c.size-2.ensures.limits.partition c.size-3.ensures.limits.partition inside c.count_of-count.ensures.agrees c.in-Ok.ensures.ways in
+    let a = counted_shape c.count_of-count.result c.rows-letters.result c.in_ok-table.table.entries c.args.outer.now c.parts-parts.result.now c.parts.result.now c.args.inner.now c.args.content.now c.rows-letters.ensures.value c.parts-parts.ensures.value c.parts.ensures.value
+    c.size.ensures.limits.partition c.size-2.ensures.limits.partition c.size-3.ensures.limits.partition inside c.count_of-count.ensures.agrees c.in_ok-table.ensures.ways in
     a.past c.if-count-ge-CAP.true
 
 pub returns-clause-value : goal.returns-clause-value
 returns-clause-value c =
     let yes : c.contains.result ≡ true = cc in
     let inside = contains-from c.args.outer.now c.args.inner.now (c.contains.ensures.0 yes) in
-    let a = counted_shape c.count_of-count.result c.rows-letters.result c.in-Ok.table.entries c.args.outer.now c.parts-parts.result.now c.parts.result.now c.args.inner.now c.args.content.now c.rows-letters.ensures.value c.parts-parts.ensures.value c.parts.ensures.value
-    c.size.ensures.limits.partition c.size-2.ensures.limits.partition c.size-3.ensures.limits.partition inside c.count_of-count.ensures.agrees c.in-Ok.ensures.ways in
+    let a = counted_shape c.count_of-count.result c.rows-letters.result c.in_ok-table.table.entries c.args.outer.now c.parts-parts.result.now c.parts.result.now c.args.inner.now c.args.content.now c.rows-letters.ensures.value c.parts-parts.ensures.value c.parts.ensures.value
+    c.size.ensures.limits.partition c.size-2.ensures.limits.partition c.size-3.ensures.limits.partition inside c.count_of-count.ensures.agrees c.in_ok-table.ensures.ways in
     c.new-2.ensures ∙ to_z_pos w128 c.count_of-count.result c.if-count-ge-CAP.false ∙ ap pos (a.below c.if-count-ge-CAP.false)
 
 pub returns-clause-fits : goal.returns-clause-fits
 returns-clause-fits c =
     let yes : c.contains.result ≡ true = cc in
     let inside = contains-from c.args.outer.now c.args.inner.now (c.contains.ensures.0 yes) in
-    let a = counted_shape c.count_of-count.result c.rows-letters.result c.in-Ok.table.entries c.args.outer.now c.parts-parts.result.now c.parts.result.now c.args.inner.now c.args.content.now c.rows-letters.ensures.value c.parts-parts.ensures.value c.parts.ensures.value
-    c.size.ensures.limits.partition c.size-2.ensures.limits.partition c.size-3.ensures.limits.partition inside c.count_of-count.ensures.agrees c.in-Ok.ensures.ways in
+    let a = counted_shape c.count_of-count.result c.rows-letters.result c.in_ok-table.table.entries c.args.outer.now c.parts-parts.result.now c.parts.result.now c.args.inner.now c.args.content.now c.rows-letters.ensures.value c.parts-parts.ensures.value c.parts.ensures.value
+    c.size.ensures.limits.partition c.size-2.ensures.limits.partition c.size-3.ensures.limits.partition inside c.count_of-count.ensures.agrees c.in_ok-table.ensures.ways in
     not_past _ _ a c.if-count-ge-CAP.false

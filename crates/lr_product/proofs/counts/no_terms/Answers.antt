@@ -5,6 +5,6 @@ use Rattle.sparse_polys.specs.Combination.{HasSameCoefficients}
 use Rattle.lr_product.proofs.CountedLists.{same_as_none}
 use Rattle.lr_product.proofs.counts.no_terms.Goals as goal
 
-pub returns-in-Ok-clause-none : goal.returns-in-Ok-clause-none
-returns-in-Ok-clause-none c =
-    same_as_none c.in-Ok.terms c.in-Ok.ensures.combination (subst (λ old. HasSameCoefficients (pointwise nat_eq) old c.in-Ok.terms) c.new-terms.ensures c.in-Ok.ensures.same)
+pub returns-clause-none : goal.returns-clause-none
+returns-clause-none c =
+    same_as_none c.in_ok-sorted_terms.field-0 c.in_ok-sorted_terms.ensures.combination (subst (λ old. HasSameCoefficients (pointwise nat_eq) old c.in_ok-sorted_terms.field-0) c.new-terms.ensures c.in_ok-sorted_terms.ensures.same)

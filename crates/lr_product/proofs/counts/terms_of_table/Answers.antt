@@ -1,12 +1,12 @@
 use Rattle.std.proofs.Common.{◌≡◌, ℕ, ◌+◌, ◌^◌, ◌<◌, pos, List, length, take, drop, subst, sym, ap, ap₂, ◌∙◌, arith}
-use Rattle.std.specs.Prelude.{Some, slice_get}
+use Rattle.std.specs.Prelude.{Some, Err, slice_get}
 use Rattle.sym_model.specs.Partition.{without_last_zeros}
 use Rattle.partitions.specs.Limits.{IsWithinLimits}
 use Rattle.coeff_rings.specs.Fractions.{whole}
 use Rattle.lr_product.specs.WeighedSum.{weighed, unreached, comes_to}
 use Rattle.lr_product.proofs.Steps.{IsReached, reached-tells, weighed-none}
 use Rattle.lr_product.proofs.CountedLists.{Finds, counted, counted-zero, counted-long, finds_next, finds_same, small_next, past_next, sum_within, take_past, lists_counts}
-use Rattle.lr_product.proofs.Results.{error_of}
+use Rattle.sparse_polys.proofs.Steps.{error_is}
 use Rattle.lr_product.proofs.counts.terms_of_table.Goals as goal
 
 reached_here : (n : ℕ) (es : List (List ℕ × ℕ)) (i : ℕ) (key : List ℕ) (w : ℕ) → weighed n (unreached n 4096) es ≡ 0 → slice_get es i ≡ Some (key, w) → (w ≡ 0 → ⊥) → IsReached n 4096 (take n key)
@@ -38,14 +38,14 @@ add_sum-requires c =
     let r = reached_here n c.args.table.now.entries c.loop-at.at key c.entry_at-ways.result.1 c.requires.reached c.entry_at-ways.ensures c.if-ways-eq0.false in
     subst (λ (s : List ℕ). IsWithinLimits (without_last_zeros s)) (sym (ap₂ (λ k (l : List ℕ). take k l) c.from.ensures c.numbers.ensures)) (sum_within n (take n key) c.requires.letters r)
 
-pub returns-in-Err-clause-large : goal.returns-in-Err-clause-large
-returns-in-Err-clause-large c = λ e.
+pub returns-in_err-add_sum-clause-large : goal.returns-in_err-add_sum-clause-large
+returns-in_err-add_sum-clause-large c = λ e.
     let n = c.args.letters in
     let es = c.args.table.now.entries in
     let key = c.entry_at-ways.result.0.now in
     let r = reached_here n es c.loop-at.at key c.entry_at-ways.result.1 c.requires.reached c.entry_at-ways.ensures c.if-ways-eq0.false in
     past_next n 4096 es c.loop-at.at key _ c.entry_at-ways.result.1 c.loop-at.terms c.entry_at-ways.ensures (ap₂ (λ k (l : List ℕ). take k l) c.from.ensures c.numbers.ensures) r
-    c.loop-at.invariant.finds (c.in-Err.ensures.large (error_of c.in-Err.fault _ e))
+    c.loop-at.invariant.finds (c.in_err-add_sum.ensures.large (ap Err (error_is _ _ _ c.from_residual.ensures.1 e)))
 
 pub loop-at-preserved : goal.loop-at-preserved
 loop-at-preserved c =
@@ -55,16 +55,16 @@ loop-at-preserved c =
     let is : take c.from.result c.numbers.result.now ≡ take n key = ap₂ (λ k (l : List ℕ). take k l) c.from.ensures c.numbers.ensures in
     record {
       end = c.loop-at.invariant.end;
-      finds = finds_next n es c.loop-at.at key (take c.from.result c.numbers.result.now) c.entry_at-ways.result.1 c.loop-at.terms c.add_sum.new.terms c.entry_at-ways.ensures is c.loop-at.invariant.finds c.in_default.ensures.more;
-      small = small_next n es c.loop-at.at key (take c.from.result c.numbers.result.now) c.entry_at-ways.result.1 c.loop-at.terms c.entry_at-ways.ensures is c.loop-at.invariant.finds c.loop-at.invariant.small c.in_default.ensures.fits;
+      finds = finds_next n es c.loop-at.at key (take c.from.result c.numbers.result.now) c.entry_at-ways.result.1 c.loop-at.terms c.add_sum.new.terms c.entry_at-ways.ensures is c.loop-at.invariant.finds c.in_ok-add_sum.ensures.more;
+      small = small_next n es c.loop-at.at key (take c.from.result c.numbers.result.now) c.entry_at-ways.result.1 c.loop-at.terms c.entry_at-ways.ensures is c.loop-at.invariant.finds c.loop-at.invariant.small c.in_ok-add_sum.ensures.fits;
     }
 
-pub returns-in-Ok-clause-counts : goal.returns-in-Ok-clause-counts
-returns-in-Ok-clause-counts c =
+pub returns-clause-counts : goal.returns-clause-counts
+returns-clause-counts c =
     let n = c.args.letters in
     let es = c.args.table.now.entries in
     let all : take c.loop-at.at es ≡ es = take_past es c.loop-at.at (omega (arith, c.loop-at.invariant.end, c.loop-at-test.false)) in
-    lists_counts n (λ parts. weighed n (comes_to parts) es) c.in-Ok.terms c.in-Ok.ensures.combination
-    (finds_same (λ parts. weighed n (comes_to parts) es) c.loop-at.terms c.in-Ok.terms c.in-Ok.ensures.same
+    lists_counts n (λ parts. weighed n (comes_to parts) es) c.in_ok-sorted_terms.field-0 c.in_ok-sorted_terms.ensures.combination
+    (finds_same (λ parts. weighed n (comes_to parts) es) c.loop-at.terms c.in_ok-sorted_terms.field-0 c.in_ok-sorted_terms.ensures.same
     (subst (λ (l : List (List ℕ × ℕ)). Finds (λ parts. weighed n (comes_to parts) l) c.loop-at.terms) all c.loop-at.invariant.finds))
     (λ parts. counted-long n es parts)
