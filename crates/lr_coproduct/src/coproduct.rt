@@ -22,7 +22,7 @@ ghost use Rattle.lr_coproduct.specs.PairTerms.{pair_sum, pair_coefficient, HaveP
 use crate::exchange::exchanged;
 use crate::inner_shapes::inner_shapes;
 use crate::pairs::{add_list, lies_in_limits};
-use calc_base::{NoMemory, SumFault};
+use calc_base::SumFault;
 use coeff_rings::Int;
 use lr_product::skew;
 use partitions::Partition;
@@ -39,18 +39,13 @@ pub fn coprod(alloc: Global, shape: &Partition) -> Result<Terms<Pair, Int>, SumF
     ensures large { IsErrOf result SumFault.Large → HasPastCoefficient (commands.coprod shape.now) }
     ensures fits { OnOk result (HasPastCoefficient (commands.coprod shape.now) → ⊥) }
 {
-    let inners = match inner_shapes(alloc, shape) {
-        Ok(inners) => inners,
-        Err(NoMemory) => return Err(SumFault::NoMemory),
-    };
+    let inners = inner_shapes(alloc, shape)?;
     // The partitions inside and the terms for each of them come in the printed order, and so do the pairs.
     let mut pairs: Vec<(Pair, Int)> = Vec::new(alloc);
     let mut lists: Vec<Terms<Partition, Int>> = Vec::new(alloc);
     for at in 0..inners.len() {
         let inner = &inners[at];
-        if let Err(fault) = add_inner(alloc, &mut pairs, &mut lists, shape, &inners, inner) {
-            return Err(fault);
-        }
+        add_inner(alloc, &mut pairs, &mut lists, shape, &inners, inner)?;
     }
     Ok(Terms::from_pairs(pairs).unwrap())
 }
@@ -86,14 +81,9 @@ fn add_inner(
     ensures large { IsErrOf result SumFault.Large → HasPastCoefficient (commands.skew None false shape.now inner.now) }
 {
     lies_in_limits(inner);
-    let list = match list_of(alloc, shape, inners, lists, inner) {
-        Ok(list) => list,
-        Err(fault) => return Err(fault),
-    };
-    match add_list(pairs, lists, inner, list) {
-        Ok(()) => Ok(()),
-        Err(NoMemory) => Err(SumFault::NoMemory),
-    }
+    let list = list_of(alloc, shape, inners, lists, inner)?;
+    add_list(pairs, lists, inner, list)?;
+    Ok(())
 }
 
 /// The skew Schur polynomial of the shape by a partition in Schur polynomials: counted where the partition has at least half of
@@ -115,8 +105,5 @@ fn list_of(
     if shape.size() <= 2 * inner.size() {
         return skew(alloc, shape, inner, None);
     }
-    match exchanged(alloc, shape, inners, lists, inner) {
-        Ok(list) => Ok(list),
-        Err(NoMemory) => Err(SumFault::NoMemory),
-    }
+    Ok(exchanged(alloc, shape, inners, lists, inner)?)
 }
