@@ -40,10 +40,7 @@ pub fn fusion(
     ensures steps { IfOk result (λ terms. IsReflectedInSteps rows (rows + level) factors.now (numerators terms)) }
     ensures large { IsErrOf result SumFault.Large → IsHeavy (commands.fusion rows level factors.now) }
 {
-    let sums = match product_in_steps(alloc, factors, rows, rows + level) {
-        Ok(sums) => sums,
-        Err(fault) => return Err(fault),
-    };
+    let sums = product_in_steps(alloc, factors, rows, rows + level)?;
     let _ = sums.len();
     Ok(sums.sorted_terms()?)
 }
@@ -91,9 +88,6 @@ fn times_rest(
     let Some(factor) = factors.get(at) else {
         return Ok(terms);
     };
-    let next = match times_factor(alloc, &terms, factor, k, n) {
-        Ok(next) => next,
-        Err(fault) => return Err(fault),
-    };
+    let next = times_factor(alloc, &terms, factor, k, n)?;
     times_rest(alloc, next, factors, at + 1, k, n)
 }

@@ -67,10 +67,7 @@ pub(crate) fn add_product(
     ensures large { (before : WholeTerms) → Collects (pointwise nat_eq) before sums.old → IsErrOf result SumFault.Large
         → 2 ^ 127 ≤ absolute_total before + nat_abs c * classical_weight k (shape.now ∷ factor.now ∷ []) }
 {
-    let classical = match mult(alloc, shape, factor, Some(k)) {
-        Ok(classical) => classical,
-        Err(fault) => return Err(fault),
-    };
+    let classical = mult(alloc, shape, factor, Some(k))?;
     add_reflections(alloc, &classical, c, k, n, sums)
 }
 

@@ -43,10 +43,7 @@ pub fn quantum(
     ensures steps { IfOk result (λ terms. IsReducedInSteps rows (rows + cols) factors.now (numerators terms)) }
     ensures large { IsErrOf result SumFault.Large → IsHeavy (commands.quantum rows cols factors.now) }
 {
-    let sums = match product_in_steps(alloc, factors, rows, rows + cols) {
-        Ok(sums) => sums,
-        Err(fault) => return Err(fault),
-    };
+    let sums = product_in_steps(alloc, factors, rows, rows + cols)?;
     let _ = sums.len();
     Ok(sums.sorted_terms()?)
 }
@@ -94,9 +91,6 @@ fn times_rest(
     let Some(factor) = factors.get(at) else {
         return Ok(terms);
     };
-    let next = match times_factor(alloc, &terms, factor, k, n) {
-        Ok(next) => next,
-        Err(fault) => return Err(fault),
-    };
+    let next = times_factor(alloc, &terms, factor, k, n)?;
     times_rest(alloc, next, factors, at + 1, k, n)
 }

@@ -75,10 +75,7 @@ pub(crate) fn add_product(
     ensures large { (before : PowerTerms) → Collects same_power_label before sums.old → IsErrOf result SumFault.Large
         → 2 ^ 127 ≤ absolute_total before + nat_abs c * classical_weight k (shape.now ∷ factor.now ∷ []) }
 {
-    let classical = match mult(alloc, shape, factor, Some(k)) {
-        Ok(classical) => classical,
-        Err(fault) => return Err(fault),
-    };
+    let classical = mult(alloc, shape, factor, Some(k))?;
     add_reductions(alloc, &classical, power, c, k, n, sums)
 }
 

@@ -20,11 +20,11 @@ times_factor-requires-clause-few t c =
     few_here c.args.k c.in-Some.factor.now (drop c.args.at c.args.factors.now) (drop (c.args.at + 1) c.args.factors.now)
     (factor_at c.args.factors.now c.args.at c.in-Some.factor.now c.in-Some.ensures.value) c.requires.few
 
-pub returns-in-Err-clause-large : goal.returns-in-Err-clause-large
-returns-in-Err-clause-large t c err =
+pub returns-in_err-next-clause-large : goal.returns-in_err-next-clause-large
+returns-in_err-next-clause-large t c err =
     heavy_here (λ (shape : List ℕ). shape) (IsFusionStep c.args.k c.args.n) c.args.k (drop c.args.at c.args.factors.now) (drop (c.args.at + 1) c.args.factors.now) c.in-Some.factor.now (numerators c.args.terms)
     (factor_at c.args.factors.now c.args.at c.in-Some.factor.now c.in-Some.ensures.value)
-    (c.in-Err.ensures.large (ap Err (error_is _ c.in-Err.fault _ refl err)))
+    (c.in_err-next.ensures.large (ap Err (error_is _ _ _ c.from_residual.ensures.1 err)))
 
 pub times_rest-requires : goal.times_rest-requires
 times_rest-requires t c =
@@ -34,7 +34,7 @@ times_rest-requires t c =
       (
         omega arith,
         (
-          shapes_room_next c.args.k c.args.n c.args.at c.args.factors.now c.in-Some.factor.now c.args.terms c.in-Ok.next (omega arith) c.in-Some.ensures.value c.requires.room c.in-Ok.ensures.ok c.in-Ok.ensures.combination,
+          shapes_room_next c.args.k c.args.n c.args.at c.args.factors.now c.in-Some.factor.now c.args.terms c.in_ok-next.next (omega arith) c.in-Some.ensures.value c.requires.room c.in_ok-next.ensures.ok c.in_ok-next.ensures.combination,
           (
             few_rest c.args.k c.in-Some.factor.now (drop c.args.at c.args.factors.now) (drop (c.args.at + 1) c.args.factors.now)
                 (factor_at c.args.factors.now c.args.at c.in-Some.factor.now c.in-Some.ensures.value) c.requires.few,
@@ -49,15 +49,15 @@ returns-clause-steps t c =
     let here = factor_at c.args.factors.now c.args.at c.in-Some.factor.now c.in-Some.ensures.value in
     if_ok c.times_rest.result
     (λ last lead.
-    lead_on (λ (shape : List ℕ). shape) (IsFusionStep c.args.k c.args.n) (drop c.args.at c.args.factors.now) (drop (c.args.at + 1) c.args.factors.now) c.in-Some.factor.now (numerators c.args.terms) (numerators c.in-Ok.next) (numerators last)
+    lead_on (λ (shape : List ℕ). shape) (IsFusionStep c.args.k c.args.n) (drop c.args.at c.args.factors.now) (drop (c.args.at + 1) c.args.factors.now) c.in-Some.factor.now (numerators c.args.terms) (numerators c.in_ok-next.next) (numerators last)
     here
-    (fusion_step_table c.args.k c.args.n c.in-Some.factor.now (numerators c.args.terms) c.in-Ok.next c.in-Ok.ensures.ok c.in-Ok.ensures.combination)
+    (fusion_step_table c.args.k c.args.n c.in-Some.factor.now (numerators c.args.terms) c.in_ok-next.next c.in_ok-next.ensures.ok c.in_ok-next.ensures.combination)
     lead)
     c.times_rest.ensures.steps
 
 pub returns-clause-large : goal.returns-clause-large
 returns-clause-large t c err =
-    heavy_later (λ (shape : List ℕ). shape) (IsFusionStep c.args.k c.args.n) c.args.k (drop c.args.at c.args.factors.now) (drop (c.args.at + 1) c.args.factors.now) c.in-Some.factor.now (numerators c.args.terms) (numerators c.in-Ok.next)
+    heavy_later (λ (shape : List ℕ). shape) (IsFusionStep c.args.k c.args.n) c.args.k (drop c.args.at c.args.factors.now) (drop (c.args.at + 1) c.args.factors.now) c.in-Some.factor.now (numerators c.args.terms) (numerators c.in_ok-next.next)
     (factor_at c.args.factors.now c.args.at c.in-Some.factor.now c.in-Some.ensures.value)
-    (fusion_step_table c.args.k c.args.n c.in-Some.factor.now (numerators c.args.terms) c.in-Ok.next c.in-Ok.ensures.ok c.in-Ok.ensures.combination)
+    (fusion_step_table c.args.k c.args.n c.in-Some.factor.now (numerators c.args.terms) c.in_ok-next.next c.in_ok-next.ensures.ok c.in_ok-next.ensures.combination)
     (c.times_rest.ensures.large err)

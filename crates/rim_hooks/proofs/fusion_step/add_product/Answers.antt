@@ -1,4 +1,4 @@
-use Rattle.std.proofs.Common.{[], ◌∷◌, ◌++◌, refl, ap}
+use Rattle.std.proofs.Common.{[], ◌∷◌, ◌++◌, ap}
 use Rattle.std.specs.Prelude.{Err, nat_abs, nat_eq}
 use Rattle.sym_model.specs.ReductionSteps.{classical_weight}
 use Rattle.sym_model.specs.Target.{classical_product, reflected_terms}
@@ -13,28 +13,28 @@ use Rattle.rim_hooks.proofs.RaisedTerms.{taken_large, wider_large}
 use Rattle.rim_hooks.proofs.ScaledTerms.{scaled_same}
 use Rattle.rim_hooks.proofs.fusion_step.add_product.Goals as goal
 
-pub returns-in-Err-clause-large : goal.returns-in-Err-clause-large
-returns-in-Err-clause-large c = λ before was err.
+pub returns-in_err-classical-clause-large : goal.returns-in_err-classical-clause-large
+returns-in_err-classical-clause-large c = λ before was err.
     let pair = c.args.shape.now ∷ c.args.factor.now ∷ [] in
     taken_large (absolute_total before) (nat_abs c.args.c) (classical_weight c.args.k pair) c.requires.nonzero
-    (c.in-Err.ensures.heavy (ap Err (error_is _ c.in-Err.fault _ refl err)))
+    (c.in_err-classical.ensures.heavy (ap Err (error_is _ _ _ c.from_residual.ensures.1 err)))
 
 pub add_reflections-requires-clause-rows : goal.add_reflections-requires-clause-rows
-add_reflections-requires-clause-rows c = c.in-Ok.ensures.meets.1
+add_reflections-requires-clause-rows c = c.in_ok-classical.ensures.meets.1
 
 pub returns-clause-ok : goal.returns-clause-ok
 returns-clause-ok c = λ before was.
-    let classical = numerators c.in-Ok.classical in
+    let classical = numerators c.in_ok-classical.classical in
     let product = classical_product c.args.k (c.args.shape.now ∷ c.args.factor.now ∷ []) in
     on_ok_weaker c.add_reflections.result
     (collects_same (pointwise nat_eq) (before ++ scale c.args.c (reflected_terms c.args.k c.args.n classical))
     (before ++ scale c.args.c (reflected_terms c.args.k c.args.n product)) c.add_reflections.new.sums
-    (λ label. scaled_same before c.args.c c.args.k c.args.n classical product label c.in-Ok.ensures.classical))
+    (λ label. scaled_same before c.args.c c.args.k c.args.n classical product label c.in_ok-classical.ensures.classical))
     (c.add_reflections.ensures.ok before was)
 
 pub returns-clause-large : goal.returns-clause-large
 returns-clause-large c = λ before was err.
     let pair = c.args.shape.now ∷ c.args.factor.now ∷ [] in
-    wider_large (absolute_total before) (nat_abs c.args.c) (absolute_total (numerators c.in-Ok.classical)) (classical_weight c.args.k pair)
-    (weight_within c.args.k pair c.in-Ok.classical c.add_reflections.ensures.canonical c.in-Ok.ensures.classical)
+    wider_large (absolute_total before) (nat_abs c.args.c) (absolute_total (numerators c.in_ok-classical.classical)) (classical_weight c.args.k pair)
+    (weight_within c.args.k pair c.in_ok-classical.classical c.add_reflections.ensures.canonical c.in_ok-classical.ensures.classical)
     (c.add_reflections.ensures.large before was err)
