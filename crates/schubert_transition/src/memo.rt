@@ -77,13 +77,12 @@ impl Memo {
             → 4096 < length terms → self.new ≡ self.old) }
         ensures refused { OnErr result (self.new ≡ self.old) }
     {
-        match self.copy_of(w) {
-            Ok(Some(terms)) => {
+        match self.copy_of(w)? {
+            Some(terms) => {
                 self.promote(w);
                 Ok(terms)
             }
-            Ok(None) => self.made(w),
-            Err(NoMemory) => Err(SumFault::NoMemory),
+            None => self.made(w),
         }
     }
 
@@ -114,10 +113,7 @@ impl Memo {
         let terms = self.schubert(w)?;
         // This tells the proof that no label stands twice in it.
         terms.len();
-        match terms.sorted_terms() {
-            Ok(terms) => Ok(terms),
-            Err(NoMemory) => Err(SumFault::NoMemory),
-        }
+        Ok(terms.sorted_terms()?)
     }
 
     /// A copy of the polynomial that is kept for a permutation, where one is.
@@ -157,15 +153,11 @@ impl Memo {
         ensures long { IfOk result (λ terms. 4096 < length terms → self.new ≡ self.old) }
         ensures refused { OnErr result (self.new ≡ self.old) }
     {
-        match self.fresh(w) {
-            Ok(terms) => {
-                if terms.len() <= MOST_TERMS {
-                    self.keep(w, &terms);
-                }
-                Ok(terms)
-            }
-            Err(fault) => Err(fault),
+        let terms = self.fresh(w)?;
+        if terms.len() <= MOST_TERMS {
+            self.keep(w, &terms);
         }
+        Ok(terms)
     }
 
     /// The Schubert polynomial of a permutation, which is made.
