@@ -14,3 +14,6 @@ pub mod SmallNumbers
 pub mod MonomialAtoms
 pub mod Weights
 pub mod ExpressionParts
+pub mod HookProducts
+pub mod SchurStores
+pub mod PeelingSteps

@@ -1,9 +1,10 @@
 //! Partitions in the five bases, as lists of terms in the target.
 ghost use Rattle.std.specs.Prelude.{◌≡◌, ◌+◌, ◌*◌, ◌<◌, ◌≤◌, ◌^◌, length, IfOk, IsErrOf};
 ghost use Rattle.sym_model.specs.Bases.{product_over};
-ghost use Rattle.sym_model.specs.Expansion.{completes};
+ghost use Rattle.sym_model.specs.Expansion.{completes, schurs};
 ghost use Rattle.sym_model.specs.Expression.{atom};
 ghost use Rattle.sym_model.specs.Partition.{IsPartition, columns, size};
+ghost use Rattle.sym_model.specs.Schur.{schur};
 ghost use Rattle.sym_model.specs.Weight.{factorial, growth};
 ghost use Rattle.sym_model.specs.WholeTerms.{numerators};
 ghost use Rattle.basis_change_laws.specs.JoinedLists.{Stands};
@@ -16,6 +17,7 @@ use crate::factorials::{binomial, rise};
 use crate::newton::factor_lists;
 use crate::node::Node;
 use crate::products::add_products;
+use crate::schur_lists::schur_list;
 use crate::whole_terms::whole_terms;
 use basis_change::{Family, factorial, is_table, to_basis, whole_of};
 use calc_base::{Basis, SumFault, Weight};
@@ -127,6 +129,35 @@ fn letter_of(family: Family) -> Basis
     }
 }
 
+/// A partition in s, by special rim hooks: read as h_k, those of its shape, and into e as e_k, those of the conjugate shape.
+fn by_hooks(alloc: Global, target: Family, label: &Partition) -> Result<Node, SumFault>
+    requires { size label.now ≤ 15 }
+    ensures { IsConverted (polynomial_of target) (atom schurs label.now) result }
+{
+    let degree = label.size();
+    let terms = schur_terms(alloc, target, label)?;
+    Ok(Node {
+        terms,
+        den: 1,
+        degree,
+    })
+}
+
+/// The list in the target of a Schur polynomial.
+fn schur_terms(alloc: Global, target: Family, label: &Partition) -> Result<Whole, SumFault>
+    requires partition { IsPartition label.now }
+    requires low { size label.now ≤ 15 }
+    ensures value { IfOk result (λ terms. Stands (polynomial_of target) (factorial (size label.now)) (growth completes (size label.now))
+        (size label.now) (λ n. schur label.now n) (numerators terms)) }
+    ensures large { IsErrOf result SumFault.Large → 2 ^ 127 ≤ growth completes (size label.now) }
+{
+    if target == Family::Elementary {
+        let shape = label.conjugate()?;
+        return schur_list(alloc, target, Family::Elementary, &shape);
+    }
+    schur_list(alloc, target, Family::Complete, label)
+}
+
 /// A partition in any basis, by way of m.
 fn by_monomials(
     alloc: Global,
@@ -166,6 +197,6 @@ pub(crate) fn atom(
         Basis::E => from_family(alloc, target, Family::Elementary, label),
         Basis::H => from_family(alloc, target, Family::Complete, label),
         Basis::P => from_family(alloc, target, Family::PowerSum, label),
-        Basis::S => by_monomials(alloc, target, Basis::S, label),
+        Basis::S => by_hooks(alloc, target, label),
     }
 }

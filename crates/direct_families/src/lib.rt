@@ -9,6 +9,7 @@ mod newton;
 mod node;
 mod operations;
 mod products;
+mod schur_lists;
 mod whole_terms;
 
 pub use expansion::to_family;

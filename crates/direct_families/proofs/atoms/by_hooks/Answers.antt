@@ -1,0 +1,17 @@
+use Rattle.std.proofs.Common.{refl, ap, Err}
+use Rattle.sym_model.specs.Expansion.{schurs}
+use Rattle.sym_model.specs.Expression.{atom}
+use Rattle.basis_change.specs.Factors.{polynomial_of}
+use Rattle.direct_families.proofs.AtomNodes.{clears-atom, large-atom}
+use Rattle.direct_families.proofs.Nodes.{done, failed}
+use Rattle.direct_families.proofs.atoms.by_hooks.Goals as goal
+
+pub returns-in_err-terms : goal.returns-in_err-terms
+returns-in_err-terms c =
+    failed (polynomial_of c.args.target) (atom schurs c.args.label.now) _ _ c.from_residual.ensures.0 c.from_residual.ensures.1
+    (λ large. large-atom schurs c.args.label.now (c.in_err-terms.ensures.large (ap Err large)))
+
+pub returns : goal.returns
+returns c =
+    done (polynomial_of c.args.target) (atom schurs c.args.label.now) _
+    (clears-atom (polynomial_of c.args.target) schurs c.args.label.now _ refl c.size-degree.ensures.value c.in_ok-terms.ensures.value)

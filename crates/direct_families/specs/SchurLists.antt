@@ -1,0 +1,33 @@
+-- Lists in the target of the Schur polynomials of shapes (this project's own).
+use Rattle.std.specs.Prelude.{◌≡◌, ℕ, Some, slice_get, List, [], ◌∷◌}
+use Rattle.std.specs.Map.{keys_of}
+use Rattle.sym_model.specs.Polynomial.{Poly}
+use Rattle.sym_model.specs.Conjugate.{conjugate}
+use Rattle.sym_model.specs.Expansion.{Terms, completes}
+use Rattle.sym_model.specs.Partition.{size}
+use Rattle.sym_model.specs.Schur.{schur}
+use Rattle.sym_model.specs.Weight.{factorial, growth}
+use Rattle.sym_model.specs.WholeTerms.{numerators}
+use Rattle.basis_change_laws.specs.JoinedLists.{Stands}
+use Rattle.basis_change.specs.declared.factors.Family.{Family}
+use Rattle.basis_change.specs.declared.factors.Family.TheVariants.{Elementary, Complete, PowerSum}
+
+-- the Schur polynomial of a shape whose special rim hooks are read as h_k; that of its conjugate where they are read as e_k
+abbrev pub schur_in : Family → List ℕ → ℕ → Poly
+schur_in Elementary shape = schur (conjugate shape)
+schur_in Complete shape = schur shape
+schur_in PowerSum shape = schur shape
+
+-- the list is that polynomial times the factorial of the size of the shape, and is bounded by the growth
+abbrev pub IsSchurList : (ℕ → ℕ → Poly) → Family → List ℕ → Terms (List ℕ) → Type 0
+IsSchurList P family shape terms =
+    Stands P (factorial (size shape)) (growth completes (size shape)) (size shape) (schur_in family shape) (numerators terms)
+
+-- each list is that of its shape
+abbrev pub AreSchurLists : (ℕ → ℕ → Poly) → Family → List (List ℕ × Terms (List ℕ)) → Type 0
+AreSchurLists P family [] = Unit {0}
+AreSchurLists P family (e ∷ entries) = IsSchurList P family e.0 e.1 × AreSchurLists P family entries
+
+-- the shape stands at the index
+abbrev pub IsAt : List ℕ → ℕ → List (List ℕ × Terms (List ℕ)) → Type 0
+IsAt shape at entries = slice_get (keys_of entries) at ≡ Some shape
