@@ -76,10 +76,8 @@ impl Factors {
         if self.is_too_big_with(&next) {
             return Err(FactorsFault::TooBig);
         }
-        match self.grow(next) {
-            Ok(()) => Ok(()),
-            Err(NoMemory) => Err(FactorsFault::NoMemory),
-        }
+        self.grow(next)?;
+        Ok(())
     }
 
     /// Whether the factors would have too many cells or rows with this one after them.
