@@ -1,0 +1,4 @@
+pub mod LastPlaces
+pub mod FrontSorting
+pub mod HookRows
+pub mod StraightenedArrangements

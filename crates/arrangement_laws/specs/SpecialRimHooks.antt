@@ -1,0 +1,37 @@
+-- The arrangements of a partition straightened, by the last part of each: a special rim hook (Egecioglu and Remmel), which
+-- begins in the first column.
+use Rattle.std.specs.Prelude.{◌≡◌, ℕ, ◌-◌, suc, nat_le, cond, ℤ, pos, ◌*ℤ◌, List, [], ◌∷◌, ◌++◌, map}
+use Rattle.sym_model.specs.Sum.{total}
+use Rattle.sym_model.specs.Polynomial.{Term, pair}
+use Rattle.sym_model.specs.Partition.{rows, after}
+use Rattle.sym_model.specs.Arrangement.{arrangements}
+use Rattle.sym_model.specs.BetaList.{beta, has_equal_entries, sorted_falling, sorting_sign, from_beta}
+use Rattle.sym_model.specs.Straightening.{shifted}
+use Rattle.sym_model.specs.WholeTerms.{WholeTerms}
+
+-- the value of g at what a list of exponents with this beta list straightens to: 0 where two entries are equal; else that at
+-- the partition of the sorted list, with the sign of sorting
+abbrev pub straight_value : (List ℕ → ℤ) → List ℕ → ℤ
+straight_value g entries =
+    cond (has_equal_entries entries) (pos 0) (sorting_sign entries *ℤ g (from_beta (sorted_falling entries)))
+
+-- the sum of these values over the arrangements of the parts of λ in n places
+abbrev pub arranged_value : (List ℕ → ℤ) → List ℕ → ℕ → ℤ
+arranged_value g parts n = total (λ α. straight_value g (shifted α)) (arrangements parts n)
+
+-- the beta list of ν in so many rows, more than ν has, with a in place of the last entry, 0: a rim hook of a cells is added
+-- that begins in that row
+abbrev pub hooked : List ℕ → ℕ → ℕ → List ℕ
+hooked ν count a = map suc (beta (count - 1) ν) ++ a ∷ []
+
+-- the sum of these values over the a rows after the last one of ν, times c: in later rows a rim hook of a cells has no place
+abbrev pub hooks_value : (List ℕ → ℤ) → ℕ → Term → ℤ
+hooks_value g a t = total (λ count. t.1 *ℤ straight_value g (hooked t.0 count a)) (after (rows t.0) a)
+
+-- g at the partitions of at most n rows, and 0 at the others
+abbrev pub within_rows : ℕ → (List ℕ → ℤ) → List ℕ → ℤ
+within_rows n g ν = cond (nat_le (rows ν) n) (g ν) (pos 0)
+
+-- the list is what the arrangements of λ straighten to in every number n of places: its terms of at most n rows are
+abbrev pub IsStraightening : List ℕ → WholeTerms → Type 0
+IsStraightening parts terms = (n : ℕ) (g : List ℕ → ℤ) → arranged_value g parts n ≡ pair terms (within_rows n g)
