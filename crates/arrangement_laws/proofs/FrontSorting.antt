@@ -28,7 +28,7 @@ use Rattle.arrangement_laws.specs.SpecialRimHooks.{straight_value, hooked}
 abbrev pub Alternates : (List ℕ → ℤ) → Type 0
 Alternates H = (left : List ℕ) (a b : ℕ) (right : List ℕ) → (a ≡ b → ⊥) → H (left ++ (a ∷ b ∷ right)) ≡ neg_ℤ (H (left ++ (b ∷ a ∷ right)))
 
-strict_falls : (l : List ℕ) → FallsStrictly l → Falls l
+pub strict_falls : (l : List ℕ) → FallsStrictly l → Falls l
 strict_falls [] f = tt
 strict_falls (a ∷ []) f = tt
 strict_falls (a ∷ b ∷ l) f = (let h = f.0 in omega arith, strict_falls (b ∷ l) f.1)

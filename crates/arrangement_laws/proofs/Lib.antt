@@ -1,4 +1,5 @@
 pub mod LastPlaces
 pub mod FrontSorting
 pub mod HookRows
+pub mod HookSteps
 pub mod StraightenedArrangements

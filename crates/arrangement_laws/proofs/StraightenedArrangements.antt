@@ -1,7 +1,7 @@
 -- What the arrangements of a partition straighten to, from those with one part less.
 --     last_part          the law of `last_part_law`
 --     no_part            the list for no parts
-use Rattle.std.proofs.Common.{◌≡◌, ◌⊎◌, ℕ, zero, suc, ◌+◌, ◌-◌, ◌<◌, ◌≤◌, Bool, true, false, cond, nat_le, List, [], ◌∷◌, ◌++◌, map, length, replicate, refl, sym, ap, ap₂, ◌∙◌, inl, inr, arith, ℤ, pos, ◌+ℤ◌, ◌*ℤ◌}
+use Rattle.std.proofs.Common.{◌≡◌, ◌⊎◌, ℕ, zero, suc, ◌+◌, ◌-◌, ◌<◌, ◌≤◌, Bool, true, false, cond, nat_le, List, [], ◌∷◌, ◌++◌, map, length, replicate, refl, sym, ap, ap₂, subst, ◌∙◌, inl, inr, arith, ℤ, pos, ◌+ℤ◌, ◌*ℤ◌}
 use Rattle.std.proofs.lemmas.Int.{ints}
 use Rattle.std.proofs.lemmas.Bool.Decides.{nat_tests}
 use Rattle.sym_model.specs.Sum.{total, Among}
@@ -14,16 +14,15 @@ use Rattle.sym_model.specs.BetaList.{beta}
 use Rattle.sym_model.specs.RaisedPart.{without_one, distinct}
 use Rattle.sym_model.specs.Straightening.{shifted}
 use Rattle.sym_model.specs.WholeTerms.{WholeTerms}
-use Rattle.sym_model.proofs.Sums.{total_ext, total_among, total_none, total_add, total_zero}
+use Rattle.sym_model.proofs.Sums.{total_ext, total_among, total_none, total_add, total_map, Among-map}
 use Rattle.sym_model.proofs.Exponents.{length-join_same, join_zeros}
-use Rattle.sym_model.proofs.Ring.{one-product}
+use Rattle.sym_model.proofs.Ring.{one-product, distributes_left}
 use Rattle.std.proofs.lemmas.List.{length-replicate}
 use Rattle.sym_model.proofs.AfterLists.{after_among}
 use Rattle.sym_model.proofs.Parts.{length-staircase}
 use Rattle.sym_model.proofs.SortedParts.{without_one-zero, has-zero}
 use Rattle.monomial_laws.proofs.PowerSumLists.{has_from-distinct}
-use Rattle.beta_list_laws.proofs.ReducedSums.{times_chosen}
-use Rattle.arrangement_laws.specs.SpecialRimHooks.{straight_value, arranged_value, hooked, hooks_value, within_rows, IsStraightening}
+use Rattle.arrangement_laws.specs.SpecialRimHooks.{straight_value, arranged_value, hooked, hooks_value, within_rows, IsStraightening, AreStraightenings, all_hooks}
 use Rattle.arrangement_laws.proofs.LastPlaces.{arrangement, arrangements-few, arrangements-last, arrangements-none}
 use Rattle.arrangement_laws.proofs.FrontSorting.{above, value-front, value-zero}
 use Rattle.arrangement_laws.proofs.HookRows.{value-rows, value-far, total_after-cut}
@@ -62,68 +61,69 @@ zero_value g parts n =
 
 -- ---- the rim hooks of one term
 
-hooks_within : (n : ℕ) (g : List ℕ → ℤ) (a : ℕ) (t : Term) → 0 < a
-    → hooks_value (within_rows n g) a t ≡ total (λ (count : ℕ). cond (nat_le count n) (t.1 *ℤ straight_value g (hooked t.0 count a)) (pos 0)) (after (rows t.0) a)
-hooks_within n g a t p =
-    total_among (λ (count : ℕ). t.1 *ℤ straight_value (within_rows n g) (hooked t.0 count a)) (λ (count : ℕ). cond (nat_le count n) (t.1 *ℤ straight_value g (hooked t.0 count a)) (pos 0)) (after (rows t.0) a)
-    (λ count m. let h = (after_among (rows t.0) a count m).0 in
-    ap (λ z. t.1 *ℤ z) (value-rows n g t.0 count a (omega arith) p) ∙ sym (times_chosen (nat_le count n) t.1 (straight_value g (hooked t.0 count a))))
+hooks_within : (n : ℕ) (g : List ℕ → ℤ) (a : ℕ) (ν : List ℕ) → 0 < a
+    → hooks_value (within_rows n g) a ν ≡ total (λ (count : ℕ). cond (nat_le count n) (straight_value g (hooked ν count a)) (pos 0)) (after (rows ν) a)
+hooks_within n g a ν p =
+    total_among (λ (count : ℕ). straight_value (within_rows n g) (hooked ν count a)) (λ (count : ℕ). cond (nat_le count n) (straight_value g (hooked ν count a)) (pos 0)) (after (rows ν) a)
+    (λ count m. let h = (after_among (rows ν) a count m).0 in value-rows n g ν count a (omega arith) p)
 
-hooks_none : (g : List ℕ → ℤ) (a : ℕ) (t : Term) → 0 < a → hooks_value (within_rows 0 g) a t ≡ pos 0
-hooks_none g a t p =
-    hooks_within 0 g a t p
-    ∙ total_none (λ (count : ℕ). cond (nat_le count 0) (t.1 *ℤ straight_value g (hooked t.0 count a)) (pos 0)) (after (rows t.0) a)
-    (λ count m. let h = (after_among (rows t.0) a count m).0 in ap (λ b. cond b (t.1 *ℤ straight_value g (hooked t.0 count a)) (pos 0)) (past count (omega arith)))
+hooks_none : (g : List ℕ → ℤ) (a : ℕ) (ν : List ℕ) → 0 < a → hooks_value (within_rows 0 g) a ν ≡ pos 0
+hooks_none g a ν p =
+    hooks_within 0 g a ν p
+    ∙ total_none (λ (count : ℕ). cond (nat_le count 0) (straight_value g (hooked ν count a)) (pos 0)) (after (rows ν) a)
+    (λ count m. let h = (after_among (rows ν) a count m).0 in ap (λ b. cond b (straight_value g (hooked ν count a)) (pos 0)) (past count (omega arith)))
   where
     past : (count : ℕ) → 0 < count → nat_le count 0 ≡ false
     past count h = grind (arith, nat_tests)
 
-hooks_more : (n : ℕ) (g : List ℕ → ℤ) (a : ℕ) (t : Term) → 0 < a
-    → hooks_value (within_rows (suc n) g) a t ≡ hooks_value (within_rows n g) a t +ℤ t.1 *ℤ within_rows n (λ ν. straight_value g (hooked ν (suc n) a)) t.0
-hooks_more n g a t p =
-    hooks_within (suc n) g a t p
-    ∙ total_after-cut (λ count. t.1 *ℤ straight_value g (hooked t.0 count a)) (rows t.0) a n
-    (λ count h. ap (λ z. t.1 *ℤ z) (value-far g t.0 count a p h) ∙ *ℤ-zero t.1)
-    ∙ ap₂ ◌+ℤ◌ (sym (hooks_within n g a t p)) (times_chosen (nat_le (rows t.0) n) t.1 (straight_value g (hooked t.0 (suc n) a)))
+hooks_more : (n : ℕ) (g : List ℕ → ℤ) (a : ℕ) (ν : List ℕ) → 0 < a
+    → hooks_value (within_rows (suc n) g) a ν ≡ hooks_value (within_rows n g) a ν +ℤ within_rows n (λ μ. straight_value g (hooked μ (suc n) a)) ν
+hooks_more n g a ν p =
+    hooks_within (suc n) g a ν p
+    ∙ total_after-cut (λ count. straight_value g (hooked ν count a)) (rows ν) a n (λ count h. value-far g ν count a p h)
+    ∙ ap (λ z. z +ℤ within_rows n (λ μ. straight_value g (hooked μ (suc n) a)) ν) (sym (hooks_within n g a ν p))
 
 -- ---- all parts
 
-abbrev hooks_of : (List ℕ → ℤ) → (ℕ → WholeTerms) → ℕ → ℤ
-hooks_of g lists a = total (λ (t : Term). hooks_value g a t) (lists a)
+part_more : (n : ℕ) (g : List ℕ → ℤ) (terms : WholeTerms) (a : ℕ) → 0 < a
+    → pair terms (hooks_value (within_rows (suc n) g) a) ≡ pair terms (hooks_value (within_rows n g) a) +ℤ pair terms (within_rows n (λ ν. straight_value g (hooked ν (suc n) a)))
+part_more n g terms a p =
+    total_ext (λ (t : Term). t.1 *ℤ hooks_value (within_rows (suc n) g) a t.0) (λ (t : Term). t.1 *ℤ hooks_value (within_rows n g) a t.0 +ℤ t.1 *ℤ within_rows n (λ ν. straight_value g (hooked ν (suc n) a)) t.0)
+    (λ t.
+    ap (λ z. t.1 *ℤ z) (hooks_more n g a t.0 p)
+    ∙ distributes_left t.1 (hooks_value (within_rows n g) a t.0) (within_rows n (λ ν. straight_value g (hooked ν (suc n) a)) t.0)) terms
+    ∙ total_add (λ (t : Term). t.1 *ℤ hooks_value (within_rows n g) a t.0) (λ (t : Term). t.1 *ℤ within_rows n (λ ν. straight_value g (hooked ν (suc n) a)) t.0) terms
 
-part_more : (n : ℕ) (g : List ℕ → ℤ) (lists : ℕ → WholeTerms) (a : ℕ) → 0 < a
-    → hooks_of (within_rows (suc n) g) lists a ≡ hooks_of (within_rows n g) lists a +ℤ pair (lists a) (within_rows n (λ ν. straight_value g (hooked ν (suc n) a)))
-part_more n g lists a p =
-    total_ext (λ (t : Term). hooks_value (within_rows (suc n) g) a t) (λ (t : Term). hooks_value (within_rows n g) a t +ℤ t.1 *ℤ within_rows n (λ ν. straight_value g (hooked ν (suc n) a)) t.0)
-    (λ t. hooks_more n g a t p) (lists a)
-    ∙ total_add (λ (t : Term). hooks_value (within_rows n g) a t) (λ (t : Term). t.1 *ℤ within_rows n (λ ν. straight_value g (hooked ν (suc n) a)) t.0) (lists a)
-
-distinct-positive : (parts : List ℕ) (a : ℕ) → ArePositive parts → Among a (distinct parts) → 0 < a
+pub distinct-positive : (parts : List ℕ) (a : ℕ) → ArePositive parts → Among a (distinct parts) → 0 < a
 distinct-positive parts zero p m = absurd (let h = has_from-distinct 0 parts m in let z = has-zero parts p in cc)
 distinct-positive parts (suc a) p m = omega arith
 
-arranged-is : (parts : List ℕ) (lists : ℕ → WholeTerms) → IsPartition parts → 0 < length parts → ((a : ℕ) → Among a (distinct parts) → IsStraightening (without_one a parts) (lists a))
-    → (n : ℕ) (g : List ℕ → ℤ) → arranged_value g parts n ≡ total (hooks_of (within_rows n g) lists) (distinct parts)
-arranged-is parts lists p l s zero g =
-    arrangements-few (λ α. straight_value g (shifted α)) parts 0 l
-    ∙ sym (total_none (hooks_of (within_rows 0 g) lists) (distinct parts)
-    (λ a m. total_none (λ (t : Term). hooks_value (within_rows 0 g) a t) (lists a) (λ t i. hooks_none g a t (distinct-positive parts a p.positive m))))
-arranged-is parts lists p l s (suc n) g =
-    arrangements-last (λ α. straight_value g (shifted α)) parts n p
-    ∙ ap₂ ◌+ℤ◌
-    (ap (λ σ. total (λ α. straight_value g (shifted (α ++ 0 ∷ []))) (arrangements σ n)) (without_one-zero parts p.positive)
-    ∙ zero_value g parts n
-    ∙ arranged-is parts lists p l s n g)
-    (total_among (λ (a : ℕ). total (λ α. straight_value g (shifted (α ++ a ∷ []))) (arrangements (without_one a parts) n)) (λ (a : ℕ). pair (lists a) (within_rows n (λ ν. straight_value g (hooked ν (suc n) a)))) (distinct parts)
-    (λ a m. ending_value g (without_one a parts) (lists a) n a (s a m)))
-    ∙ sym (total_among (hooks_of (within_rows (suc n) g) lists) (λ (a : ℕ). hooks_of (within_rows n g) lists a +ℤ pair (lists a) (within_rows n (λ ν. straight_value g (hooked ν (suc n) a)))) (distinct parts)
-    (λ a m. part_more n g lists a (distinct-positive parts a p.positive m))
-    ∙ total_add (hooks_of (within_rows n g) lists) (λ (a : ℕ). pair (lists a) (within_rows n (λ ν. straight_value g (hooked ν (suc n) a)))) (distinct parts))
+module _ (parts : List ℕ) (lists : List (ℕ × WholeTerms)) (p : IsPartition parts) (l : 0 < length parts) (s : AreStraightenings parts lists) where
+  positive : (x : ℕ × WholeTerms) → Among x lists → 0 < x.0
+  positive x m = distinct-positive parts x.0 p.positive (subst (Among x.0) s.parts_are (Among-map (λ (l : ℕ × WholeTerms). l.0) x lists m))
 
-pub last_part : (parts : List ℕ) (lists : ℕ → WholeTerms) (terms : WholeTerms) → IsPartition parts → 0 < length parts
-    → ((a : ℕ) → Among a (distinct parts) → IsStraightening (without_one a parts) (lists a))
-    → ((g : List ℕ → ℤ) → pair terms g ≡ total (λ (a : ℕ). total (λ (t : Term). hooks_value g a t) (lists a)) (distinct parts))
-    → IsStraightening parts terms
+  arranged-is : (n : ℕ) (g : List ℕ → ℤ) → arranged_value g parts n ≡ all_hooks (within_rows n g) lists
+  arranged-is zero g =
+      arrangements-few (λ α. straight_value g (shifted α)) parts 0 l
+      ∙ sym (total_none (λ (x : ℕ × WholeTerms). pair x.1 (hooks_value (within_rows 0 g) x.0)) lists
+      (λ x m. total_none (λ (t : Term). t.1 *ℤ hooks_value (within_rows 0 g) x.0 t.0) x.1 (λ t i. ap (λ z. t.1 *ℤ z) (hooks_none g x.0 t.0 (positive x m)) ∙ *ℤ-zero t.1)))
+  arranged-is (suc n) g =
+      arrangements-last (λ α. straight_value g (shifted α)) parts n p
+      ∙ ap₂ ◌+ℤ◌
+      (ap (λ σ. total (λ α. straight_value g (shifted (α ++ 0 ∷ []))) (arrangements σ n)) (without_one-zero parts p.positive)
+      ∙ zero_value g parts n
+      ∙ arranged-is n g)
+      (ap (total (λ (a : ℕ). total (λ α. straight_value g (shifted (α ++ a ∷ []))) (arrangements (without_one a parts) n))) (sym s.parts_are)
+      ∙ total_map (λ (a : ℕ). total (λ α. straight_value g (shifted (α ++ a ∷ []))) (arrangements (without_one a parts) n)) (λ (x : ℕ × WholeTerms). x.0) lists
+      ∙ total_among (λ (x : ℕ × WholeTerms). total (λ α. straight_value g (shifted (α ++ x.0 ∷ []))) (arrangements (without_one x.0 parts) n)) (λ (x : ℕ × WholeTerms). pair x.1 (within_rows n (λ ν. straight_value g (hooked ν (suc n) x.0)))) lists
+      (λ x m. ending_value g (without_one x.0 parts) x.1 n x.0 (s.straightens x m)))
+      ∙ sym (total_among (λ (x : ℕ × WholeTerms). pair x.1 (hooks_value (within_rows (suc n) g) x.0))
+      (λ (x : ℕ × WholeTerms). pair x.1 (hooks_value (within_rows n g) x.0) +ℤ pair x.1 (within_rows n (λ ν. straight_value g (hooked ν (suc n) x.0)))) lists
+      (λ x m. part_more n g x.1 x.0 (positive x m))
+      ∙ total_add (λ (x : ℕ × WholeTerms). pair x.1 (hooks_value (within_rows n g) x.0)) (λ (x : ℕ × WholeTerms). pair x.1 (within_rows n (λ ν. straight_value g (hooked ν (suc n) x.0)))) lists)
+
+pub last_part : (parts : List ℕ) (lists : List (ℕ × WholeTerms)) (terms : WholeTerms) → IsPartition parts → 0 < length parts
+    → AreStraightenings parts lists → ((g : List ℕ → ℤ) → pair terms g ≡ all_hooks g lists) → IsStraightening parts terms
 last_part parts lists terms p l s e n g = arranged-is parts lists p l s n g ∙ sym (e (within_rows n g))
 
 -- ---- no part

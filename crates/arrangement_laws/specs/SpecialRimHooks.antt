@@ -1,10 +1,11 @@
 -- The arrangements of a partition straightened, by the last part of each: a special rim hook (Egecioglu and Remmel), which
 -- begins in the first column.
 use Rattle.std.specs.Prelude.{◌≡◌, ℕ, ◌-◌, suc, nat_le, cond, ℤ, pos, ◌*ℤ◌, List, [], ◌∷◌, ◌++◌, map}
-use Rattle.sym_model.specs.Sum.{total}
-use Rattle.sym_model.specs.Polynomial.{Term, pair}
+use Rattle.sym_model.specs.Sum.{total, Among}
+use Rattle.sym_model.specs.Polynomial.{pair}
 use Rattle.sym_model.specs.Partition.{rows, after}
 use Rattle.sym_model.specs.Arrangement.{arrangements}
+use Rattle.sym_model.specs.RaisedPart.{without_one, distinct}
 use Rattle.sym_model.specs.BetaList.{beta, has_equal_entries, sorted_falling, sorting_sign, from_beta}
 use Rattle.sym_model.specs.Straightening.{shifted}
 use Rattle.sym_model.specs.WholeTerms.{WholeTerms}
@@ -24,9 +25,9 @@ arranged_value g parts n = total (λ α. straight_value g (shifted α)) (arrange
 abbrev pub hooked : List ℕ → ℕ → ℕ → List ℕ
 hooked ν count a = map suc (beta (count - 1) ν) ++ a ∷ []
 
--- the sum of these values over the a rows after the last one of ν, times c: in later rows a rim hook of a cells has no place
-abbrev pub hooks_value : (List ℕ → ℤ) → ℕ → Term → ℤ
-hooks_value g a t = total (λ count. t.1 *ℤ straight_value g (hooked t.0 count a)) (after (rows t.0) a)
+-- the sum of these values over the a rows after the last one of ν: in later rows a rim hook of a cells has no place
+abbrev pub hooks_value : (List ℕ → ℤ) → ℕ → List ℕ → ℤ
+hooks_value g a ν = total (λ count. straight_value g (hooked ν count a)) (after (rows ν) a)
 
 -- g at the partitions of at most n rows, and 0 at the others
 abbrev pub within_rows : ℕ → (List ℕ → ℤ) → List ℕ → ℤ
@@ -35,3 +36,12 @@ within_rows n g ν = cond (nat_le (rows ν) n) (g ν) (pos 0)
 -- the list is what the arrangements of λ straighten to in every number n of places: its terms of at most n rows are
 abbrev pub IsStraightening : List ℕ → WholeTerms → Type 0
 IsStraightening parts terms = (n : ℕ) (g : List ℕ → ℤ) → arranged_value g parts n ≡ pair terms (within_rows n g)
+
+-- the numbers are the different parts of λ, each with such a list for λ without one of it
+pub record AreStraightenings (parts : List ℕ) (lists : List (ℕ × WholeTerms)) : Type 0 where
+  pub parts_are : map (λ (l : ℕ × WholeTerms). l.0) lists ≡ distinct parts
+  pub straightens : (l : ℕ × WholeTerms) → Among l lists → IsStraightening (without_one l.0 parts) l.1
+
+-- the values at what comes of adding special rim hooks of so many cells to the terms of each list
+abbrev pub all_hooks : (List ℕ → ℤ) → List (ℕ × WholeTerms) → ℤ
+all_hooks g lists = total (λ (l : ℕ × WholeTerms). pair l.1 (hooks_value g l.0)) lists
