@@ -1,4 +1,4 @@
-//! The shapes that a horizontal strip makes of a partition, one at a time.
+//! The shapes that a horizontal strip makes of a partition, as a list and one at a time.
 ghost use Rattle.std.specs.Prelude.{◌≡◌, ◌+◌, ◌^◌, ◌<◌, ◌≤◌, ◌∷◌, ◌++◌, [], None, ℕ, List, map, IfOk, OnOk};
 ghost use Rattle.sym_model.specs.Partition.{Falls, rows, size};
 ghost use Rattle.sym_model.specs.Sum.{Among};
