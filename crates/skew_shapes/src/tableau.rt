@@ -49,10 +49,7 @@ impl Tableau {
         if reading.len() != usize::from(shape.cells()) {
             return Err(TableauFault::Length);
         }
-        let filled = match filling_with_reading(alloc, shape, reading) {
-            Ok(filled) => filled,
-            Err(NoMemory) => return Err(TableauFault::NoMemory),
-        };
+        let filled = filling_with_reading(alloc, shape, reading)?;
         match filled.into_tableau() {
             Ok(tableau) => Ok(tableau),
             Err(_) => Err(TableauFault::Order),
