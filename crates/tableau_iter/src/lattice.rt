@@ -85,10 +85,7 @@ impl Lattice {
         if last.len() != usize::from(shape.cells()) {
             return Err(ResumeFault::NotInList);
         }
-        let mut board = match Board::new(alloc, shape, start.parts(), rows, Rule::Falling, &[]) {
-            Ok(board) => board,
-            Err(NoMemory) => return Err(ResumeFault::NoMemory),
-        };
+        let mut board = Board::new(alloc, shape, start.parts(), rows, Rule::Falling, &[])?;
         if !put_all(&mut board, last) {
             return Err(ResumeFault::NotInList);
         }
