@@ -18,10 +18,7 @@ some_alone (e ∷ entries) words command each (inl h) = subst RunsNoOther (sym h
 some_alone (e ∷ entries) words command each (inr h) = some_alone entries words command each.1 h
 
 each_alone : EachOf (λ e. (x : Written e.form) → RunsNoOther (e.says x)) batch_entries
-each_alone = (
-  (λ x. tt),
-  ((λ x. tt), ((λ x. tt), ((λ x. tt), ((λ x. tt), ((λ x. tt), ((λ x. tt), ((λ x. tt), ((λ x. tt), ((λ x. tt), ((λ x. tt), ((λ x. tt), ((λ x. tt), ((λ x. tt), ((λ x. tt), ((λ x. tt), ((λ x. tt), tt)))))))))))))))),
-)
+each_alone = search parts 64
 
 pub read_alone : (line : BatchLine) (command : Read) → IsLineRead line (Ok (Some command)) → RunsNoOther (command_of command)
 read_alone too_long command read = absurd read

@@ -22,10 +22,9 @@ use std::alloc::Global;
 
 /// Runs the command that the words name, without the program's name, and puts its text to the sink.
 ///
-/// The commands are `mult`, `skew`, `coef`, `coprod`, `tab`, `quantum`, `fusion`, `schubert`, `schubmult`, `dschubmult`, `stanley`,
-/// `expand` and `plethysm` into m, e, h, p and s, `rsk`, `unrsk`, `rect`, `growth`, `batch` and `work`. The text is a line for each
-/// term of the answer, or of `tab` for each tableau, and `0` where there is none; two tableaux, a word or a tableau for `rsk`, `unrsk`
-/// and `rect`; a line of shapes for each line of a growth grid.
+/// The commands are those of `calc_language::read_words`. The text is a line for each term of the answer, or of `tab` for each
+/// tableau, and `0` where there is none; two tableaux, a word or a tableau for `rsk`, `unrsk` and `rect`; a line of shapes for
+/// each line of a growth grid.
 ///
 /// In this order: the words are read, and refused by one line where they are no command (`Syntax`) or offend (`Range`, or
 /// `Past` for a number that is too large). The whole answer is computed, and refused by the line `! Large` (`Past`) only
