@@ -1,10 +1,10 @@
 -- Words that have been read as permutations: which command they are.
-use Rattle.std.proofs.Common.{◌≡◌, ℕ, ◌+◌, ◌<◌, ◌≤◌, List, [], ◌∷◌, ◌++◌, length, refl, sym, ap, ◌∙◌, subst, arith, None, Result}
+use Rattle.std.proofs.Common.{◌≡◌, ℕ, ◌+◌, ◌<◌, List, [], ◌∷◌, ◌++◌, length, refl, sym, ap, ◌∙◌, subst, arith, None, Result}
 use Rattle.std.specs.Prelude.{codes}
-use Rattle.sym_model.specs.Sum.{each, Among}
+use Rattle.sym_model.specs.Sum.{each}
 use Rattle.sym_model.specs.Form.{EachOf, Has}
 use Rattle.sym_model.specs.Command.{Command}
-use Rattle.sym_model.specs.CommandOffence.{Offence, first_offence, permutation_offences, permutation_offences_within, permutation_rule_within, most_permuted}
+use Rattle.sym_model.specs.CommandOffence.{first_offence, permutation_offences, permutation_offences_within, permutation_rule_within}
 use Rattle.sym_model.specs.Permutation.{kept}
 use Rattle.sym_model.specs.WordForms.{numbers}
 use Rattle.word_laws.specs.Words.{Words}
@@ -55,10 +55,6 @@ pair_read name most says words (t ∷ ns) (u ∷ ms) r e s q n m h =
       spelled = e ∙ ap (λ ws. name ∷ ws) (spelled_lists t u ns ms);
     })
     (λ (p : List ℕ × List ℕ). says p.0 p.1) (kept (numbers (t ∷ ns)), kept (numbers (u ∷ ms))) refl r h
-
--- letters offend no earlier than they begin
-pub letters_from : (k : ℕ) (ns : List ℕ) (p : Offence) → Among p (permutation_offences k ns) → k ≤ p.0
-letters_from k ns p m = (within (permutation_rule_within most_permuted (length ns)) [] k ns p m).0
 
 -- the first of two permutations offends
 left_before : (most : ℕ) (left right : Words) → AllBefore (permutation_offences_within most 1 (numbers left)) (permutation_offences_within most (2 + length (numbers left)) (numbers right))
