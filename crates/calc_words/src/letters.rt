@@ -29,10 +29,7 @@ fn word_of(alloc: Global, letters: &[u16]) -> Result<Word, WordsFault>
     ensures ok { IfOk result (λ w. w ≡ letters.now) }
     ensures err { IfErr result (λ fault. fault ≡ WordsFault.NoMemory) }
 {
-    match Word::from_slice(alloc, letters) {
-        Ok(word) => Ok(word),
-        Err(_) => Err(WordsFault::NoMemory),
-    }
+    Ok(Word::from_slice(alloc, letters)?)
 }
 
 /// The letters that are these words, the first of which is the word `at`, or their first offence.

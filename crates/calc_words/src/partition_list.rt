@@ -38,10 +38,7 @@ fn partition_of(alloc: Global, numbers: &[u16]) -> Result<Partition, WordsFault>
     ensures ok { IfOk result (λ p. p ≡ without_last_zeros numbers.now) }
     ensures err { IfErr result (λ fault. fault ≡ WordsFault.NoMemory) }
 {
-    match Partition::from_valid_numbers(alloc, numbers) {
-        Ok(partition) => Ok(partition),
-        Err(_) => Err(WordsFault::NoMemory),
-    }
+    Ok(Partition::from_valid_numbers(alloc, numbers)?)
 }
 
 /// The partition of the numbers that are these words, the first of which is the word `at`, or their first offence.

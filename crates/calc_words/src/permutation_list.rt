@@ -46,10 +46,7 @@ fn permutation_of(alloc: Global, letters: &[u16]) -> Result<Perm, WordsFault>
     ensures ok { IfOk result (λ w. w ≡ kept letters.now) }
     ensures err { IfErr result (λ fault. fault ≡ WordsFault.NoMemory) }
 {
-    match Perm::from_valid_letters(alloc, letters) {
-        Ok(perm) => Ok(perm),
-        Err(_) => Err(WordsFault::NoMemory),
-    }
+    Ok(Perm::from_valid_letters(alloc, letters)?)
 }
 
 /// The permutation of the letters that are these words, the first of which is the word `at`, or their first offence; at most
