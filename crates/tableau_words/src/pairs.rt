@@ -84,19 +84,13 @@ fn judge_pair(
     if let Some(found) = insertion_offence(1, first) {
         return Err(offence(found.word, found.kind));
     }
-    let Ok(lengths) = row_lengths(alloc, first) else {
-        return Err(WordsFault::NoMemory);
-    };
+    let lengths = row_lengths(alloc, first)?;
     let at = 1 + text_length(first);
     if let Some(found) = recording_offence(at, lengths.as_slice(), second) {
         return Err(offence(found.word, found.kind));
     }
-    let Ok(insertion) = rows_of_tableau(alloc, first) else {
-        return Err(WordsFault::NoMemory);
-    };
-    let Ok(recording) = rows_of_tableau(alloc, second) else {
-        return Err(WordsFault::NoMemory);
-    };
+    let insertion = rows_of_tableau(alloc, first)?;
+    let recording = rows_of_tableau(alloc, second)?;
     Ok(TwoFillings {
         first: insertion,
         second: recording,

@@ -81,9 +81,7 @@ fn judge_rows(
         (first_offence (skew_offences at outer inner (map (λ r. map string_bytes r.now) rows.now))) result }
     ensures tableau { IfOk result (λ s. IsTableau s.outer s.inner (rows_of s)) }
 {
-    let Ok(lengths) = skew_lengths(alloc, outer.parts(), inner.parts()) else {
-        return Err(WordsFault::NoMemory);
-    };
+    let lengths = skew_lengths(alloc, outer.parts(), inner.parts())?;
     let found = earlier(
         skewed_number(at, rows, inner.parts()),
         left_shape(at, lengths.as_slice(), rows),
@@ -91,9 +89,7 @@ fn judge_rows(
     if let Some(found) = found {
         return Err(offence(found.word, found.kind));
     }
-    let Ok(filled) = rows_of_shape(alloc, outer.parts(), rows) else {
-        return Err(WordsFault::NoMemory);
-    };
+    let filled = rows_of_shape(alloc, outer.parts(), rows)?;
     Ok(SkewRows {
         outer,
         inner,

@@ -11,7 +11,7 @@ ghost use Rattle.tableau_words.specs.TabWords.{last_of, from_offences, all_tab_o
 use crate::pairs::rows_refusal;
 use crate::parts::tab_parts;
 use crate::skew_tableaux::rows_of_shape;
-use calc_base::{NoMemory, WordsFault};
+use calc_base::WordsFault;
 use calc_commands::Command;
 use calc_words::{Kind, behind, read_two, refused, syntax};
 use partitions::Partition;
@@ -38,13 +38,10 @@ fn judge_last(
             after: None,
         });
     }
-    let Ok(filled) = rows_of_shape(alloc, outer.parts(), rows) else {
-        return Err(WordsFault::NoMemory);
-    };
-    match lattice_reading(alloc, &outer, &inner, filled.as_slice()) {
-        Err(NoMemory) => Err(WordsFault::NoMemory),
-        Ok(None) => Err(refused(at, Kind::Shape)),
-        Ok(Some(after)) => Ok(Command::Tab {
+    let filled = rows_of_shape(alloc, outer.parts(), rows)?;
+    match lattice_reading(alloc, &outer, &inner, filled.as_slice())? {
+        None => Err(refused(at, Kind::Shape)),
+        Some(after) => Ok(Command::Tab {
             outer,
             inner,
             after: Some(after),

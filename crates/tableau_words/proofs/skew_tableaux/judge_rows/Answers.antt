@@ -21,7 +21,7 @@ returns-in-Some-clause-judged c =
     let at = c.args.at in
     let l = length-map rows (λ r. map string_bytes r.now) in
     let some : 0 < length ws = omega (arith, l, c.requires.some.0) in
-    let lengths = c.as_slice.ensures.value ∙ c.in-Ok.ensures ∙ ap (λ o. asked_lengths o c.parts-2.result.now) c.parts.ensures.value ∙ ap (asked_lengths c.args.outer) c.parts-2.ensures.value in
+    let lengths = c.as_slice.ensures.value ∙ c.in_ok-lengths.ensures ∙ ap (λ o. asked_lengths o c.parts-2.result.now) c.parts.ensures.value ∙ ap (asked_lengths c.args.outer) c.parts-2.ensures.value in
     let all =
     rows_first_offence at c.args.outer c.args.inner ws some c.requires.some.1
     ∙ ap (λ xs. earlier (first_offence (skewed 0 [] xs (rows_at at ws))) (first_offence (left_at at (asked_lengths c.args.outer c.args.inner) ws))) (sym c.parts-3.ensures.value)
@@ -39,7 +39,7 @@ returns-clause-judged c =
     let at = c.args.at in
     let l = length-map rows (λ r. map string_bytes r.now) in
     let some : 0 < length ws = omega (arith, l, c.requires.some.0) in
-    let lengths = c.as_slice.ensures.value ∙ c.in-Ok.ensures ∙ ap (λ o. asked_lengths o c.parts-2.result.now) c.parts.ensures.value ∙ ap (asked_lengths c.args.outer) c.parts-2.ensures.value in
+    let lengths = c.as_slice.ensures.value ∙ c.in_ok-lengths.ensures ∙ ap (λ o. asked_lengths o c.parts-2.result.now) c.parts.ensures.value ∙ ap (asked_lengths c.args.outer) c.parts-2.ensures.value in
     let all =
     rows_first_offence at c.args.outer c.args.inner ws some c.requires.some.1
     ∙ ap (λ xs. earlier (first_offence (skewed 0 [] xs (rows_at at ws))) (first_offence (left_at at (asked_lengths c.args.outer c.args.inner) ws))) (sym c.parts-3.ensures.value)
@@ -47,11 +47,11 @@ returns-clause-judged c =
     ∙ ap (λ o. earlier o (first_offence (left_at at c.as_slice.result.now ws))) (sym c.skewed_number.ensures)
     ∙ ap (earlier (found_of c.skewed_number.result)) (sym c.left_shape.ensures)
     ∙ sym c.earlier-found.ensures in
-    let none = all ∙ ap found_of c.in_default-found.is in (
+    let none = all ∙ ap found_of c.in_default.is in (
       (
         refl,
         refl,
-        c.in-Ok-rows_of_shape.ensures
+        c.in_ok-filled.ensures
             ∙ ap (λ o. rows_in o (map (λ r. map at_most_entry (numbers (map string_bytes r.now))) rows)) c.parts-4.ensures.value
             ∙ ap (rows_in c.args.outer) (small_rows (λ r. map string_bytes r.now) at rows (no_entry_skew at c.args.outer c.args.inner ws none)),
       ),
@@ -65,7 +65,7 @@ returns-clause-tableau c =
     let at = c.args.at in
     let l = length-map rows (λ r. map string_bytes r.now) in
     let some : 0 < length ws = omega (arith, l, c.requires.some.0) in
-    let lengths = c.as_slice.ensures.value ∙ c.in-Ok.ensures ∙ ap (λ o. asked_lengths o c.parts-2.result.now) c.parts.ensures.value ∙ ap (asked_lengths c.args.outer) c.parts-2.ensures.value in
+    let lengths = c.as_slice.ensures.value ∙ c.in_ok-lengths.ensures ∙ ap (λ o. asked_lengths o c.parts-2.result.now) c.parts.ensures.value ∙ ap (asked_lengths c.args.outer) c.parts-2.ensures.value in
     let all =
     rows_first_offence at c.args.outer c.args.inner ws some c.requires.some.1
     ∙ ap (λ xs. earlier (first_offence (skewed 0 [] xs (rows_at at ws))) (first_offence (left_at at (asked_lengths c.args.outer c.args.inner) ws))) (sym c.parts-3.ensures.value)
@@ -73,10 +73,10 @@ returns-clause-tableau c =
     ∙ ap (λ o. earlier o (first_offence (left_at at c.as_slice.result.now ws))) (sym c.skewed_number.ensures)
     ∙ ap (earlier (found_of c.skewed_number.result)) (sym c.left_shape.ensures)
     ∙ sym c.earlier-found.ensures in
-    let none = all ∙ ap found_of c.in_default-found.is in
+    let none = all ∙ ap found_of c.in_default.is in
     subst (IsTableau c.args.outer c.args.inner)
     (sym
-    (c.in-Ok-rows_of_shape.ensures
+    (c.in_ok-filled.ensures
     ∙ ap (λ o. rows_in o (map (λ r. map at_most_entry (numbers (map string_bytes r.now))) rows)) c.parts-4.ensures.value
     ∙ ap (rows_in c.args.outer) (small_rows (λ r. map string_bytes r.now) at rows (no_entry_skew at c.args.outer c.args.inner ws none)
     ∙ sym (map_twice (λ r. map string_bytes r.now) numbers rows))))
