@@ -17,3 +17,4 @@ pub mod ExpressionParts
 pub mod HookProducts
 pub mod SchurStores
 pub mod PeelingSteps
+pub mod MergedLists

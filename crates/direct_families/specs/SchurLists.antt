@@ -12,13 +12,14 @@ use Rattle.basis_change_laws.specs.JoinedLists.{Stands}
 use Rattle.basis_change.specs.declared.factors.Family.{Family}
 use Rattle.basis_change.specs.declared.factors.Family.TheVariants.{Elementary, Complete, PowerSum}
 
--- the Schur polynomial of a shape whose special rim hooks are read as h_k; that of its conjugate where they are read as e_k
+-- what a shape stands for by the family of its special rim hooks: its Schur polynomial where a hook of k cells is read as h_k, that
+-- of its conjugate where it is read as e_k; no hook is read as p_k
 abbrev pub schur_in : Family → List ℕ → ℕ → Poly
 schur_in Elementary shape = schur (conjugate shape)
 schur_in Complete shape = schur shape
 schur_in PowerSum shape = schur shape
 
--- the list is that polynomial times the factorial of the size of the shape, and is bounded by the growth
+-- the list is that polynomial times the factorial of the size, and is bounded by the growth
 abbrev pub IsSchurList : (ℕ → ℕ → Poly) → Family → List ℕ → Terms (List ℕ) → Type 0
 IsSchurList P family shape terms =
     Stands P (factorial (size shape)) (growth completes (size shape)) (size shape) (schur_in family shape) (numerators terms)

@@ -4,21 +4,42 @@ ghost use Rattle.sym_model.specs.Partition.{IsPartition, size};
 ghost use Rattle.sym_model.specs.Polynomial.{Same, scale};
 ghost use Rattle.sym_model.specs.WholeTerms.{numerators, absolute_total};
 ghost use Rattle.sparse_polys.specs.MonomialProducts.{greatest_size};
-ghost use Rattle.basis_change_laws.specs.JoinedLists.{row, joined};
+ghost use Rattle.basis_change_laws.specs.JoinedLists.{merged, row, joined};
 ghost use Rattle.monomial_expand.specs.Tables.{IsTable};
 
-use basis_change::merged;
 use calc_base::SumFault;
 use coeff_rings::{Int, Ring};
 use monomial_expand::{Whole, is_whole};
 use partitions::Partition;
-use std::alloc::Global;
+use std::alloc::{AllocError, Global};
 
 /// The product; none where it is too large.
 pub(crate) fn product_of(x: Int, y: Int) -> Option<Int>
     ensures { MatchOption result (2 ^ 127 ≤ nat_abs (x *ℤ y)) (λ z. z ≡ x *ℤ y) }
 {
     x.mul(y)
+}
+
+/// Puts the parts of both partitions into the buffer in falling order, in place of what it holds.
+fn put_merged(buffer: &mut Vec<u16>, more: &[u16], parts: &[u16]) -> Result<(), AllocError>
+    requires more { IsPartition more.now }
+    requires parts { IsPartition parts.now }
+    ensures { OnOk result (buffer.new.items ≡ merged more.now parts.now) }
+{
+    buffer.clear();
+    let mut i = 0;
+    let mut j = 0;
+    while i < more.len() && j < parts.len() {
+        if more[i] < parts[j] {
+            buffer.push(parts[j])?;
+            j += 1;
+            continue;
+        }
+        buffer.push(more[i])?;
+        i += 1;
+    }
+    buffer.extend_from_slice(&more[i..])?;
+    buffer.extend_from_slice(&parts[j..])
 }
 
 /// Adds z times the product of a label with a list. It is refused as `Large` only where the absolute values of what is there and of
@@ -39,11 +60,12 @@ fn add_row(
 {
     is_whole(sum);
     is_whole(right);
+    let mut parts = Vec::new(alloc);
     for (label, c) in right.iter() {
         let Some(product) = product_of(z, *c) else {
             return Err(SumFault::Large);
         };
-        let parts = merged(alloc, left, label.parts())?;
+        put_merged(&mut parts, left, label.parts())?;
         sum.add_term(Partition::from_valid_parts(alloc, &parts)?, product)?;
     }
     Ok(())

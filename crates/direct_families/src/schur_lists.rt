@@ -1,4 +1,5 @@
-//! Schur polynomials as lists in e, h and p, by special rim hooks. A shape is peeled once: its list is kept in a store.
+//! Schur polynomials as lists in e, h and p, by special rim hooks (Egecioglu and Remmel). A shape is peeled once: its list is kept
+//! in a store.
 ghost use Rattle.std.specs.Prelude.{◌≡◌, ◌≢◌, ℕ, ◌+◌, ◌-◌, ◌*◌, ◌<◌, ◌≤◌, ◌^◌, ◌*ℤ◌, ◌++◌, pos, length, take, drop, vec_len, IfOk, OnOk, IsErrOf};
 ghost use Rattle.sym_model.specs.Expansion.{completes};
 ghost use Rattle.sym_model.specs.Partition.{IsPartition, size};
@@ -26,7 +27,7 @@ use std::alloc::Global;
 /// The lists of shapes that were peeled.
 type Store = IndexMap<Partition, Whole>;
 
-/// The number with the sign of a special rim hook that goes through so many rows below the first of its rows.
+/// The number with the sign of a special rim hook that has so many rows below its first one.
 fn signed(below: u16, number: u128) -> Int
     requires { number < 2 ^ 127 }
     ensures { result ≡ pos number *ℤ minus_one_to below }
@@ -38,7 +39,8 @@ fn signed(below: u16, number: u128) -> Int
     }
 }
 
-/// What the special rim hook from a row down to the last one leaves: the rows above it, and each row below it a cell shorter.
+/// What the special rim hook that goes from a row, counted from 0, down to the last one leaves: the rows above, and each row below
+/// a cell shorter.
 fn left_by_hook(alloc: Global, shape: &[u16], row: usize) -> Result<Partition, NoMemory>
     requires within { row < length shape.now }
     requires partition { IsPartition shape.now }
@@ -52,7 +54,8 @@ fn left_by_hook(alloc: Global, shape: &[u16], row: usize) -> Result<Partition, N
     Partition::from_valid_numbers(alloc, &parts)
 }
 
-/// The list of a shape.
+/// The list of a shape: over its special rim hooks, the sum of the list of the hook's cells times that of what the hook leaves,
+/// with the hook's sign. Each summand is brought over the factorial of the size, and that of no rows is 1.
 #[cycle(peeling)]
 fn list_of(
     alloc: Global,
@@ -122,7 +125,7 @@ fn index_of(
     put(target, family, store, shape, list)
 }
 
-/// Puts in the list of a shape, and gives its index.
+/// Puts the list of a shape into the store, and gives its index.
 fn put(
     target: Family,
     family: Family,
@@ -174,7 +177,7 @@ fn own_lists(alloc: Global, target: Family, d: u16) -> Result<Vec<Whole>, SumFau
     Ok(lists)
 }
 
-/// The lists of e_k or h_k times k! in the target.
+/// e_k or h_k times k!, up to d, each at its place as a list in the target.
 fn hook_lists(alloc: Global, target: Family, family: Family, d: u16) -> Result<Vec<Whole>, SumFault>
     requires hooks { family ≢ Family.PowerSum }
     requires low { d ≤ 20 }
@@ -188,8 +191,8 @@ fn hook_lists(alloc: Global, target: Family, family: Family, d: u16) -> Result<V
     factor_lists(alloc, target, family, d)
 }
 
-/// The list in the target of the Schur polynomial of a shape, its special rim hooks read as h_k, or that of its conjugate, with
-/// hooks read as e_k.
+/// The list in the target of the Schur polynomial of a shape, where its special rim hooks are read as h_k; where they are read as
+/// e_k, it is that of the conjugate shape. It is refused as `Large` only where the growth is 2^127 or more.
 pub(crate) fn schur_list(
     alloc: Global,
     target: Family,

@@ -3,6 +3,7 @@ use Rattle.std.specs.Prelude.{nat_abs}
 use Rattle.std.specs.Map.Iter.{deref_pair}
 use Rattle.std.proofs.lemmas.List.{map-append}
 use Rattle.coeff_rings.specs.Fractions.{whole}
+use Rattle.sym_model.specs.Partition.{IsPartition}
 use Rattle.sym_model.specs.Polynomial.{Same, coefficient}
 use Rattle.sym_model.specs.WholeTerms.{numerators, absolute_total}
 use Rattle.partitions.specs.Limits.{IsWithinLimits}
@@ -38,7 +39,7 @@ from_valid_parts-requires c =
     list_whole whole (map deref_pair c.loop-label.yielded) c.next.new.self c.loop-label.label-iterator _ _ c.in-Some.label.now c.in-Some.c.now c.args.right.now
     c.in-Some.ensures.steps c.loop-label.invariant.so_far c.into_iter-label-iterator.ensures.into_iter_gives c.iter-label-items.ensures.rest in
     let l = label_of c.args.right.now (map deref_pair c.loop-label.yielded) c.next.new.self c.in-Some.label.now c.in-Some.c.now (greatest_size c.args.right.now) c.is_whole-2.ensures.table (λ t m. greatest_size-among c.args.right.now t m) all in
-    subst IsWithinLimits (sym (c.deref.ensures.value ∙ c.in_ok-parts.ensures ∙ ap (merged c.args.left.now) c.parts.ensures.value))
+    subst IsWithinLimits (sym (c.deref.ensures.value ∙ c.in_ok-put_merged.ensures ∙ ap (merged c.args.left.now) c.parts.ensures.value))
     (limits-merged c.args.left.now c.in-Some.label.now (greatest_size c.args.right.now) c.requires.left l.0 l.1 c.requires.low)
 
 pub returns-in_err-add_term-clause-large : goal.returns-in_err-add_term-clause-large
@@ -63,7 +64,7 @@ loop-label-preserved c =
     let v = c.in-Some.c.now in
     let old = c.loop-label.sum in
     let new = c.add_term.new.self in
-    let label = c.in_ok-from_valid_parts.ensures.ok ∙ c.deref.ensures.value ∙ c.in_ok-parts.ensures ∙ ap (merged c.args.left.now) c.parts.ensures.value in
+    let label = c.in_ok-from_valid_parts.ensures.ok ∙ c.deref.ensures.value ∙ c.in_ok-put_merged.ensures ∙ ap (merged c.args.left.now) c.parts.ensures.value in
     let pushed : done ++ (k, v) ∷ [] ≡ map deref_pair (c.loop-label.yielded ++ (c.in-Some.label, c.in-Some.c) ∷ []) =
     sym (map-append deref_pair c.loop-label.yielded ((c.in-Some.label, c.in-Some.c) ∷ [])) in
     record {
@@ -84,3 +85,6 @@ returns-clause-value c =
     let all : numerators (terms_of whole (map deref_pair c.loop-label.yielded)) ≡ numerators c.args.right.now = ap numerators (ap (terms_of whole) entries ∙ c.iter-label-items.ensures.rest) in
     subst (λ es. Same (numerators c.loop-label.sum) (numerators c.args.sum.now ++ row c.args.left.now c.args.z es)) (sym (numerators-terms done) ∙ all)
     (Same-from_look_ups c.loop-label.sum (numerators c.args.sum.now ++ row c.args.left.now c.args.z done) c.loop-label.invariant.table c.loop-label.invariant.finds)
+
+pub put_merged-requires-clause-parts : goal.put_merged-requires-clause-parts
+put_merged-requires-clause-parts c = subst IsPartition (sym c.parts.ensures.value) c.parts.ensures.limits.partition
