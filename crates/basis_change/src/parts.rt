@@ -1,5 +1,5 @@
 //! Partitions with parts put in and raised, and numbers that belong to a partition.
-ghost use Rattle.std.specs.Prelude.{◌≡◌, ◌+◌, ◌<◌, ◌≤◌, ◌^◌, ◌∷◌, true, ℕ, List, length, IfOk, OnOk};
+ghost use Rattle.std.specs.Prelude.{◌≡◌, ◌+◌, ◌<◌, ◌≤◌, ◌^◌, ◌∷◌, true, ℕ, List, length, insert, IfOk, OnOk};
 ghost use Rattle.sym_model.specs.Bases.{has};
 ghost use Rattle.sym_model.specs.Partition.{insert_part, ArePositive, IsPartition};
 ghost use Rattle.sym_model.specs.RaisedPart.{raise, without_one};
@@ -19,15 +19,25 @@ pub(crate) fn copy_of(alloc: Global, parts: &[u16]) -> Result<Vec<u16>, AllocErr
     Ok(copy)
 }
 
-/// Puts a part into its place.
-pub(crate) fn insert_part(parts: &mut Vec<u16>, part: u16) -> Result<(), AllocError>
+/// The place of the first part that is not greater than the number.
+fn place_of(parts: &[u16], part: u16) -> usize
     requires { 0 < part }
-    ensures { OnOk result (parts.new.items ≡ insert_part part parts.old.items) }
+    ensures within { result ≤ length parts.now }
+    ensures place { insert parts.now result part ≡ insert_part part parts.now }
 {
     let mut at = 0;
     while at < parts.len() && parts[at] > part {
         at += 1;
     }
+    at
+}
+
+/// Puts a part into its place.
+pub(crate) fn insert_part(parts: &mut Vec<u16>, part: u16) -> Result<(), AllocError>
+    requires { 0 < part }
+    ensures { OnOk result (parts.new.items ≡ insert_part part parts.old.items) }
+{
+    let at = place_of(parts.as_slice(), part);
     parts.insert(at, part)?;
     Ok(())
 }

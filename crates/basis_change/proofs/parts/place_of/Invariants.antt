@@ -1,10 +1,10 @@
 use Rattle.std.proofs.Common.{◌≡◌, ◌++◌, ◌-◌, ◌≤◌, take, drop, length}
 use Rattle.sym_model.specs.Partition.{insert_part}
-use Rattle.basis_change.proofs.parts.insert_part.Given as goal
+use Rattle.basis_change.proofs.parts.place_of.Given as goal
 
 -- what was passed is greater
 abbrev pub invariant-loop-at : goal.invariant-loop-at
-invariant-loop-at l = (insert_part l.part l.parts.items ≡ take l.at l.parts.items ++ insert_part l.part (drop l.at l.parts.items)) × (l.at ≤ length l.parts.items)
+invariant-loop-at l = (insert_part l.part l.parts ≡ take l.at l.parts ++ insert_part l.part (drop l.at l.parts)) × (l.at ≤ length l.parts)
 
 abbrev pub decreases-loop-at : goal.decreases-loop-at
-decreases-loop-at l = length l.parts.items - l.at
+decreases-loop-at l = length l.parts - l.at
