@@ -1,5 +1,5 @@
 -- The answer times its common denominator: whole numbers, which add up to no more than the converted terms.
-use Rattle.std.proofs.Common.{◌≡◌, ◌⊎◌, ℕ, zero, suc, ◌+◌, ◌*◌, ◌/◌, ◌%◌, ◌<◌, ◌≤◌, Bool, true, false, cond, List, [], ◌∷◌, map, sym, ◌∙◌, ap, ap₂, subst, refl, inl, inr, arith, ℤ, pos, ◌+ℤ◌, ◌*ℤ◌}
+use Rattle.std.proofs.Common.{◌≡◌, ◌⊎◌, ℕ, zero, suc, ◌+◌, ◌*◌, ◌/◌, ◌<◌, ◌≤◌, Bool, true, false, cond, List, [], ◌∷◌, map, sym, ◌∙◌, ap, ap₂, subst, refl, inl, inr, arith, ℤ, pos, ◌+ℤ◌}
 use Rattle.std.specs.Prelude.{nat_abs}
 use Rattle.std.specs.Int.{◌∣◌}
 use Rattle.std.proofs.lemmas.Int.{ints, unsigned_abs-mul}
@@ -28,7 +28,6 @@ use Rattle.monomial_expand.specs.Tables.{IsTable}
 use Rattle.monomial_expand.specs.LabelSizes.{AreWithin}
 use Rattle.monomial_expand.proofs.WholeLists.{found-among, Once-keys}
 use Rattle.monomial_expand.proofs.Quotients.{Quotients, lowest-zero}
-use Rattle.basis_change.specs.declared.mixed.MixedLabel.{MixedLabel}
 use Rattle.basis_change.specs.Mixed.{Mixed, weight, unready, AreReady, converted_terms}
 use Rattle.basis_change.specs.ClearedAnswer.{IsClearedBy}
 use Rattle.basis_change.proofs.Walks.{ready_label}

@@ -20,3 +20,4 @@ pub mod StraightTerms
 pub mod MultinomialSums
 pub mod StraightBounds
 pub mod StraightValues
+pub mod WholeSteps

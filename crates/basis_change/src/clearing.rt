@@ -1,5 +1,9 @@
-//! A list of terms in m with its fractions cleared, in augmented monomials.
+//! A list of terms with its fractions cleared: with whole coefficients, and a list in m in augmented monomials.
 ghost use Rattle.std.specs.Prelude.{◌≡◌, ℕ, ◌+◌, ◌*◌, ◌/◌, ◌^◌, ◌<◌, ◌≤◌, [], ◌∷◌, pos, nat_abs, MatchOption, IfOk, OnOk, IsErrOf};
+ghost use Rattle.sym_model.specs.ListWeight.{absolute_sum};
+ghost use Rattle.sym_model.specs.Polynomial.{Same};
+ghost use Rattle.sym_model.specs.WholeTerms.{numerators};
+ghost use Rattle.monomial_laws.specs.ExpressionTerms.{over};
 ghost use Rattle.basis_change_laws.specs.AugmentedMonomial.{multiplicity_factorials};
 ghost use Rattle.monomial_expand.specs.LabelSizes.{AreWithin};
 ghost use Rattle.monomial_expand.specs.Tables.{IsTable};
@@ -13,6 +17,7 @@ use crate::table::{Mixed, add};
 use calc_base::SumFault;
 use coeff_rings::{Frac, Int, Ring};
 use indexmap::IndexMap;
+use monomial_expand::{Whole, is_whole};
 use partitions::Partition;
 use sparse_polys::Lin;
 use std::alloc::Global;
@@ -58,9 +63,10 @@ pub fn numerator_of(c: Frac) -> Int
 }
 
 /// The denominator.
-fn denominator_of(c: Frac) -> u128
+pub fn denominator_of(c: Frac) -> u128
     ensures value { result ≡ c.1 }
     ensures positive { 0 < c.1 }
+    ensures low { c.1 < 2 ^ 127 }
 {
     c.den() as u128
 }
@@ -72,6 +78,25 @@ pub fn scaled_number(c: Frac, den: u128) -> Option<Int>
 {
     let scale = den / denominator_of(c);
     numerator_of(c).mul(whole_of(scale))
+}
+
+/// The list times the number, each coefficient over its own denominator. It is refused as `Large` only where the absolute values
+/// come to 2^127 or more.
+pub fn whole_terms(alloc: Global, list: &Lin<Partition, Frac>, den: u128) -> Result<Whole, SumFault>
+    requires { den < 2 ^ 127 }
+    ensures value { IfOk result (λ terms. Same (numerators terms) (over den list.now)) }
+    ensures large { IsErrOf result SumFault.Large → 2 ^ 127 ≤ absolute_sum den list.now }
+{
+    is_table(list);
+    let mut terms = Lin::new(alloc);
+    is_whole(&terms);
+    for (label, c) in list.iter() {
+        let Some(number) = scaled_number(*c, den) else {
+            return Err(SumFault::Large);
+        };
+        terms.add_term(label.copy()?, number)?;
+    }
+    Ok(terms)
 }
 
 /// The coefficient times the common denominator, times `factor` over the factorials of the multiplicities; none where it is too

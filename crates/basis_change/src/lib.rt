@@ -15,6 +15,8 @@ mod straightening;
 mod table;
 
 pub use change::to_basis;
-pub use clearing::{greatest_size, is_table, numerator_of, scaled_number, whole_of};
+pub use clearing::{
+    denominator_of, greatest_size, is_table, numerator_of, scaled_number, whole_of, whole_terms,
+};
 pub use factors::{Family, is_negative};
 pub use parts::{factorial, merged};

@@ -51,7 +51,7 @@ two_denominators q r (t ∷ terms) n φ h k =
     (two_denominators q r terms n φ (λ u m. h u (inr m)) (λ u m. k u (inr m)))
 
 -- from D·X = q·Y and d·Y = D·f follows d·X = q·f
-through : (D q d : ℕ) (X Y f : ℤ) → 0 < D → pos D *ℤ X ≡ pos q *ℤ Y → pos d *ℤ Y ≡ pos D *ℤ f → pos d *ℤ X ≡ pos q *ℤ f
+pub through : (D q d : ℕ) (X Y f : ℤ) → 0 < D → pos D *ℤ X ≡ pos q *ℤ Y → pos d *ℤ Y ≡ pos D *ℤ f → pos d *ℤ X ≡ pos q *ℤ f
 through D q d X Y f some e h =
     product_cancel (pos d *ℤ X) (pos q *ℤ f) D some
     (*ℤ_comm (pos d *ℤ X) (pos D) ∙ product_left_comm (pos D) (pos d) X ∙ ap (λ z. pos d *ℤ z) e ∙ product_left_comm (pos d) (pos q) Y

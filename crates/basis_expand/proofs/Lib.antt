@@ -5,3 +5,4 @@ mod Expressions
 mod ListProducts
 mod OneTerms
 mod Factors
+mod InMonomials

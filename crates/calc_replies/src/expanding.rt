@@ -12,7 +12,7 @@ ghost use Rattle.calc_replies.specs.Computed.{IsReplyTo};
 use crate::form::asked_form;
 use crate::outcome::Outcome;
 use basis_change::{Family, to_basis};
-use basis_expand::to_schur;
+use basis_expand::{to_monomial_by_schurs, to_schur};
 use calc_base::{NoMemory, SumFault};
 use calc_language::{Basis, Formula};
 use coeff_rings::Frac;
@@ -73,7 +73,7 @@ fn in_target(
     ensures large { IsErrOf result SumFault.Large → 2 ^ 127 ≤ weight (basis_of target) (tree_of formula.now.tree) }
 {
     match target {
-        Basis::M => by_monomials(alloc, Basis::M, formula),
+        Basis::M => to_monomial_by_schurs(alloc, formula),
         Basis::E => by_family(alloc, Basis::E, Family::Elementary, formula),
         Basis::H => by_family(alloc, Basis::H, Family::Complete, formula),
         Basis::P => by_family(alloc, Basis::P, Family::PowerSum, formula),
@@ -113,9 +113,6 @@ fn by_monomials(
     ensures large { IsErrOf result SumFault.Large → 2 ^ 127 ≤ weight (basis_of target) (tree_of formula.now.tree) }
 {
     let list = to_monomial(alloc, formula)?;
-    if target == Basis::M {
-        return Ok(list);
-    }
     let Some(bound) = formula.weight() else {
         return Err(SumFault::Large);
     };

@@ -6,7 +6,6 @@ pub mod PowerSteps
 pub mod AtomLists
 pub mod AtomNodes
 pub mod ClearedLists
-pub mod WholeSteps
 pub mod Nodes
 pub mod NodeSums
 pub mod Endings

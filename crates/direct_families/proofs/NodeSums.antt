@@ -21,7 +21,7 @@ use Rattle.direct_families.specs.Nodes.{ClearsTo, IsConverted}
 use Rattle.basis_change_laws.proofs.JoinedLists.{absolute-append, absolute-scale, stands-plus, stands-scale, stands-raised, stands-weaken, stands-same}
 use Rattle.basis_change_laws.proofs.GrowthBounds.{grown, grown-raised, grown-positive}
 use Rattle.basis_change_laws.proofs.NewtonLists.{scale-scale}
-use Rattle.direct_families.proofs.RowSteps.{coefficient-few}
+use Rattle.basis_change.proofs.WholeSteps.{coefficient-few}
 use Rattle.direct_families.proofs.TableLists.{table-stands}
 use Rattle.direct_families.proofs.Nodes.{failed, growth-within_weight, denominator-within_weight}
 use native.Mathlib.Nat.{mul-le-mul_left, mul-pos}

@@ -24,7 +24,7 @@ use Rattle.direct_families.specs.Nodes.{ClearsTo, IsConverted}
 use Rattle.basis_change_laws.proofs.JoinedLists.{absolute-scale, stands-product, stands-scale, stands-same}
 use Rattle.basis_change_laws.proofs.GrowthBounds.{grown, grown-product, grown-mono, grown-positive, factorial-within}
 use Rattle.direct_families.proofs.NewtonSteps.{stands-greatest}
-use Rattle.direct_families.proofs.RowSteps.{coefficient-few}
+use Rattle.basis_change.proofs.WholeSteps.{coefficient-few}
 use Rattle.direct_families.proofs.TableLists.{table-stands}
 use native.Mathlib.Nat.{mul-le-mul_left, mul-le-mul_right, mul-pos}
 

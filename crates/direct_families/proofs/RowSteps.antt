@@ -31,6 +31,7 @@ use Rattle.basis_change_laws.specs.JoinedLists.{merged}
 use Rattle.basis_change_laws.proofs.MergedParts.{IsPartition-merged, size-merged}
 use Rattle.sym_model.proofs.Polynomials.{coefficient_plus}
 use Rattle.basis_change_laws.specs.JoinedLists.{row, joined}
+use Rattle.basis_change.proofs.WholeSteps.{coefficient-few}
 use Rattle.direct_families.proofs.TableLists.{table-few}
 use Rattle.basis_change_laws.proofs.JoinedLists.{absolute-append, absolute-scale, absolute-joined}
 
@@ -69,15 +70,6 @@ pub finds-row : (old new : Terms (List ℕ)) (S : WholeTerms) (left : List ℕ) 
     → HasMoreAt equal old (merged left k) (whole (z *ℤ v)) new → Finds new (S ++ row left z (done ++ (k, v) ∷ []))
 finds-row old new S left z done k v h m = subst (Finds new) (row-next S left z done k v) (Finds-next old new (S ++ row left z done) (merged left k) (z *ℤ v) h m)
 
--- no coefficient is greater than all together
-pub coefficient-few : (W : WholeTerms) (ν : List ℕ) → nat_abs (coefficient W ν) ≤ absolute_total W
-coefficient-few [] ν = omega arith
-coefficient-few (t ∷ W) ν = let r = coefficient-few W ν in let s = one (same t.0 ν) (coefficient W ν) in omega arith
-  where
-    one : (b : Bool) (c : ℤ) → nat_abs (cond b t.1 (pos 0) +ℤ c) ≤ nat_abs t.1 + nat_abs c
-    one true c = omega (arith, ints)
-    one false c = omega (arith, ints)
-
 pub absolute-row : (left : List ℕ) (z : ℤ) (V : WholeTerms) → absolute_total (row left z V) ≡ nat_abs z * absolute_total V
 absolute-row left z [] = omega arith
 absolute-row left z (t ∷ V) = let u = unsigned_abs-mul z t.1 in let r = absolute-row left z V in omega arith
@@ -106,9 +98,6 @@ large-factor s z done rest k v V e h =
     let g = absolute-append done ((k, v) ∷ rest) in
     let m : nat_abs z * nat_abs v ≤ nat_abs z * absolute_total V = mul-le (nat_abs z) (nat_abs v) (nat_abs z) (absolute_total V) (omega arith) (omega arith) in
     omega arith
-
-pub refused-sum : (old : Terms (List ℕ)) (W : WholeTerms) (ν : List ℕ) (c : ℤ) → Finds old W → IsRefused (FitsSigned w128) whole (λ (x y : ℤ). checked_i128 (x +ℤ y)) (found old ν) (whole c) → 2 ^ 127 ≤ nat_abs (coefficient W ν +ℤ c)
-refused-sum old W ν c h r = IsRefused-size ◌+ℤ◌ (coefficient W ν) c (subst (λ (x : Fraction). IsRefused (FitsSigned w128) whole (λ (x y : ℤ). checked_i128 (x +ℤ y)) x (whole c)) (h ν) r)
 
 -- ---- a list times a list
 

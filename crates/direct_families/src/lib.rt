@@ -10,6 +10,5 @@ mod node;
 mod operations;
 mod products;
 mod schur_lists;
-mod whole_terms;
 
 pub use expansion::to_family;

@@ -12,4 +12,5 @@ pub mod TreeFacts
 pub mod StripLists
 pub mod StripTerms
 pub mod StripTables
+pub mod SchurSums
 pub mod ContentCounts

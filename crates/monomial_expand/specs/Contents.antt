@@ -4,9 +4,9 @@ use Rattle.sym_model.specs.Polynomial.{coefficient, pair}
 use Rattle.sym_model.specs.WholeTerms.{WholeTerms}
 use Rattle.schur_laws.specs.Kostka.{kostka}
 
--- the parts fall from the largest one on, none is 0, and they add up to what is left
+-- the parts fall from the largest one on, none is 0, and they add up to no more than what is left
 abbrev pub IsContent : ℕ → ℕ → List ℕ → Type 0
-IsContent largest left [] = left ≡ 0
+IsContent largest left [] = Unit {0}
 IsContent largest left (part ∷ rest) = ((0 < part) × (part ≤ largest) × (part ≤ left)) × IsContent part (left - part) rest
 
 -- with so many ways to each shape of the list, these are the ways to take the first shape off with this content and any

@@ -15,4 +15,5 @@ mod whole;
 pub use denominators::{Common, common_denominator, denominator_product};
 pub use division::divided;
 pub use expansion::{atom_to_monomial, to_monomial};
+pub use schur::schurs_to_monomials;
 pub use whole::{Whole, is_whole, single, sum_of};

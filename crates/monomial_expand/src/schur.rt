@@ -1,33 +1,34 @@
 //! Schur polynomials as lists of terms in m: the coefficient of a partition is the number of ways in which the shape is
-//! taken off by horizontal strips with so many cells as the parts. All partitions are made in one walk, part by part.
+//! taken off by horizontal strips with so many cells as the parts. All partitions are made in one walk, part by part, and for
+//! all shapes of a list together.
 ghost use Rattle.std.specs.Prelude.{◌≡◌, ℕ, ℤ, pos, ◌≤ℤ◌, ◌≤◌, ◌^◌, [], ◌∷◌, ◌++◌, List, IfOk, OnOk, IsErrOf};
 ghost use Rattle.sym_model.specs.Expansion.{monomials};
 ghost use Rattle.sym_model.specs.Partition.{IsPartition, size};
 ghost use Rattle.sym_model.specs.Polynomial.{Same, coefficient};
 ghost use Rattle.sym_model.specs.Schur.{schur};
 ghost use Rattle.sym_model.specs.Weight.{growth};
-ghost use Rattle.sym_model.specs.WholeTerms.{numerators};
+ghost use Rattle.sym_model.specs.WholeTerms.{combined, numerators};
 ghost use Rattle.partitions.specs.Limits.{IsWithinLimits};
 ghost use Rattle.monomial_laws.specs.ExpressionTerms.{IsList};
 ghost use Rattle.monomial_expand.specs.Contents.{CountsContents, HasNoneBehind, IsContent, Leads};
+ghost use Rattle.monomial_expand.specs.LabelSizes.{AreWithin};
 ghost use Rattle.monomial_expand.specs.Large.{HasLarge};
 ghost use Rattle.monomial_expand.specs.Strips.{terms_at, strip_terms, AreNatural, ArePartitions};
 
 use crate::strips::strips_off;
 use crate::whole::{Whole, is_whole, single};
 use calc_base::{NoMemory, SumFault};
-use coeff_rings::Int;
+use coeff_rings::{Int, Scalar};
 use partitions::Partition;
 use sparse_polys::Lin;
 use std::alloc::Global;
 
-/// Adds the shapes to the list, each with the coefficient, which is not negative.
+/// Adds the shapes to the list, each with the coefficient.
 fn add_each(list: &mut Whole, shapes: Vec<Partition>, c: Int) -> Result<(), SumFault>
-    requires shapes { ArePartitions shapes.items }
-    requires natural { pos 0 ≤ℤ c }
-    requires list { (label : List ℕ) → pos 0 ≤ℤ coefficient (numerators list.old) label }
+    requires { ArePartitions shapes.items }
     ensures value { OnOk result (Same (numerators list.new) (numerators list.old ++ terms_at c shapes.items)) }
-    ensures large { IsErrOf result SumFault.Large → HasLarge (numerators list.old ++ terms_at c shapes.items) }
+    ensures large { IsErrOf result SumFault.Large → pos 0 ≤ℤ c → ((label : List ℕ) → pos 0 ≤ℤ coefficient (numerators list.old) label)
+        → HasLarge (numerators list.old ++ terms_at c shapes.items) }
 {
     is_whole(list);
     for shape in shapes {
@@ -36,12 +37,12 @@ fn add_each(list: &mut Whole, shapes: Vec<Partition>, c: Int) -> Result<(), SumF
     Ok(())
 }
 
-/// What is left of each shape when a horizontal strip of k cells is taken off. No coefficient is negative.
+/// What is left of each shape when a horizontal strip of k cells is taken off.
 fn stripped(alloc: Global, terms: &Whole, k: u16) -> Result<Whole, SumFault>
-    requires { AreNatural (numerators terms.now) }
     ensures value { IfOk result (λ list. Same (numerators list) (strip_terms k (numerators terms.now))) }
-    ensures natural { IfOk result (λ list. AreNatural (numerators list)) }
-    ensures large { IsErrOf result SumFault.Large → HasLarge (strip_terms k (numerators terms.now)) }
+    ensures natural { AreNatural (numerators terms.now) → IfOk result (λ list. AreNatural (numerators list)) }
+    ensures large { IsErrOf result SumFault.Large → AreNatural (numerators terms.now)
+        → HasLarge (strip_terms k (numerators terms.now)) }
 {
     is_whole(terms);
     let mut list = Lin::new(alloc);
@@ -61,7 +62,7 @@ fn with_part(alloc: Global, parts: &[u16], part: u16) -> Result<Vec<u16>, NoMemo
     Ok(longer)
 }
 
-/// Adds the label of the chosen parts, with the number of ways to the empty shape.
+/// Adds the label of the chosen parts, with the number of ways to the empty shape, where there are any.
 fn add_content(
     alloc: Global,
     terms: &Whole,
@@ -70,22 +71,26 @@ fn add_content(
 ) -> Result<(), SumFault>
     requires limits { IsWithinLimits chosen.now }
     requires fresh { HasNoneBehind chosen.now (numerators list.old) }
-    ensures counted { (largest : ℕ) → OnOk result
-        (CountsContents (numerators terms.now) chosen.now largest 0 (numerators list.old) (numerators list.new)) }
+    ensures counted { (left : ℕ) → OnOk result
+        (CountsContents (numerators terms.now) chosen.now 0 left (numerators list.old) (numerators list.new)) }
     ensures small { ¬ IsErrOf result SumFault.Large }
 {
     is_whole(terms);
     is_whole(list);
     let nothing = Partition::from_valid_parts(alloc, &[])?;
+    let ways = terms.coefficient(&nothing);
+    if ways.is_zero() {
+        return Ok(());
+    }
     let label = Partition::from_valid_parts(alloc, chosen)?;
-    list.add_term(label, terms.coefficient(&nothing))
+    list.add_term(label, ways)
 }
 
-/// Adds each content that begins with the chosen parts and goes on with parts of `left` cells, none above the largest, with the
-/// number of ways to take the terms off with what goes on.
+/// Adds each content that begins with the chosen parts and goes on with parts of at most `left` cells, none above the largest,
+/// with the number of ways to take the terms off with what goes on.
 ///
-/// The terms are what is left when strips of the chosen parts are taken off a shape. So contents that begin alike share these
-/// steps, and none is made on whose way no shape is left.
+/// The terms are what is left when strips of the chosen parts are taken off the shapes of a list. So contents that begin alike
+/// share these steps, and none is made on whose way no shape is left.
 fn add_contents(
     alloc: Global,
     terms: &Whole,
@@ -94,18 +99,15 @@ fn add_contents(
     left: u16,
     list: &mut Whole,
 ) -> Result<(), SumFault>
-    requires natural { AreNatural (numerators terms.now) }
     requires limits { (rest : List ℕ) → IsContent largest left rest → IsWithinLimits (chosen.now ++ rest) }
     requires low { left ≤ 512 }
     requires fresh { HasNoneBehind chosen.now (numerators list.old) }
     ensures counted { OnOk result
         (CountsContents (numerators terms.now) chosen.now largest left (numerators list.old) (numerators list.new)) }
-    ensures large { IsErrOf result SumFault.Large → (shape content : List ℕ) → IsPartition shape
+    ensures large { IsErrOf result SumFault.Large → AreNatural (numerators terms.now) → (shape content : List ℕ) → IsPartition shape
         → Leads shape content (numerators terms.now) → 2 ^ 127 ≤ growth monomials (size shape) }
 {
-    if left == 0 {
-        return add_content(alloc, terms, chosen, list);
-    }
+    add_content(alloc, terms, chosen, list)?;
     for part in 1..largest.min(left) + 1 {
         let next = stripped(alloc, terms, part)?;
         if next.is_empty() {
@@ -128,5 +130,19 @@ pub(crate) fn schur(alloc: Global, label: &Partition) -> Result<Whole, SumFault>
     let mut list = Lin::new(alloc);
     let cells = label.size();
     add_contents(alloc, &terms, &[], cells, cells, &mut list)?;
+    Ok(list)
+}
+
+/// A list of terms in Schur polynomials, of which none has more cells than `cells`, as a list in m: of each partition of at most so
+/// many cells, the sum over the terms of the coefficient times the Kostka number (Macdonald, I.6). It is refused as `Large` where
+/// a number on the way is too large.
+pub fn schurs_to_monomials(alloc: Global, terms: &Whole, cells: u16) -> Result<Whole, SumFault>
+    requires within { AreWithin cells terms.now }
+    requires low { cells ≤ 512 }
+    ensures { IfOk result (λ list. IsList (numerators list) (λ n. combined (λ label. schur label n) (numerators terms.now))) }
+{
+    is_whole(terms);
+    let mut list = Lin::new(alloc);
+    add_contents(alloc, terms, &[], cells, cells, &mut list)?;
     Ok(list)
 }

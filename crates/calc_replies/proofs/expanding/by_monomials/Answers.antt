@@ -15,13 +15,6 @@ returns-in_err-list-clause-large c =
     let p = err_from_is_err_and c.from_residual.result c.from_residual.ensures.1 in
     rw (p.1, p.2) (λ is. heavy_for_m (basis_of c.args.target) (tree_of c.args.formula.now.tree) (c.in_err-list.ensures.large is))
 
-pub returns-then-eq-clause-expands : goal.returns-then-eq-clause-expands
-returns-then-eq-clause-expands c =
-    let e = tree_of c.args.formula.now.tree in
-    let is : c.args.target ≡ letters.M = search (rules, tests) in
-    let P : Letter → Type 0 = λ t. (n : ℕ) → IsExpansionOf (basis_of t) c.in_ok-list.list n (cleared_value e n) (denominator e) in
-    subst P (sym is) c.in_ok-list.ensures.value
-
 pub returns-in_default-clause-large : goal.returns-in_default-clause-large
 returns-in_default-clause-large c = λ is.
     let e = c.args.formula.now in

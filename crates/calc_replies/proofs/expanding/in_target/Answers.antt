@@ -21,10 +21,10 @@ large : {a b : Letter} → a ≡ b → (t : Expr) (r : Result (Terms (List ℕ))
 large e t r h = subst (λ l. IsErrOf r Large → 2 ^ 127 ≤ weight (basis_of l) (tree_of t)) e h
 
 pub returns-in-M-clause-expands : goal.returns-in-M-clause-expands
-returns-in-M-clause-expands c = expands (sym c.in-M.is) c.args.formula.now.tree c.by_monomials.result c.by_monomials.ensures.expands
+returns-in-M-clause-expands c = expands (sym c.in-M.is) c.args.formula.now.tree c.to_monomial_by_schurs.result c.to_monomial_by_schurs.ensures.value
 
 pub returns-in-M-clause-large : goal.returns-in-M-clause-large
-returns-in-M-clause-large c = large (sym c.in-M.is) c.args.formula.now.tree c.by_monomials.result c.by_monomials.ensures.large
+returns-in-M-clause-large c = large (sym c.in-M.is) c.args.formula.now.tree c.to_monomial_by_schurs.result c.to_monomial_by_schurs.ensures.large
 
 pub returns-in-E-clause-expands : goal.returns-in-E-clause-expands
 returns-in-E-clause-expands c = expands (sym c.in-E.is) c.args.formula.now.tree c.by_family.result c.by_family.ensures.expands

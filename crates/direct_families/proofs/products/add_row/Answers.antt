@@ -15,7 +15,8 @@ use Rattle.monomial_expand.proofs.WholeLists.{Finds, more_as, Same-from_look_ups
 use Rattle.sparse_polys.proofs.Coefficients.{numerators-terms}
 use Rattle.basis_change_laws.specs.JoinedLists.{merged}
 use Rattle.basis_change_laws.specs.JoinedLists.{row}
-use Rattle.direct_families.proofs.RowSteps.{finds-itself, finds-row, label_of, limits-merged, large-row, large-factor, refused-sum}
+use Rattle.basis_change.proofs.WholeSteps.{refused-sum}
+use Rattle.direct_families.proofs.RowSteps.{finds-itself, finds-row, label_of, limits-merged, large-row, large-factor}
 use Rattle.direct_families.proofs.products.add_row.Goals as goal
 
 pub loop-label-init : goal.loop-label-init

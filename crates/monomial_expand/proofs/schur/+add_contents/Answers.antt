@@ -4,19 +4,19 @@ use Rattle.partitions.specs.Limits.{IsWithinLimits}
 use Rattle.sparse_polys.proofs.Steps.{error_is}
 use Rattle.monomial_expand.specs.Contents.{CountsContents}
 use Rattle.monomial_expand.proofs.StripTables.{leads-next, large-lead}
-use Rattle.monomial_expand.proofs.ContentCounts.{counts-none, counts-missed, counts-step, counts-all, limits-longer, fresh-longer, no_terms}
+use Rattle.monomial_expand.proofs.ContentCounts.{counts-missed, counts-step, counts-all, limits-longer, fresh-longer, no_terms}
 use Rattle.monomial_expand.proofs.schur.+add_contents.Goals as goal
 
 pub add_content-requires-clause-limits : goal.add_content-requires-clause-limits
-add_content-requires-clause-limits t c = subst IsWithinLimits (append-nil c.args.chosen.now) (c.requires.limits [] c.if-left-eq0.true)
+add_content-requires-clause-limits t c = subst IsWithinLimits (append-nil c.args.chosen.now) (c.requires.limits [] tt)
 
 pub loop-part-init : goal.loop-part-init
-loop-part-init t c = counts-none (numerators c.args.terms.now) c.args.chosen.now c.args.left (numerators c.args.list.now) c.if-left-eq0.false
+loop-part-init t c = c.in_ok-add_content.ensures.counted c.args.left
 
 pub returns-in_err-next-clause-large : goal.returns-in_err-next-clause-large
-returns-in_err-next-clause-large t c = λ large shape content p leads.
-    large-lead shape content c.loop-part.part (numerators c.args.terms.now) p c.requires.natural leads
-    (c.in_err-next.ensures.large (ap Err (error_is _ _ _ c.from_residual.ensures.1 large)))
+returns-in_err-next-clause-large t c = λ large natural shape content p leads.
+    large-lead shape content c.loop-part.part (numerators c.args.terms.now) p natural leads
+    (c.in_err-next.ensures.large (ap Err (error_is _ _ _ c.from_residual-in_err-next.ensures.1 large)) natural)
 
 pub loop-part-preserved-then-is_empty : goal.loop-part-preserved-then-is_empty
 loop-part-preserved-then-is_empty t c =
@@ -34,25 +34,21 @@ add_contents-requires t c =
     let from = c.loop-part.auto.part in
     let within = c.loop-part-test.true in
     let most = c.min-part-end.ensures in
-    let some = c.if-left-eq0.false in
     let low = c.requires.low in (
       omega arith,
       (
-        c.in_ok-next.ensures.natural,
+        limits-longer c.args.chosen.now c.deref.result.now part c.args.largest c.args.left longer from (omega arith) (omega arith) c.requires.limits,
         (
-          limits-longer c.args.chosen.now c.deref.result.now part c.args.largest c.args.left longer from (omega arith) (omega arith) c.requires.limits,
-          (
-            omega arith,
-            fresh-longer (numerators c.args.terms.now) c.args.chosen.now c.deref.result.now part c.args.left (numerators c.args.list.now) (numerators c.loop-part.list)
-                longer from c.requires.fresh c.loop-part.invariant,
-          ),
+          omega arith,
+          fresh-longer (numerators c.args.terms.now) c.args.chosen.now c.deref.result.now part c.args.left (numerators c.args.list.now) (numerators c.loop-part.list)
+              longer from c.requires.fresh c.loop-part.invariant,
         ),
       ),
     )
 
 pub returns-in_err-add_contents-clause-large : goal.returns-in_err-add_contents-clause-large
-returns-in_err-add_contents-clause-large t c = λ large shape content p leads.
-    c.in_err-add_contents.ensures.large (ap Err (error_is _ _ _ c.from_residual-in_err-add_contents.ensures.1 large)) shape (content ++ c.loop-part.part ∷ []) p
+returns-in_err-add_contents-clause-large t c = λ large natural shape content p leads.
+    c.in_err-add_contents.ensures.large (ap Err (error_is _ _ _ c.from_residual-in_err-add_contents.ensures.1 large)) (c.in_ok-next.ensures.natural natural) shape (content ++ c.loop-part.part ∷ []) p
     (leads-next shape content c.loop-part.part (numerators c.args.terms.now) (numerators c.in_ok-next.next) leads c.in_ok-next.ensures.value)
 
 pub loop-part-preserved : goal.loop-part-preserved

@@ -26,9 +26,9 @@ loop-shape-preserved c = record {
 }
 
 pub returns-in_err-add_term-clause-large : goal.returns-in_err-add_term-clause-large
-returns-in_err-add_term-clause-large c = λ large.
+returns-in_err-add_term-clause-large c = λ large natural list.
     large-shape c.loop-shape.list (numerators c.args.list.now) c.args.c c.loop-shape.yielded (into_iter_items c.next.new.self) c.args.shapes.items c.in-Some.shape
-    c.requires.shapes c.requires.natural c.requires.list c.loop-shape.invariant.finds
+    c.requires natural list c.loop-shape.invariant.finds
     (ap (λ (xs : List (List ℕ)). c.loop-shape.yielded ++ xs) (sym c.in-Some.ensures.steps.0) ∙ c.loop-shape.invariant.so_far)
     (c.in_err-add_term.ensures.large.0 (ap Err (error_is _ _ _ c.from_residual.ensures.1 large)))
 

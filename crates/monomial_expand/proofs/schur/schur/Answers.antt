@@ -6,16 +6,14 @@ use Rattle.monomial_expand.proofs.StripTables.{leads-none, natural-single}
 use Rattle.monomial_expand.proofs.ContentCounts.{limits-content, list-counted}
 use Rattle.monomial_expand.proofs.schur.schur.Goals as goal
 
-pub add_contents-requires-clause-natural : goal.add_contents-requires-clause-natural
-add_contents-requires-clause-natural c = natural-single c.parts.result.now c.in_ok-terms.terms c.is_whole.ensures.table c.in_ok-terms.ensures.value
-
 pub add_contents-requires-clause-limits : goal.add_contents-requires-clause-limits
 add_contents-requires-clause-limits c = λ rest content.
     limits-content c.size-cells.result c.size-cells.result rest (omega (arith, c.size-cells.ensures.value, c.requires)) content
 
 pub returns-in_err-add_contents-clause-large : goal.returns-in_err-add_contents-clause-large
 returns-in_err-add_contents-clause-large c = λ large.
-    c.in_err-add_contents.ensures.large (ap Err (error_is _ _ _ c.from_residual-in_err-add_contents.ensures.1 large)) c.args.label.now [] c.size-cells.ensures.limits.partition
+    c.in_err-add_contents.ensures.large (ap Err (error_is _ _ _ c.from_residual-in_err-add_contents.ensures.1 large))
+    (natural-single c.parts.result.now c.in_ok-terms.terms c.is_whole.ensures.table c.in_ok-terms.ensures.value) c.args.label.now [] c.size-cells.ensures.limits.partition
     (leads-none c.args.label.now (numerators c.in_ok-terms.terms)
     (subst (λ (l : List ℕ). Same (numerators c.in_ok-terms.terms) ((l, pos 1) ∷ [])) c.parts.ensures.value c.in_ok-terms.ensures.value))
 

@@ -13,32 +13,10 @@ use Rattle.monomial_expand.specs.Strips.{strip_terms}
 use Rattle.monomial_expand.proofs.StripTerms.{entries, natural-at, natural-strips, natural-table, partitions-strips, strips-step, large-strips}
 use Rattle.monomial_expand.proofs.schur.stripped.Goals as goal
 
-pub add_each-requires-clause-shapes : goal.add_each-requires-clause-shapes
-add_each-requires-clause-shapes c =
+pub add_each-requires : goal.add_each-requires
+add_each-requires c =
     partitions-strips c.args.k c.parts.result.now c.in_ok-strips_off.field-0.items
     (subst IsPartition (sym c.parts.ensures.value) c.parts.ensures.limits.partition) c.in_ok-strips_off.ensures
-
-pub add_each-requires-clause-natural : goal.add_each-requires-clause-natural
-add_each-requires-clause-natural c =
-    let done = map deref_pair c.loop-shape.yielded in
-    let shape = c.in-Some.shape.now in
-    let v = c.in-Some.c.now in
-    let all : map deref_pair c.loop-shape.yielded ++ ((c.in-Some.shape.now, c.in-Some.c.now) ∷ c.next.new.self) ≡ numerators c.args.terms.now =
-    entries (map deref_pair c.loop-shape.yielded ++ ((c.in-Some.shape.now, c.in-Some.c.now) ∷ c.next.new.self)) c.args.terms.now
-    (list_whole whole (map deref_pair c.loop-shape.yielded) c.next.new.self c.loop-shape.shape-iterator _ _ c.in-Some.shape.now c.in-Some.c.now c.args.terms.now
-    c.in-Some.ensures.steps c.loop-shape.invariant.so_far c.into_iter-shape-iterator.ensures.into_iter_gives c.iter-shape-items.ensures.rest) in
-    natural-at (map deref_pair c.loop-shape.yielded) c.next.new.self (numerators c.args.terms.now) c.in-Some.shape.now c.in-Some.c.now all c.requires
-
-pub add_each-requires-clause-list : goal.add_each-requires-clause-list
-add_each-requires-clause-list c =
-    let done = map deref_pair c.loop-shape.yielded in
-    let shape = c.in-Some.shape.now in
-    let v = c.in-Some.c.now in
-    let all : map deref_pair c.loop-shape.yielded ++ ((c.in-Some.shape.now, c.in-Some.c.now) ∷ c.next.new.self) ≡ numerators c.args.terms.now =
-    entries (map deref_pair c.loop-shape.yielded ++ ((c.in-Some.shape.now, c.in-Some.c.now) ∷ c.next.new.self)) c.args.terms.now
-    (list_whole whole (map deref_pair c.loop-shape.yielded) c.next.new.self c.loop-shape.shape-iterator _ _ c.in-Some.shape.now c.in-Some.c.now c.args.terms.now
-    c.in-Some.ensures.steps c.loop-shape.invariant.so_far c.into_iter-shape-iterator.ensures.into_iter_gives c.iter-shape-items.ensures.rest) in
-    natural-strips c.args.k (map deref_pair c.loop-shape.yielded) ((c.in-Some.shape.now, c.in-Some.c.now) ∷ c.next.new.self) (numerators c.args.terms.now) (numerators c.loop-shape.list) all c.requires c.loop-shape.invariant.value
 
 pub loop-shape-preserved : goal.loop-shape-preserved
 loop-shape-preserved c =
@@ -60,7 +38,7 @@ loop-shape-preserved c =
     }
 
 pub returns-in_err-add_each-clause-large : goal.returns-in_err-add_each-clause-large
-returns-in_err-add_each-clause-large c = λ large.
+returns-in_err-add_each-clause-large c = λ large natural.
     let done = map deref_pair c.loop-shape.yielded in
     let shape = c.in-Some.shape.now in
     let v = c.in-Some.c.now in
@@ -71,13 +49,15 @@ returns-in_err-add_each-clause-large c = λ large.
     let shapes : c.in_ok-strips_off.field-0.items ≡ strips_off c.args.k c.in-Some.shape.now =
     c.in_ok-strips_off.ensures ∙ ap (strips_off c.args.k) c.parts.ensures.value in
     large-strips c.args.k (map deref_pair c.loop-shape.yielded) c.next.new.self (numerators c.args.terms.now) c.in-Some.shape.now c.in-Some.c.now (numerators c.loop-shape.list) c.in_ok-strips_off.field-0.items
-    c.requires all c.loop-shape.invariant.value shapes
-    (c.in_err-add_each.ensures.large (ap Err (error_is _ _ _ c.from_residual-in_err-add_each.ensures.1 large)))
+    natural all c.loop-shape.invariant.value shapes
+    (c.in_err-add_each.ensures.large (ap Err (error_is _ _ _ c.from_residual-in_err-add_each.ensures.1 large))
+    (natural-at (map deref_pair c.loop-shape.yielded) c.next.new.self (numerators c.args.terms.now) c.in-Some.shape.now c.in-Some.c.now all natural)
+    (natural-strips c.args.k (map deref_pair c.loop-shape.yielded) ((c.in-Some.shape.now, c.in-Some.c.now) ∷ c.next.new.self) (numerators c.args.terms.now) (numerators c.loop-shape.list) all natural c.loop-shape.invariant.value))
 
 pub returns-clause-natural : goal.returns-clause-natural
-returns-clause-natural c =
+returns-clause-natural c = λ natural.
     natural-table c.loop-shape.list c.is_whole-2.ensures.table
     (natural-strips c.args.k (map deref_pair c.loop-shape.yielded) c.loop-shape.shape-iterator (numerators c.args.terms.now) (numerators c.loop-shape.list)
     (entries (map deref_pair c.loop-shape.yielded ++ c.loop-shape.shape-iterator) c.args.terms.now
     (ap (terms_of whole) (c.loop-shape.invariant.so_far ∙ c.into_iter-shape-iterator.ensures.into_iter_gives) ∙ c.iter-shape-items.ensures.rest))
-    c.requires c.loop-shape.invariant.value)
+    natural c.loop-shape.invariant.value)

@@ -14,9 +14,8 @@ use Rattle.sparse_polys.proofs.Rows.{list_whole}
 use Rattle.monomial_expand.specs.Tables.{equal, IsTable}
 use Rattle.monomial_expand.proofs.WholeLists.{Finds, Finds-next, more_as, Same-from_look_ups}
 use Rattle.basis_change.proofs.Bounds.{itself}
-use Rattle.direct_families.proofs.RowSteps.{refused-sum}
-use Rattle.direct_families.proofs.WholeSteps.{over-push, large-number, large-term}
-use Rattle.direct_families.proofs.whole_terms.whole_terms.Goals as goal
+use Rattle.basis_change.proofs.WholeSteps.{over-push, refused-sum, large-number, large-term}
+use Rattle.basis_change.proofs.clearing.whole_terms.Goals as goal
 
 pub loop-label-init : goal.loop-label-init
 loop-label-init c = record {

@@ -3,7 +3,7 @@ use Rattle.std.specs.Map.Iter.{deref_pair}
 use Rattle.monomial_laws.specs.ExpressionTerms.{over}
 use Rattle.monomial_expand.specs.Tables.{IsTable}
 use Rattle.monomial_expand.proofs.WholeLists.{Finds}
-use Rattle.direct_families.proofs.whole_terms.whole_terms.Given as goal
+use Rattle.basis_change.proofs.clearing.whole_terms.Given as goal
 
 -- the table has the terms so far times the number, and they and the rest are all
 abbrev pub invariant-loop-label : goal.invariant-loop-label

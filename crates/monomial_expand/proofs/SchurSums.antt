@@ -1,0 +1,67 @@
+-- Lists of Schur polynomials by their Kostka numbers.
+--     coefficient-schur_sorted   the coefficient of a Schur polynomial at exponents in any order
+--     list-schurs                a list with the sums of Kostka numbers is the list of Schur polynomials
+use Rattle.std.proofs.Common.{◌≡◌, ◌⊎◌, ℕ, cond, List, map, length, sym, ◌∙◌, ap, refl, inl, inr, ℤ, pos, ◌*ℤ◌}
+use Rattle.std.proofs.lemmas.Bool.{cases_eq}
+use Rattle.sym_model.specs.Sum.{total, Among}
+use Rattle.sym_model.specs.Partition.{IsPartition, size, sorted_parts}
+use Rattle.sym_model.specs.PartitionList.{partitions_of}
+use Rattle.sym_model.specs.Polynomial.{Term, same, coefficient, pair, scale, In}
+use Rattle.sym_model.specs.Schur.{schur}
+use Rattle.sym_model.specs.WholeTerms.{WholeTerms, combined}
+use Rattle.sym_model.proofs.Exponents.{same_from, same_apart}
+use Rattle.sym_model.proofs.PartitionLists.{partitions_of-tells, Among-partitions_of, FallsLexicographically-partitions_within, Once-FallsLexicographically}
+use Rattle.sym_model.proofs.Polynomials.{same_in, In_each, In_scale}
+use Rattle.sym_model.proofs.SortedParts.{IsPartition-sorted_parts}
+use Rattle.sym_model.proofs.Sums.{total_among, total_map, total_none, total_only}
+use Rattle.sym_model.proofs.WholeTerms.{coefficient-combined}
+use Rattle.monomial_laws.specs.ExpressionTerms.{in_monomials, IsList}
+use Rattle.monomial_laws.proofs.PowerSumCoefficients.{coefficient-monomial_terms}
+use Rattle.monomial_laws.proofs.SchurMajorants.{In-schur}
+use Rattle.monomial_laws.proofs.Splits.{In-monomial_terms}
+use Rattle.schur_laws.specs.Kostka.{kostka}
+use Rattle.schur_laws.proofs.SchurLists.{list-schur, kostka-other_size}
+
+-- the Kostka numbers of a shape, a term for each partition of its size
+abbrev kostka_terms : List ℕ → WholeTerms
+kostka_terms shape = map (λ (κ : List ℕ). (κ, kostka shape κ)) (partitions_of (size shape))
+
+coefficient-kostka_terms : (shape κ : List ℕ) → IsPartition shape → IsPartition κ → coefficient (kostka_terms shape) κ ≡ kostka shape κ
+coefficient-kostka_terms shape κ p is =
+    total_map (λ (t : Term). cond (same t.0 κ) t.1 (pos 0)) (λ (ν : List ℕ). (ν, kostka shape ν)) (partitions_of (size shape))
+    ∙ by (cases_eq (size κ) (size shape))
+  where
+    at : List ℕ → ℤ
+    at ν = cond (same ν κ) (kostka shape ν) (pos 0)
+
+    by : (size κ ≡ size shape) ⊎ (size κ ≡ size shape → ⊥) → total at (partitions_of (size shape)) ≡ kostka shape κ
+    by (inl e) =
+        let d = size shape in
+        total_only at κ (partitions_of (size shape)) (Once-FallsLexicographically (partitions_of (size shape)) (FallsLexicographically-partitions_within (size shape) (size shape) (size shape)))
+        (Among-partitions_of (size shape) κ is e)
+        (λ ν m n. ap (λ b. cond b (kostka shape ν) (pos 0)) (same_apart ν κ n))
+        ∙ ap (λ b. cond b (kostka shape κ) (pos 0)) (same_from κ κ refl)
+    by (inr n) =
+        total_none at (partitions_of (size shape))
+        (λ ν m. ap (λ b. cond b (kostka shape ν) (pos 0)) (same_apart ν κ (λ e. n (ap size (sym e) ∙ (partitions_of-tells (size shape) ν m).1))))
+        ∙ sym (kostka-other_size shape κ p n)
+
+pub coefficient-schur_sorted : (shape α : List ℕ) (n : ℕ) → IsPartition shape → length α ≡ n → coefficient (schur shape n) α ≡ kostka shape (sorted_parts α)
+coefficient-schur_sorted shape α n p long =
+    sym (list-schur shape (kostka_terms shape) p (λ κ is. coefficient-kostka_terms shape κ p is) n α)
+    ∙ coefficient-monomial_terms (kostka_terms shape) n α long
+    ∙ coefficient-kostka_terms shape (sorted_parts α) p (IsPartition-sorted_parts α)
+
+In-schurs : (terms : WholeTerms) (n : ℕ) → In n (combined (λ label. schur label n) terms)
+In-schurs terms n = In_each n (λ (t : Term). scale t.1 (schur t.0 n)) terms (λ t m. In_scale n t.1 (schur t.0 n) (In-schur t.0 n))
+
+pub list-schurs : (terms list : WholeTerms) → ((t : Term) → Among t terms → IsPartition t.0)
+    → ((κ : List ℕ) → IsPartition κ → coefficient list κ ≡ pair terms (λ shape. kostka shape κ)) → IsList list (λ n. combined (λ label. schur label n) terms)
+list-schurs terms list p h n =
+    same_in n (in_monomials list n) (combined (λ label. schur label n) terms) (In-monomial_terms list n) (In-schurs terms n)
+    (λ α long.
+    coefficient-monomial_terms list n α long
+    ∙ h (sorted_parts α) (IsPartition-sorted_parts α)
+    ∙ total_among (λ (t : Term). t.1 *ℤ kostka t.0 (sorted_parts α)) (λ (t : Term). t.1 *ℤ coefficient (schur t.0 n) α) terms
+    (λ t m. ap (λ z. t.1 *ℤ z) (sym (coefficient-schur_sorted t.0 α n (p t m) long)))
+    ∙ sym (coefficient-combined (λ label. schur label n) terms α))
