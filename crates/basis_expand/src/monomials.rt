@@ -1,5 +1,5 @@
 //! The expansion of an expression in m, by way of Schur polynomials where that is faster.
-ghost use Rattle.std.specs.Prelude.{◌≡◌, ℕ, ◌<◌, ◌^◌, ◌≤◌, IfOk, IfSome, IsErrOf};
+ghost use Rattle.std.specs.Prelude.{ℕ, ◌<◌, ◌^◌, ◌≤◌, IfOk, IfSome, IsErrOf};
 ghost use Rattle.sym_model.specs.Expansion.{monomials, schurs, IsExpansionOf};
 ghost use Rattle.sym_model.specs.Expression.{cleared_value, denominator};
 ghost use Rattle.sym_model.specs.Polynomial.{Poly};

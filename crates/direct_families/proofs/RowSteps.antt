@@ -1,7 +1,6 @@
 -- Products of lists added term by term, and where they are refused.
-use Rattle.std.proofs.Common.{◌≡◌, ℕ, ◌+◌, ◌*◌, ◌^◌, ◌≤◌, Bool, true, false, cond, List, [], ◌∷◌, ◌++◌, sym, ◌∙◌, ap, ap₂, subst, refl, arith, ℤ, pos, ◌+ℤ◌, ◌*ℤ◌, append-nil, append_assoc}
-use Rattle.std.specs.Prelude.{nat_abs, FitsSigned, MatchOption}
-use Rattle.std.specs.Int.{w128}
+use Rattle.std.proofs.Common.{◌≡◌, ℕ, ◌+◌, ◌*◌, ◌^◌, ◌≤◌, Bool, true, false, List, [], ◌∷◌, ◌++◌, sym, ◌∙◌, ap, ap₂, subst, refl, arith, ℤ, ◌+ℤ◌, ◌*ℤ◌, append-nil, append_assoc}
+use Rattle.std.specs.Prelude.{nat_abs, MatchOption}
 use Rattle.std.proofs.lemmas.Bool.{and_parts}
 use Rattle.std.proofs.lemmas.Int.{ints, unsigned_abs-mul}
 use Rattle.std.proofs.lemmas.List.{map-append}
@@ -10,8 +9,8 @@ use Rattle.coeff_rings.specs.Fractions.{whole}
 use Rattle.coeff_rings.specs.Checked.{checked_i128, where_fits}
 use Rattle.sym_model.specs.Sum.{Among}
 use Rattle.sym_model.specs.Partition.{IsPartition, size}
-use Rattle.sym_model.specs.Polynomial.{same, coefficient, scale, Same}
-use Rattle.sym_model.specs.Expansion.{Fraction, Terms}
+use Rattle.sym_model.specs.Polynomial.{coefficient, scale, Same}
+use Rattle.sym_model.specs.Expansion.{Terms}
 use Rattle.sym_model.specs.Canonical.{is_reduced, fits_128_bits}
 use Rattle.sym_model.specs.LabelLimits.{is_label}
 use Rattle.sym_model.specs.WholeTerms.{WholeTerms, AreWhole, numerators, absolute_total}
@@ -20,13 +19,11 @@ use Rattle.sym_model.proofs.Orders.{is_label-tells}
 use Rattle.sym_model.proofs.SortedParts.{rows_within_size}
 use Rattle.partitions.specs.Limits.{IsWithinLimits}
 use Rattle.sparse_polys.specs.Combination.{terms_of, HasMoreAt}
-use Rattle.sparse_polys.specs.Refusal.{IsRefused}
 use Rattle.sparse_polys.proofs.Steps.{among-next}
-use Rattle.monomial_expand.specs.Tables.{equal, found, IsTable}
+use Rattle.monomial_expand.specs.Tables.{equal, IsTable}
 use Rattle.monomial_expand.specs.LabelSizes.{AreWithin}
 use Rattle.monomial_expand.proofs.WholeLists.{Finds, Finds-next, coefficient-whole}
 use Rattle.coeff_rings.proofs.Sizes.{refused_size}
-use Rattle.monomial_expand.proofs.TableSums.{IsRefused-size}
 use Rattle.basis_change_laws.specs.JoinedLists.{merged}
 use Rattle.basis_change_laws.proofs.MergedParts.{IsPartition-merged, size-merged}
 use Rattle.sym_model.proofs.Polynomials.{coefficient_plus}

@@ -1,9 +1,5 @@
-use Rattle.std.proofs.Common.{rules, tests, arith, ◌≡◌, ℕ, sym, subst}
+use Rattle.std.proofs.Common.{arith}
 use Rattle.std.proofs.lemmas.Result.{IfOk-weaker, err_from_is_err_and}
-use Rattle.sym_model.specs.Expansion.{IsExpansionOf}
-use Rattle.sym_model.specs.Expression.{cleared_value, denominator}
-use Rattle.calc_base.specs.declared.words.Basis.{Basis as Letter}
-use Rattle.calc_base.specs.declared.words.Basis.TheVariants as letters
 use Rattle.calc_expressions.specs.Trees.{basis_of, tree_of}
 use Rattle.calc_expressions.proofs.WeightFacts.{positive}
 use Rattle.calc_expressions.proofs.GrowthFacts.{wide-weight}

@@ -1,4 +1,4 @@
-use Rattle.std.proofs.Common.{ap, arith}
+use Rattle.std.proofs.Common.{ap}
 use Rattle.sym_model.specs.WholeTerms.{numerators}
 use Rattle.monomial_expand.proofs.ContentCounts.{limits-content, lists-counted}
 use Rattle.monomial_expand.proofs.schur.schurs_to_monomials.Goals as goal
