@@ -1,4 +1,5 @@
 use Rattle.std.proofs.Common.{arith}
+use Rattle.std.proofs.lemmas.Result.{err_from_is_err_and}
 use Rattle.sym_model.specs.Expansion.{schurs}
 use Rattle.calc_expressions.specs.Trees.{tree_of}
 use Rattle.calc_expressions.proofs.WeightFacts.{positive}
@@ -7,8 +8,10 @@ use Rattle.sparse_polys.proofs.Coefficients.{if_answered}
 use Rattle.basis_expand.proofs.Weights.{heavy_for_s}
 use Rattle.basis_expand.proofs.expansion.through_monomials.Goals as goal
 
-pub returns-in-Err-clause-large : goal.returns-in-Err-clause-large
-returns-in-Err-clause-large c = λ is. heavy_for_s (tree_of c.args.formula.now.tree) (c.in-Err.ensures.large is)
+pub returns-in_err-list-clause-large : goal.returns-in_err-list-clause-large
+returns-in_err-list-clause-large c =
+    let p = err_from_is_err_and c.from_residual.result c.from_residual.ensures.1 in
+    rw (p.1, p.2) (λ is. heavy_for_s (tree_of c.args.formula.now.tree) (c.in_err-list.ensures.large is))
 
 pub returns-in_default-clause-large : goal.returns-in_default-clause-large
 returns-in_default-clause-large c = λ is.
@@ -23,4 +26,4 @@ to_basis-requires-clause-positive c =
 
 pub returns-clause-value : goal.returns-clause-value
 returns-clause-value c =
-    if_answered c.to_basis.result c.to_basis.ensures.value (λ list h n. h n _ _ (c.in-Ok.ensures.value n))
+    if_answered c.to_basis.result c.to_basis.ensures.value (λ list h n. h n _ _ (c.in_ok-list.ensures.value n))
