@@ -96,17 +96,15 @@ fn next_turn<S: Source>(
     ensures took { (taken : List ℕ) × Took (S.left source.old) (S.left source.new) taken }
     ensures short { IfOk result (λ _. length reader.new.pending ≤ most_pending) }
 {
-    match reader.next(source) {
-        Ok(Next::Line) => match line_outcome(alloc, memo, reader.line())? {
+    match reader.next(source)? {
+        Next::Line => match line_outcome(alloc, memo, reader.line())? {
             None => Ok(Turn::Passed),
             Some(outcome) => Ok(Turn::Block { outcome }),
         },
-        Ok(Next::TooLong) => Ok(Turn::Block {
+        Next::TooLong => Ok(Turn::Block {
             outcome: refused_long(),
         }),
-        Ok(Next::End) => Ok(Turn::Last),
-        Err(LineFault::SourceFault) => Err(LineFault::SourceFault),
-        Err(LineFault::NoMemory) => Err(LineFault::NoMemory),
+        Next::End => Ok(Turn::Last),
     }
 }
 
