@@ -65,18 +65,19 @@ fn by_schurs(alloc: Global, formula: &Formula) -> Result<Lin<Partition, Frac>, S
     in_monomials(alloc, &list)
 }
 
-/// Whether each atom is in e, h or s. Then the way by Schur polynomials is the faster one; either way gives the same expansion.
-fn has_strips(alloc: Global, tree: &Expr) -> Result<bool, NoMemory> {
+/// Whether each atom is in e, h or s, and not all in e. Then the way by Schur polynomials is the faster one; either way gives the
+/// same expansion.
+fn goes_by_schurs(alloc: Global, tree: &Expr) -> Result<bool, NoMemory> {
+    let mut found = false;
     for node in postorder(alloc, tree)? {
-        if let Expr::Atom {
-            basis: Basis::M | Basis::P,
-            ..
-        } = node
-        {
-            return Ok(false);
+        if let Expr::Atom { basis, .. } = node {
+            if *basis == Basis::M || *basis == Basis::P {
+                return Ok(false);
+            }
+            found = found || *basis != Basis::E;
         }
     }
-    Ok(true)
+    Ok(found)
 }
 
 /// The expansion of a formula in m, in every number of variables: by way of Schur polynomials where that is faster, and else by
@@ -91,7 +92,7 @@ pub fn to_monomial_by_schurs(
         IfOk result (λ list. (n : ℕ) → IsExpansionOf monomials list n (cleared_value e n) (denominator e)) }
     ensures large { IsErrOf result SumFault.Large → 2 ^ 127 ≤ weight monomials (tree_of formula.now.tree) }
 {
-    if !has_strips(alloc, formula.tree())? {
+    if !goes_by_schurs(alloc, formula.tree())? {
         return to_monomial(alloc, formula);
     }
     match by_schurs(alloc, formula) {
