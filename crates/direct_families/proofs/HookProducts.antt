@@ -141,10 +141,6 @@ module _ (P : ℕ → ℕ → Poly) (places : (n k : ℕ) → In n (P k n)) wher
       (λ n. Same_sym (scale σ (times (f n) (g n))) (times (scale σ (f n)) (g n)) (scale-times σ (f n) (g n)))
       (stands-product P places (factorial k) (factorial k * 2 ^ k) k (factorial s) (grown s) s (factorial (k + s)) (peeled (k + s)) c (λ n. scale σ (f n)) g (scale σ W) V signed v e (peeled-part k s c some e))))
 
--- nothing yet
-pub hooks-start : (P : ℕ → ℕ → Poly) (q B d : ℕ) (f : ℕ → SpecialHook → Poly) (hs : List SpecialHook) → Stands P q (0 * B) d (λ n. each (f n) (take 0 hs)) []
-hooks-start P q B d f hs = record { value = λ n φ. omega (arith, ints); few = omega arith; labels = tt }
-
 -- one hook more
 pub hooks-next : (P : ℕ → ℕ → Poly) (q B d : ℕ) (f : ℕ → SpecialHook → Poly) (hs : List SpecialHook) (i : ℕ) (h : SpecialHook) (S T : WholeTerms) → slice_get hs i ≡ Some h
     → Stands P q (i * B) d (λ n. each (f n) (take i hs)) S → Stands P q B d (λ n. f n h) T → Stands P q ((i + 1) * B) d (λ n. each (f n) (take (i + 1) hs)) (S ++ T)

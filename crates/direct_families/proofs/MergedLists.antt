@@ -10,6 +10,7 @@ use Rattle.std.proofs.lemmas.Bool.{cases_lt}
 use Rattle.sym_model.specs.Partition.{Falls, ArePositive, IsPartition, insert_part}
 use Rattle.sym_model.proofs.SortedParts.{insert_part_above, insert_part_below, Falls_tail}
 use Rattle.basis_change_laws.specs.JoinedLists.{merged}
+use Rattle.direct_families.proofs.AtomLists.{columns-tail}
 
 -- a part goes behind one that is no smaller
 insert-behind : (c b : ℕ) (parts : List ℕ) → 0 < c → c ≤ b → get_or parts 0 0 ≤ b → insert_part c (b ∷ parts) ≡ b ∷ insert_part c parts
@@ -45,10 +46,6 @@ merged-front [] b parts p f g = refl
 merged-front (c ∷ more) b parts p f g =
     ap (merged more) (insert-behind c b parts p.0 f.0 g)
     ∙ merged-front more b (insert_part c parts) p.1 (falls-past b c more f.0 f.1) (first-insert c b parts p.0 f.0 g)
-
-first-falls : (b : ℕ) (parts : List ℕ) → Falls (b ∷ parts) → get_or parts 0 0 ≤ b
-first-falls b [] f = omega arith
-first-falls b (d ∷ parts) f = f.0
 
 merged-nothing : (more : List ℕ) → ArePositive more → Falls more → merged more [] ≡ more
 merged-nothing [] p f = refl
@@ -87,11 +84,12 @@ module _ (all more parts : List ℕ) (i j : ℕ) (p : IsPartition more) (q : IsP
       let y = drop-first j (j + 1) parts refl k in
       let f = subst Falls x (falls-drop i more p.falls) in
       let g = subst Falls y (falls-drop j parts q.falls) in
+      let t = subst ArePositive y (positive-drop j parts q.positive) in
       append_assoc done (get_or parts j 0 ∷ []) (merged (drop i more) (drop (j + 1) parts))
       ∙ ap (λ l. done ++ l)
       (sym (ap (merged (drop i more)) y
       ∙ merged-front (drop i more) (get_or parts j 0) (drop (j + 1) parts) (positive-drop i more p.positive)
-      (subst (λ (ps : List ℕ). Falls (get_or parts j 0 ∷ ps)) (sym x) (omega arith, f)) (first-falls (get_or parts j 0) (drop (j + 1) parts) g)))
+      (subst (λ (ps : List ℕ). Falls (get_or parts j 0 ∷ ps)) (sym x) (omega arith, f)) (columns-tail (get_or parts j 0) (drop (j + 1) parts) (record { falls = g; positive = t }))))
       ∙ so_far
 
   -- it is not

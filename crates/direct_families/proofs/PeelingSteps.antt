@@ -2,7 +2,7 @@
 --     left-numbers, left-limits      what a hook leaves, as it is written down
 --     left-rest                      it is a partition of the other cells
 --     peeled-term, peeled-next, peeled-large      the part of the hook
-use Rattle.std.proofs.Common.{◌≡◌, ℕ, zero, suc, ◌+◌, ◌-◌, ◌*◌, ◌^◌, ◌<◌, ◌≤◌, List, [], ◌∷◌, ◌++◌, map, length, get_or, take, drop, replicate, refl, sym, ap, ◌∙◌, subst, arith, ℤ, pos, ◌*ℤ◌, Ok, Err}
+use Rattle.std.proofs.Common.{◌≡◌, ℕ, zero, suc, ◌+◌, ◌-◌, ◌*◌, ◌^◌, ◌<◌, ◌≤◌, List, [], ◌∷◌, ◌++◌, map, length, get_or, take, drop, refl, sym, ap, ◌∙◌, subst, arith, ℤ, pos, ◌*ℤ◌, Ok, Err}
 use Rattle.std.specs.Prelude.{nat_abs, ◌≢◌, Result, IfOk}
 use Rattle.calc_base.specs.declared.faults.SumFault.{SumFault}
 use Rattle.sym_model.specs.Conjugate.{conjugate}
@@ -13,13 +13,14 @@ use Rattle.std.proofs.lemmas.Int.{unsigned_abs-mul}
 use Rattle.std.proofs.lemmas.Nat.{mul-le}
 use Rattle.sym_model.specs.Sum.{each}
 use Rattle.sym_model.specs.Expansion.{Terms}
-use Rattle.sym_model.specs.Partition.{IsPartition, ArePositive, after, size, in_front, without_last_zeros}
+use Rattle.sym_model.specs.Partition.{IsPartition, ArePositive, size, in_front, without_last_zeros}
 use Rattle.sym_model.specs.PlaceOrders.{minus_one_to}
 use Rattle.sym_model.specs.Polynomial.{Poly, Same, one, scale, times}
 use Rattle.sym_model.specs.Bases.{elementary_of, complete_of}
 use Rattle.sym_model.specs.Weight.{factorial}
 use Rattle.sym_model.specs.WholeTerms.{numerators, absolute_total}
 use Rattle.sym_model.proofs.Parts.{in_front-positive}
+use Rattle.sym_model.proofs.Contents.{map-zeros}
 use Rattle.sym_model.proofs.Numbers.{times-more}
 use Rattle.sym_model.proofs.PolynomialLaws.{times-one}
 use Rattle.sym_model.proofs.Polynomials.{Same_refl}
@@ -140,14 +141,10 @@ module _ (target family : Family) (newton : family ≢ PowerSum) (parts : List �
 
 -- ---- no row
 
-no_letters : (a n : ℕ) → map {B = ℕ} (λ (k : ℕ). 0) (after a n) ≡ replicate n 0
-no_letters a zero = refl
-no_letters a (suc n) = ap (λ l. 0 ∷ l) (no_letters (a + 1) n)
-
 nothing-schur : (family : Family) (n : ℕ) → schur_in family [] n ≡ one n
-nothing-schur Elementary n = ap (λ (l : List ℕ). (l, pos 1) ∷ []) (no_letters 0 n)
-nothing-schur Complete n = ap (λ (l : List ℕ). (l, pos 1) ∷ []) (no_letters 0 n)
-nothing-schur PowerSum n = ap (λ (l : List ℕ). (l, pos 1) ∷ []) (no_letters 0 n)
+nothing-schur Elementary n = ap (λ (l : List ℕ). (l, pos 1) ∷ []) (map-zeros 0 n)
+nothing-schur Complete n = ap (λ (l : List ℕ). (l, pos 1) ∷ []) (map-zeros 0 n)
+nothing-schur PowerSum n = ap (λ (l : List ℕ). (l, pos 1) ∷ []) (map-zeros 0 n)
 
 pub nothing-list : (P : ℕ → ℕ → Poly) (family : Family) (parts : List ℕ) (terms : Terms (List ℕ)) → length parts ≡ 0 → IsTable terms → Same (numerators terms) (([], pos 1) ∷ []) → IsSchurList P family parts terms
 nothing-list P family [] terms e is h =

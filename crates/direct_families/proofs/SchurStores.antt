@@ -8,18 +8,15 @@ use Rattle.std.specs.List.{position_or_len}
 use Rattle.std.specs.Map.{keys_of, values_of}
 use Rattle.std.specs.Cmp.Lexicographic.{pointwise}
 use Rattle.std.proofs.lemmas.List.Quantifiers.{position-Some}
-use Rattle.std.proofs.lemmas.Slice.Eq.{bytes_eq-Decides}
 use Rattle.indexmap.specs.IndexMap.{insert_entry}
 use Rattle.sym_model.specs.Polynomial.{Poly}
 use Rattle.sym_model.specs.Expansion.{Terms}
+use Rattle.sparse_polys.specs.Labels.{same_partition}
 use Rattle.basis_change.specs.declared.factors.Family.{Family}
 use Rattle.direct_families.specs.SchurLists.{IsSchurList, AreSchurLists, IsAt}
 
 abbrev Entries : Type 0
 Entries = List (List ℕ × Terms (List ℕ))
-
-pub same_shape : (a b : List ℕ) → pointwise nat_eq a b ≡ true → a ≡ b
-same_shape a b h = (bytes_eq-Decides a b).0 h
 
 module _ (P : ℕ → ℕ → Poly) (family : Family) where
   pub store-put : (es : Entries) (shape : List ℕ) (list : Terms (List ℕ)) → AreSchurLists P family es → IsSchurList P family shape list → AreSchurLists P family (insert_entry (pointwise nat_eq) es shape list)
@@ -27,7 +24,7 @@ module _ (P : ℕ → ℕ → Poly) (family : Family) where
   store-put (e ∷ es) shape list are is = by (pointwise nat_eq shape e.0) refl (store-put es shape list are.1 is)
     where
       by : (b : Bool) → pointwise nat_eq shape e.0 ≡ b → AreSchurLists P family (insert_entry (pointwise nat_eq) es shape list) → AreSchurLists P family (if b then (e.0, list) ∷ es else e ∷ insert_entry (pointwise nat_eq) es shape list)
-      by true h more = (subst (λ (k : List ℕ). IsSchurList P family k list) (same_shape shape e.0 h) is, are.1)
+      by true h more = (subst (λ (k : List ℕ). IsSchurList P family k list) (same_partition shape e.0 h) is, are.1)
       by false h more = (are.0, more)
 
   pub store-list : (es : Entries) (at : ℕ) (shape : List ℕ) (list : Terms (List ℕ)) → AreSchurLists P family es → IsAt shape at es → slice_get (values_of es) at ≡ Some list → IsSchurList P family shape list
@@ -44,7 +41,7 @@ store-index (e ∷ es) shape list = by (pointwise nat_eq shape e.0) refl (store-
   where
     by : (t : Bool) → pointwise nat_eq shape e.0 ≡ t → IsAt shape (position_or_len (pointwise nat_eq shape) (keys_of es)) (insert_entry (pointwise nat_eq) es shape list)
         → slice_get (keys_of (cond t ((e.0, list) ∷ es) (e ∷ insert_entry (pointwise nat_eq) es shape list))) (cond (not t) (1 + position_or_len (pointwise nat_eq shape) (keys_of es)) 0) ≡ Some shape
-    by true g more = ap Some (sym (same_shape shape e.0 g))
+    by true g more = ap Some (sym (same_partition shape e.0 g))
     by false g more =
         let i : 1 + position_or_len (pointwise nat_eq shape) (keys_of es) ≡ suc (position_or_len (pointwise nat_eq shape) (keys_of es)) = omega arith in
         ap (slice_get (keys_of (e ∷ insert_entry (pointwise nat_eq) es shape list))) i ∙ more
@@ -57,7 +54,7 @@ store-within (e ∷ es) (suc at) shape h = let r = store-within es at shape h in
 pub store-found : (es : Entries) (at : ℕ) (shape : List ℕ) → position (pointwise nat_eq shape) (keys_of es) ≡ Some at → IsAt shape at es
 store-found es at shape h =
     let p = position-Some (pointwise nat_eq shape) (keys_of es) at [] h in
-    at-place (keys_of es) at [] p.0 ∙ ap Some (sym (same_shape shape (get_or (keys_of es) at []) p.1))
+    at-place (keys_of es) at [] p.0 ∙ ap Some (sym (same_partition shape (get_or (keys_of es) at []) p.1))
   where
     at-place : (ks : List (List ℕ)) (i : ℕ) (d : List ℕ) → i < length ks → slice_get ks i ≡ Some (get_or ks i d)
     at-place [] i d h = absurd (omega arith)
