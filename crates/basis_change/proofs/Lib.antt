@@ -14,9 +14,10 @@ pub mod CostTable
 pub mod Ends
 pub mod ClearedAnswers
 pub mod Starts
-pub mod ArrangementSteps
-pub mod PrunedArrangements
 pub mod StraightTerms
+pub mod KeptLists
+pub mod HookSums
+pub mod HookEntries
 pub mod MultinomialSums
 pub mod StraightBounds
 pub mod StraightValues

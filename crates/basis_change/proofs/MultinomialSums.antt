@@ -26,7 +26,7 @@ use Rattle.monomial_expand.proofs.DividedLists.{same_factorials}
 use Rattle.monomial_laws.specs.Majorant.{power, factorials as plain_factorials}
 use Rattle.monomial_laws.proofs.Powers.{coefficient_power, power-nonnegative, factorials-positive}
 use Rattle.monomial_laws.proofs.SchurMajorants.{pair-power}
-use Rattle.basis_change.proofs.ArrangementSteps.{IsArrangement, arrangement}
+use Rattle.arrangement_laws.proofs.LastPlaces.{IsArrangement, arrangement}
 use Rattle.basis_change.proofs.CostTable.{cancel-le}
 use lib.IntN.{+ℤ_idl}
 

@@ -1,19 +1,18 @@
 -- Power sums by Newton's identities.
 --     newton-value, newton-few, newton-low       what the terms for p_k say
-use Rattle.std.proofs.Common.{◌≡◌, ◌⊎◌, ℕ, zero, suc, ◌+◌, ◌-◌, ◌*◌, ◌^◌, ◌<◌, ◌≤◌, Bool, true, cond, List, [], ◌∷◌, ◌++◌, map, length, replicate, refl, sym, ap, ap₂, ◌∙◌, subst, inl, inr, arith, ℤ, pos, neg_ℤ, ◌+ℤ◌, ◌*ℤ◌, pow-suc}
+use Rattle.std.proofs.Common.{◌≡◌, ◌⊎◌, ℕ, zero, suc, ◌+◌, ◌-◌, ◌*◌, ◌^◌, ◌<◌, ◌≤◌, true, List, [], ◌∷◌, ◌++◌, map, length, refl, sym, ap, ap₂, ◌∙◌, subst, inl, inr, arith, ℤ, pos, neg_ℤ, ◌+ℤ◌, ◌*ℤ◌, pow-suc}
 use Rattle.std.specs.Prelude.{nat_abs}
 use Rattle.std.proofs.lemmas.Int.{ints}
 use Rattle.std.proofs.lemmas.Bool.{cases_lt}
-use Rattle.sym_model.specs.Sum.{total, each, select, Among}
+use Rattle.sym_model.specs.Sum.{total, each, Among}
 use Rattle.sym_model.specs.Polynomial.{Poly, Same, In, pair, times, one, scale}
 use Rattle.sym_model.specs.Partition.{IsPartition, size, after}
-use Rattle.sym_model.specs.Bases.{product_over, power_sum_of, elementary_of, complete_of, monomials, at_most_one, exponent_lists}
+use Rattle.sym_model.specs.Bases.{product_over, power_sum_of, elementary_of, complete_of, at_most_one}
 use Rattle.sym_model.specs.PlaceOrders.{minus_one_to}
 use Rattle.sym_model.proofs.Ring.{ring}
-use Rattle.sym_model.proofs.Sums.{total_ext, total_among, total_scale, total_append, total_select, total_neg}
-use Rattle.sym_model.proofs.Polynomials.{pair_each, pair_scale, pair_monomials, pair_determined, pair_one, same_from_pair, Same_refl, Same_trans, times_respects}
+use Rattle.sym_model.proofs.Sums.{total_ext, total_among, total_scale, total_append, total_neg}
+use Rattle.sym_model.proofs.Polynomials.{pair_each, pair_scale, pair_determined, same_from_pair, Same_refl, Same_trans, times_respects}
 use Rattle.sym_model.proofs.PolynomialLaws.{times-one}
-use Rattle.sym_model.proofs.Monomials.{total_exponent_lists-zero}
 use Rattle.sym_model.proofs.AfterLists.{after_among, after-last}
 use Rattle.monomial_laws.proofs.Powers.{In-product_over, In-power_sum_of}
 use Rattle.basis_change_laws.specs.AugmentedMonomial.{augmented}

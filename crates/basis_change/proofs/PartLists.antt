@@ -1,19 +1,14 @@
 -- Partitions with parts put in, one place after another.
 use Rattle.std.proofs.Common.{◌≡◌, ℕ, zero, suc, ◌+◌, ◌*◌, ◌<◌, ◌≤◌, ◌^◌, Bool, cond, List, [], ◌∷◌, length, take, drop, get_or, refl, sym, ap, ◌∙◌, subst, arith}
 use Rattle.std.proofs.Math.Seq.{drop-cons}
-use Rattle.sym_model.specs.Partition.{IsPartition, size, insert_part}
 use Rattle.sym_model.specs.Weight.{factorial}
-use Rattle.sym_model.proofs.SortedParts.{IsPartition-insert_part, size-insert_part}
 use Rattle.std.proofs.Common.{◌-◌, lit<}
 use Rattle.std.proofs.lemmas.Bool.{eq-eqb, ne_eqb, cond-true, cond-false}
-use Rattle.std.proofs.Common.{◌==◌, ◌⊎◌, inl, inr, true, remove}
-use Rattle.sym_model.specs.Bases.{has}
-use Rattle.sym_model.proofs.SortedParts.{insert_part-without_one, zero_or_has}
+use Rattle.std.proofs.Common.{◌==◌, remove}
 use Rattle.sym_model.specs.Schur.{times_in}
 use Rattle.sym_model.specs.RaisedPart.{without_one}
 use Rattle.basis_change_laws.specs.AugmentedMonomial.{multiplicity_factorials}
 use Rattle.basis_change_laws.proofs.AugmentedMonomials.{multiplicity_factorials-cons}
-use Rattle.basis_change_laws.specs.JoinedLists.{merged}
 use native.Mathlib.Nat.{mul-pos, mul-le-mul_left}
 use Rattle.monomial_laws.proofs.Growths.{factorial-mono}
 
@@ -84,11 +79,3 @@ none-taken (a ∷ parts) zero part h n = absurd (omega arith)
 none-taken (a ∷ parts) (suc at) part h n =
     ap (λ l. a ∷ l) (none-taken parts at part (omega arith) (λ i l. n (suc i) (omega arith)))
     ∙ sym (cond-false (a == part) parts (a ∷ without_one part parts) (ne_eqb a part (n 0 (omega arith))))
-
--- and put back
-pub part-back : (part : ℕ) (whole : List ℕ) → (part ≡ 0 → ⊥) → IsPartition whole → has part (0 ∷ whole) ≡ true → insert_part part (without_one part whole) ≡ whole
-part-back part whole n p h = insert_part-without_one part whole (omega arith) p.falls (by (zero_or_has part whole h))
-  where
-    by : (part ≡ 0) ⊎ (has part whole ≡ true) → has part whole ≡ true
-    by (inl e) = absurd (n e)
-    by (inr t) = t

@@ -32,7 +32,7 @@ use Rattle.coeff_rings.specs.Fractions.{scaled}
 use Rattle.basis_change.specs.Arranging.{times_straight, straight_term, straight_terms, at_label}
 use Rattle.basis_change.specs.Straightening.{straightened_list, IsPast}
 use Rattle.basis_change.proofs.StraightTerms.{weight-total, straight_term-some}
-use Rattle.basis_change.proofs.ArrangementSteps.{IsArrangement, arrangement}
+use Rattle.arrangement_laws.proofs.LastPlaces.{IsArrangement, arrangement}
 use Rattle.basis_change.proofs.MultinomialSums.{total-mono, multinomial, arranged, multinomials-within, arranged-within}
 use Rattle.basis_change.proofs.CostTable.{factorials-positive}
 use Rattle.sym_model.proofs.Ring.{distributes_right}
@@ -43,7 +43,7 @@ use lib.IntN.{*ℤ-zero, zero-*ℤ}
 
 -- ---- one arrangement
 
-sign-size : (k : ℕ) (z : ℤ) → nat_abs (minus_one_to k *ℤ z) ≡ nat_abs z
+pub sign-size : (k : ℕ) (z : ℤ) → nat_abs (minus_one_to k *ℤ z) ≡ nat_abs z
 sign-size k z = unsigned_abs-mul (minus_one_to k) z ∙ ap (λ n. n * nat_abs z) (one k) ∙ single (nat_abs z)
   where
     one : (k : ℕ) → nat_abs (minus_one_to k) ≡ 1
@@ -106,7 +106,7 @@ weight-each {A} w h xs =
     ∙ total_ext (λ (x : A). total (λ (t : MixedLabel × ℤ). pos (nat_abs t.1 * w t.0)) (h x)) (λ (x : A). pos (weight w (h x))) (λ x. sym (weight-total w (h x))) xs
 
 label-within : (N n : ℕ) (ν : List ℕ) (z : ℤ) (parts : List ℕ) → nat_abs z * factorials parts ≤ N * factorial (size parts)
-    → pos (weight (at_label ν) (straight_terms z [] parts n)) ≤ℤ (pos N *ℤ arranged (size ν) n parts)
+    → pos (weight (at_label ν) (straight_terms z parts n)) ≤ℤ (pos N *ℤ arranged (size ν) n parts)
 label-within N n ν z parts h =
     let e = weight-each (at_label ν) (λ (α : List ℕ). straight_term z (shifted α)) (arrangements parts n) in
     let m = total-mono (λ (α : List ℕ). pos (weight (at_label ν) (straight_term z (shifted α)))) (λ (α : List ℕ). cond (eqb (size parts) (size ν)) (pos (nat_abs z)) (pos 0)) (arrangements parts n)
@@ -133,8 +133,8 @@ number-bound N D terms b t m =
 
 terms-within : (N D n : ℕ) (ν : List ℕ) (terms : Terms (List ℕ)) → IsBounded N D terms → pos (weight (at_label ν) (straightened_list D n terms)) ≤ℤ (pos N *ℤ sum_of (size ν) n terms)
 terms-within N D n ν terms b =
-    let e = weight-each (at_label ν) (λ (t : List ℕ × Fraction). straight_terms (scaled D t.1) [] t.0 n) terms in
-    let m = total-mono (λ (t : List ℕ × Fraction). pos (weight (at_label ν) (straight_terms (scaled D t.1) [] t.0 n))) (λ (t : List ℕ × Fraction). pos N *ℤ arranged (size ν) n t.0) terms
+    let e = weight-each (at_label ν) (λ (t : List ℕ × Fraction). straight_terms (scaled D t.1) t.0 n) terms in
+    let m = total-mono (λ (t : List ℕ × Fraction). pos (weight (at_label ν) (straight_terms (scaled D t.1) t.0 n))) (λ (t : List ℕ × Fraction). pos N *ℤ arranged (size ν) n t.0) terms
     (λ t i. label-within N n ν (scaled D t.1) t.0 (number-bound N D terms b t i)) in
     let s = total_scale (pos N) (λ (t : List ℕ × Fraction). arranged (size ν) n t.0) terms in
     omega (arith, ints)

@@ -52,9 +52,9 @@ one-value n φ c (Some s) =
 
 -- all arrangements of a partition
 label-value : (n d : ℕ) (φ : List ℕ → ℤ) (c : ℤ) (parts : List ℕ) → IsPartition parts → size parts ≤ d
-    → total (term_value n φ) (straight_terms c [] parts d) ≡ c *ℤ pair (monomial parts n) φ
+    → total (term_value n φ) (straight_terms c parts d) ≡ c *ℤ pair (monomial parts n) φ
 label-value n d φ c parts p h =
-    total-straight_terms (term_value n φ) c [] parts d
+    total-straight_terms (term_value n φ) c parts d
     ∙ total_ext (λ (α : List ℕ). total (term_value n φ) (straight_term c (shifted α))) (λ (α : List ℕ). c *ℤ pair (combined (λ label. schur label n) (straightened_term (straightened α))) φ)
     (λ α. one-value n φ c (straight (shifted α))) (arrangements parts d)
     ∙ total_scale c (λ (α : List ℕ). pair (combined (λ label. schur label n) (straightened_term (straightened α))) φ) (arrangements parts d)
@@ -68,8 +68,8 @@ label-value n d φ c parts p h =
 straightened-value : (n d D : ℕ) (φ : List ℕ → ℤ) (terms : Terms (List ℕ)) → IsTable terms → AreWithin d terms
     → weighed (schur_value n φ) (straightened_list D d terms) ≡ pair (in_monomials (over D terms) n) φ
 straightened-value n d D φ terms is w =
-    total_each (term_value n φ) (λ (t : List ℕ × Fraction). straight_terms (scaled D t.1) [] t.0 d) terms
-    ∙ total_among (λ (t : List ℕ × Fraction). total (term_value n φ) (straight_terms (scaled D t.1) [] t.0 d)) (λ (t : List ℕ × Fraction). scaled D t.1 *ℤ pair (monomial t.0 n) φ) terms
+    total_each (term_value n φ) (λ (t : List ℕ × Fraction). straight_terms (scaled D t.1) t.0 d) terms
+    ∙ total_among (λ (t : List ℕ × Fraction). total (term_value n φ) (straight_terms (scaled D t.1) t.0 d)) (λ (t : List ℕ × Fraction). scaled D t.1 *ℤ pair (monomial t.0 n) φ) terms
     (λ t m. label-value n d φ (scaled D t.1) t.0 (label-partition terms is t m) (w t m))
     ∙ sym (pair-over n D φ terms)
 

@@ -112,12 +112,12 @@ pub overflow_put_here : (es : Mixed) (i : ℕ) (label : MixedLabel) (had c : ℤ
 overflow_put_here es i label had c h large = overflow_by es i label had c h large (at_label label.converted) (at_label-itself label)
 
 -- the label at the place where a test finds one
-pub entry_found : (es : Mixed) (test : MixedLabel → Bool) (i : ℕ) → i < length es → position test (keys_of es) ≡ Some i
-    → (p : MixedLabel × ℤ) × (slice_get es i ≡ Some p) × (test p.0 ≡ true)
-entry_found [] test i l h = absurd (omega arith)
-entry_found (e ∷ es) test i l h = let p = entry (e ∷ es) i l in (p.0, p.1, ap test (sym (p.2 e.0)) ∙ (position-Some test (keys_of (e ∷ es)) i e.0 h).1)
+pub entry_found : {K V : Type 0} (es : List (K × V)) (test : K → Bool) (i : ℕ) → i < length es → position test (keys_of es) ≡ Some i
+    → (p : K × V) × (slice_get es i ≡ Some p) × (test p.0 ≡ true)
+entry_found {K} {V} [] test i l h = absurd (omega arith)
+entry_found {K} {V} (e ∷ es) test i l h = let p = entry (e ∷ es) i l in (p.0, p.1, ap test (sym (p.2 e.0)) ∙ (position-Some test (keys_of (e ∷ es)) i e.0 h).1)
   where
-    entry : (ds : Mixed) (j : ℕ) → j < length ds → (p : MixedLabel × ℤ) × (slice_get ds j ≡ Some p) × ((d : MixedLabel) → get_or (keys_of ds) j d ≡ p.0)
+    entry : (ds : List (K × V)) (j : ℕ) → j < length ds → (p : K × V) × (slice_get ds j ≡ Some p) × ((d : K) → get_or (keys_of ds) j d ≡ p.0)
     entry [] j k = absurd (omega arith)
     entry (d ∷ ds) zero k = (d, refl, λ x. refl)
     entry (d ∷ ds) (suc j) k = entry ds j (omega arith)

@@ -1,11 +1,8 @@
--- The arrangements of a partition made place by place, as beta lists, and what they straighten to (this project's own; the
--- straightening is Macdonald's, I.3).
-use Rattle.std.specs.Prelude.{◌≡◌, ℕ, zero, suc, drop, ◌+◌, ◌^◌, ◌<◌, ◌≤◌, true, cond, ℤ, ◌*ℤ◌, List, [], ◌∷◌, ◌++◌, Option, Some, None}
+-- What the arrangements of a partition straighten to, as terms (this project's own; the straightening is Macdonald's, I.3).
+use Rattle.std.specs.Prelude.{ℕ, ◌+◌, ◌^◌, ◌≤◌, cond, ℤ, ◌*ℤ◌, List, [], ◌∷◌, Option, Some, None}
 use Rattle.sym_model.specs.Sum.{each}
 use Rattle.sym_model.specs.Polynomial.{same}
-use Rattle.sym_model.specs.Bases.{has}
 use Rattle.sym_model.specs.BetaList.{has_equal_entries, sorted_falling, sorting_sign, from_beta}
-use Rattle.sym_model.specs.RaisedPart.{distinct}
 use Rattle.sym_model.specs.Arrangement.{arrangements}
 use Rattle.sym_model.specs.Straightening.{shifted}
 use Rattle.basis_change.specs.declared.mixed.MixedLabel.{MixedLabel}
@@ -25,19 +22,9 @@ times_straight c (Some s) = (mixed s.1 [], s.0 *ℤ c) ∷ []
 abbrev pub straight_term : ℤ → List ℕ → Mixed
 straight_term c entries = times_straight c (straight entries)
 
--- c times what the arrangements of a partition in n places come to, the entries of their beta lists put after those of the
--- places before
-abbrev pub straight_terms : ℤ → List ℕ → List ℕ → ℕ → Mixed
-straight_terms c front parts n = each (λ α. straight_term c (front ++ shifted α)) (arrangements parts n)
-
--- the numbers that may stand in a place of an arrangement, from a place among 0 and all the parts on: of equal parts the last
-abbrev pub numbers_from : ℕ → List ℕ → List ℕ
-numbers_from zero parts = 0 ∷ distinct parts
-numbers_from (suc at) parts = distinct (drop at parts)
-
--- the entries of so many places with 0, the last ones before n places more, are there
-abbrev pub HasZeros : List ℕ → ℕ → ℕ → Type 0
-HasZeros front n zeros = (k : ℕ) → n ≤ k → k < n + zeros → has k front ≡ true
+-- c times what the arrangements of a partition in n places come to
+abbrev pub straight_terms : ℤ → List ℕ → ℕ → Mixed
+straight_terms c parts n = each (λ α. straight_term c (shifted α)) (arrangements parts n)
 
 -- 1 at the labels of this partition of the target, 0 at the others
 abbrev pub at_label : List ℕ → MixedLabel → ℕ

@@ -4,5 +4,6 @@ pub mod Factors
 pub mod Costs
 pub mod Clearing
 pub mod Arranging
+pub mod KeptLists
 pub mod Straightening
 pub mod ClearedAnswer

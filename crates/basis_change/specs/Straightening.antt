@@ -9,7 +9,7 @@ use Rattle.basis_change.specs.Arranging.{straight_terms, OverflowsSomewhere}
 -- the list times den, each label straightened in so many places
 abbrev pub straightened_list : ℕ → ℕ → Terms (List ℕ) → Mixed
 straightened_list den places terms =
-    each (λ (t : List ℕ × Fraction). straight_terms (scaled den t.1) [] t.0 places) terms
+    each (λ (t : List ℕ × Fraction). straight_terms (scaled den t.1) t.0 places) terms
 
 -- a coefficient of the list times den reaches 2^127, or one of the Schur polynomials does
 abbrev pub IsPast : ℕ → ℕ → Terms (List ℕ) → Type 0

@@ -1,11 +1,12 @@
 //! Changes between the bases of symmetric functions.
 #![tactic(auto)]
 
-mod arranging;
 mod change;
 mod clearing;
 mod division;
 mod factors;
+mod hooks;
+mod kept;
 mod mixed;
 mod parts;
 mod products;

@@ -1,7 +1,6 @@
 //! Partitions with parts put in and raised, and numbers that belong to a partition.
-ghost use Rattle.std.specs.Prelude.{◌≡◌, ◌+◌, ◌<◌, ◌≤◌, ◌^◌, ◌∷◌, true, ℕ, List, length, insert, IfOk, OnOk};
-ghost use Rattle.sym_model.specs.Bases.{has};
-ghost use Rattle.sym_model.specs.Partition.{insert_part, ArePositive, IsPartition};
+ghost use Rattle.std.specs.Prelude.{◌≡◌, ◌+◌, ◌<◌, ◌≤◌, ◌^◌, length, insert, IfOk, OnOk};
+ghost use Rattle.sym_model.specs.Partition.{insert_part, ArePositive};
 ghost use Rattle.sym_model.specs.RaisedPart.{raise, without_one};
 ghost use Rattle.sym_model.specs.Schur.{times_in};
 ghost use Rattle.sym_model.specs.Weight.{factorial};
@@ -102,15 +101,13 @@ pub(crate) fn take_part(parts: &mut Vec<u16>, part: u16)
     }
 }
 
-/// Puts a number back that was taken off a partition; 0 is no part.
-pub(crate) fn put_part(parts: &mut Vec<u16>, part: u16) -> Result<(), AllocError>
-    ensures { OnOk result ((whole : List ℕ) → IsPartition whole → has part (0 ∷ whole) ≡ true
-        → parts.old.items ≡ without_one part whole → parts.new.items ≡ whole) }
+/// The parts without the first one that is the number.
+pub(crate) fn without_part(alloc: Global, parts: &[u16], part: u16) -> Result<Vec<u16>, AllocError>
+    ensures { IfOk result (λ rest. rest.items ≡ without_one part parts.now) }
 {
-    if part == 0 {
-        return Ok(());
-    }
-    insert_part(parts, part)
+    let mut rest = copy_of(alloc, parts)?;
+    take_part(&mut rest, part);
+    Ok(rest)
 }
 
 /// How often the number is a part.

@@ -9,21 +9,41 @@ ghost use Rattle.monomial_expand.specs.LabelSizes.{AreWithin};
 ghost use Rattle.basis_change.specs.Mixed.{Added};
 ghost use Rattle.coeff_rings.specs.Fractions.{scaled};
 ghost use Rattle.basis_change.specs.Arranging.{straight_terms, OverflowsSomewhere};
+ghost use Rattle.basis_change.specs.KeptLists.{multiple};
 ghost use Rattle.basis_change.specs.Straightening.{straightened_list, IsPast};
 
-use crate::arranging::add_arrangements;
 use crate::clearing::{LIMIT, greatest_size, is_table, scaled_number};
 use crate::division::divided;
-use crate::parts::copy_of;
-use crate::table::Mixed;
+use crate::kept::{kept_list, list_at};
+use crate::mixed::MixedLabel;
+use crate::table::{Mixed, add};
 use calc_base::{SumFault, Weight};
-use coeff_rings::Frac;
+use coeff_rings::{Frac, Int, Ring};
 use indexmap::IndexMap;
+use monomial_expand::{Whole, is_whole};
 use partitions::Partition;
 use sparse_polys::Lin;
 use std::alloc::Global;
 
-/// The list times `den` in Schur polynomials, by the arrangements of each label in so many places.
+/// Adds c times each term of a list.
+fn add_multiple(alloc: Global, sum: &mut Mixed, list: &Whole, c: Int) -> Result<(), SumFault>
+    ensures ok { OnOk result (Added (multiple c list.now) sum.old.entries sum.new.entries) }
+    ensures large { IsErrOf result SumFault.Large → OverflowsSomewhere (multiple c list.now) sum.old.entries }
+{
+    for (shape, k) in list.iter() {
+        let Some(number) = k.mul(c) else {
+            return Err(SumFault::Large);
+        };
+        let label = MixedLabel {
+            converted: shape.copy()?,
+            augmented: Partition::from_valid_parts(alloc, &[])?,
+        };
+        add(sum, label, number)?;
+    }
+    Ok(())
+}
+
+/// The list times `den` in Schur polynomials, by what the arrangements of each label in so many places straighten to.
 fn straightened(
     alloc: Global,
     list: &Lin<Partition, Frac>,
@@ -37,13 +57,15 @@ fn straightened(
     ensures large { IsErrOf result SumFault.Large → IsPast den places list.now }
 {
     let mut sum = IndexMap::new(alloc);
-    let mut front = Vec::new(alloc);
+    let mut lists = IndexMap::new(alloc);
     for (label, c) in list.iter() {
         let Some(number) = scaled_number(*c, den) else {
             return Err(SumFault::Large);
         };
-        let mut parts = copy_of(alloc, label.parts())?;
-        add_arrangements(alloc, &mut sum, &mut front, &mut parts, places, 0, number)?;
+        let at = kept_list(alloc, &mut lists, label.parts())?;
+        let (_, kept) = list_at(&lists, at);
+        is_whole(kept);
+        add_multiple(alloc, &mut sum, kept, number)?;
     }
     Ok(sum)
 }

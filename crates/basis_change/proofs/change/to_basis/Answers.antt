@@ -1,4 +1,4 @@
-use Rattle.std.proofs.Common.{◌≡◌, ◌*◌, ℕ, sym, ap, subst, Result, Ok, Err}
+use Rattle.std.proofs.Common.{◌*◌, ℕ, sym, subst, Result, Ok, Err}
 use Rattle.std.specs.Prelude.{IfOk}
 use Rattle.sym_model.specs.Polynomial.{Poly}
 use Rattle.sym_model.specs.Expansion.{monomials, IsExpansionOf}

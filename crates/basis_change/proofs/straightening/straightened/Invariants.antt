@@ -1,12 +1,13 @@
 use Rattle.std.proofs.Common.{◌≡◌, [], ◌++◌, map}
 use Rattle.std.specs.Map.Iter.{deref_pair}
 use Rattle.basis_change.specs.Mixed.{Added}
+use Rattle.basis_change.specs.KeptLists.{AreKept}
 use Rattle.basis_change.specs.Straightening.{straightened_list}
 use Rattle.basis_change.proofs.straightening.straightened.Given as goal
 
 abbrev pub invariant-loop-label : goal.invariant-loop-label
 invariant-loop-label l = record {
-  front : l.front.items ≡ [];
+  kept : AreKept l.lists.entries;
   added : Added (straightened_list l.den l.places (map deref_pair l.yielded)) [] l.sum.entries;
   so_far : map deref_pair l.yielded ++ l.label-iterator ≡ l.initial.label-iterator;
 }
