@@ -7,7 +7,7 @@ use Rattle.std.specs.Prelude.{nat_abs, ◌≢◌, Result, IfOk}
 use Rattle.calc_base.specs.declared.faults.SumFault.{SumFault}
 use Rattle.sym_model.specs.Conjugate.{conjugate}
 use Rattle.sym_model.specs.Schur.{schur}
-use Rattle.partitions.proofs.Conjugates.{size-conjugate}
+use Rattle.sym_model.proofs.Conjugates.{size-conjugate}
 use Rattle.special_hook_laws.proofs.ConjugateStrips.{conjugate_twice}
 use Rattle.std.proofs.lemmas.Int.{unsigned_abs-mul}
 use Rattle.std.proofs.lemmas.Nat.{mul-le}

@@ -2,7 +2,7 @@ use Rattle.std.proofs.Common.{◌≤◌, ◌^◌, ap, ◌∙◌, subst, arith}
 use Rattle.sym_model.specs.Expansion.{completes}
 use Rattle.sym_model.specs.Partition.{size}
 use Rattle.sym_model.specs.Weight.{growth}
-use Rattle.partitions.proofs.Conjugates.{size-conjugate}
+use Rattle.sym_model.proofs.Conjugates.{size-conjugate}
 use Rattle.basis_change.specs.Factors.{polynomial_of}
 use Rattle.direct_families.proofs.PeelingSteps.{conjugate-list}
 use Rattle.direct_families.proofs.atoms.schur_terms.Goals as goal
