@@ -1,5 +1,5 @@
-/* The product of two Schur functions, printed: cc example.c -lcalc */
-#include "calc.h"
+/* The product of two Schur functions, printed: cc example.c $(pkg-config --cflags --libs yorqanish) */
+#include <yorqanish.h>
 #include <stdio.h>
 #include <string.h>
 

@@ -42,8 +42,15 @@ class Tally:
 
 
 def program():
-    """The built program: that of the environment's CALC, or the repository's own."""
-    return os.path.abspath(os.environ.get("CALC") or os.path.join(TOP, "crates/calc/out/calc"))
+    """The program that is tried: that of the environment's CALC, the one that was built here, or else that of prebuilt/."""
+    built = os.path.join(TOP, "crates/calc/out/calc")
+    return os.path.abspath(os.environ.get("CALC") or (built if os.path.exists(built) else os.path.join(TOP, "prebuilt/calc")))
+
+
+def made(name):
+    """What library/build or web/build made here, or else what prebuilt/ has."""
+    here = os.path.join(TOP, "build", name)
+    return here if os.path.exists(here) else os.path.join(TOP, "prebuilt", name)
 
 
 def commands():

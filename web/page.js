@@ -1,336 +1,324 @@
-"use strict";
+// The page: the worker, the queue, the answers.
 
-// ---- the commands, each with examples
-
-const COMMANDS = [
-  ["Products of Schur functions, in at most so many variables, on one line", ["mult 2 1 - 2 1", "mult -r 2 2 1 - 2 1", "mult -m 1 - 1 - 1"]],
-  ["Skew Schur functions, a coefficient, coproducts", ["skew 3 2 1 / 2 1", "coef 3 2 1 - 2 1 - 2 1", "coprod 2 1"]],
-  ["Quantum and fusion products", ["quantum 2 2 1 - 2 1", "fusion 3 2 2 1 - 2 1"]],
-  ["Schubert polynomials and their products, single and double", ["schubert 2 1 4 3", "schubmult 1 3 2 - 1 3 2", "dschubmult 2 1 - 2 1"]],
-  ["Stanley polynomials in so many variables", ["stanley -r 2 2 1 4 3"]],
-  ["An expression in the basis m, e, h, p or s", ["expand p s[2,1]", "expand s h[2]*p[1]", "expand -m s 1/2*p[1,1]-1/2*p[2]"]],
-  ["Lattice tableaux, insertion and its inverse, slides", ["tab 3 2 1 / 2 1", "rsk 3 1 2", "unrsk 1 2 / 3 - 1 3 / 2", "rect 2 2 / 1 - 1 / 1 2"]],
-  ["Plethysm", ["plethysm s h[2] h[2]"]],
-  ["Growth grids", ["growth 3 1 2"]],
-];
-
-// ---- answers as values
-
-const WHOLE = /^-?\d+(\/\d+)?$/;
-
-/** The numbers of a label such as (2,1). */
-function numbers(label) {
-  return label === "()" ? [] : label.slice(1, -1).split(",").map(Number);
-}
-
-/** The terms of a block: coefficient, labels, and the power of q where there is one; null where the text is no such block. */
-function termsOf(text) {
-  if (text === "0\n") return [];
-  const terms = [];
-  for (const line of text.trimEnd().split("\n")) {
-    const found = /^(-?\d+(?:\/\d+)?)  (?:q\^(\d+)  )?(\([\d,]*\))(?: (\([\d,]*\)))?$/.exec(line);
-    if (!found) return null;
-    terms.push({ c: found[1], q: found[2], first: numbers(found[3]), second: found[4] && numbers(found[4]) });
-  }
-  return terms;
-}
-
-/** What a label of the command is: a letter of a basis, a permutation, a monomial. */
-function lettersOf(line) {
-  const words = line.split(/\s+/);
-  if (words[0] === "expand") return words[1] === "-m" ? words[2] : words[1];
-  if (words[0] === "plethysm") return words[1];
-  return { schubert: "x", schubmult: "S", dschubmult: "SS", quantum: "q" }[words[0]] || "s";
-}
-
-/** A coefficient in LaTeX, and whether it is negative. */
-function latexNumber(c) {
-  const negative = c.startsWith("-"), size = negative ? c.slice(1) : c;
-  const [over, under] = size.split("/");
-  return { negative, text: under ? `\\frac{${over}}{${under}}` : over === "1" ? "" : over };
-}
-
-function monomial(letter, exponents) {
-  return exponents.map((e, i) => (e === 0 ? "" : e === 1 ? `${letter}_{${i + 1}}` : `${letter}_{${i + 1}}^{${e}}`)).filter(Boolean).join(" ");
-}
-
-function latexLabel(term, letter) {
-  if (letter === "x") return monomial("x", term.first);
-  if (letter === "S") return `\\mathfrak{S}_{${term.first.join(" ")}}`;
-  if (letter === "SS") return `${monomial("y", term.second)} \\mathfrak{S}_{${term.first.join(" ")}}`.trim();
-  const one = (label) => `${letter === "q" ? "\\sigma" : letter}_{${label.join(",") || "\\emptyset"}}`;
-  const power = term.q && term.q !== "0" ? (term.q === "1" ? "q " : `q^{${term.q}} `) : "";
-  return power + (term.second ? `${one(term.first)} \\otimes ${one(term.second)}` : one(term.first));
-}
-
-function latexOf(line, terms) {
-  if (terms.length === 0) return "0";
-  const letter = lettersOf(line);
-  return terms
-    .map((term, i) => {
-      const { negative, text } = latexNumber(term.c);
-      const label = latexLabel(term, letter);
-      return (negative ? "-" : i ? "+" : "") + (text || (label ? "" : "1")) + label;
-    })
-    .join("");
-}
-
-/** The answer as a line for Sage: a sum of terms of its symmetric functions or Schubert polynomials. */
-function sageOf(line, terms) {
-  const letter = lettersOf(line);
-  const signed = (c, text, i) => (c.startsWith("-") ? c : i ? "+" + c : c) + "*" + text;
-  const list = (label) => `[${label.join(",")}]`;
-  const one = (term) => {
-    if (letter === "x") return `x^(${term.first.join(",") || "0"})`;
-    if (letter === "S") return `X(${list(term.first)})`;
-    if (letter === "SS") return null;
-    if (term.second) return `tensor([s(${list(term.first)}), s(${list(term.second)})])`;
-    return term.q ? `q^${term.q}*s(${list(term.first)})` : `${letter}(${list(term.first)})`;
-  };
-  if (letter === "x") {
-    return terms.map((t, i) => signed(t.c, t.first.map((e, k) => `x${k}^${e}`).join("*") || "1", i)).join("") || "0";
-  }
-  const texts = terms.map((t, i) => [t, one(t), i]);
-  return texts.some(([, text]) => text === null) ? null : texts.map(([t, text, i]) => signed(t.c, text, i)).join("") || "0";
-}
-
-// ---- drawings
-
-const CELL = 16;
-
-/** A picture of rows of cells: each row begins at a column and holds entries or nothing. */
-function picture(rows, labelled) {
-  const width = Math.max(1, ...rows.map((row) => row.begins + row.cells.length)), height = Math.max(1, rows.length);
-  const cell = labelled ? 22 : CELL;
-  const svg = document.createElementNS("http://www.w3.org/2000/svg", "svg");
-  svg.setAttribute("width", width * cell + 2);
-  svg.setAttribute("height", height * cell + 2);
-  svg.setAttribute("role", "img");
-  rows.forEach((row, i) =>
-    row.cells.forEach((entry, j) => {
-      const box = document.createElementNS(svg.namespaceURI, "rect");
-      Object.entries({ x: (row.begins + j) * cell + 1, y: i * cell + 1, width: cell, height: cell }).forEach(([k, v]) => box.setAttribute(k, v));
-      svg.append(box);
-      if (labelled) {
-        const text = document.createElementNS(svg.namespaceURI, "text");
-        text.setAttribute("x", (row.begins + j + 0.5) * cell + 1);
-        text.setAttribute("y", (i + 0.5) * cell + 1);
-        text.textContent = entry;
-        svg.append(text);
-      }
-    }),
-  );
-  return svg;
-}
-
-function diagram(parts) {
-  return picture(parts.map((part) => ({ begins: 0, cells: Array(part).fill("") })), false);
-}
-
-/** The rows of a printed tableau; each begins where the inner shape ends. */
-function tableau(text, inner = []) {
-  if (text === ".") return picture([], true);
-  return picture(text.split(" / ").map((row, i) => ({ begins: inner[i] || 0, cells: row === "." ? [] : row.split(" ") })), true);
-}
-
-function figure(drawing, caption) {
-  const it = document.createElement("figure");
-  it.append(drawing);
-  if (caption !== undefined) {
-    const text = document.createElement("figcaption");
-    text.textContent = caption;
-    it.append(text);
-  }
-  return it;
-}
-
-const MOST_DRAWN = 60;
-
-/** What can be drawn of an answer: diagrams of its partitions, its tableaux, its grid; nothing of the others. */
-function drawn(line, text) {
-  const words = line.trim().split(/\s+/), lines = text.trimEnd().split("\n"), box = document.createElement("div");
-  box.className = "drawn";
-  if (words[0] === "growth") {
-    const table = document.createElement("table");
-    table.className = "grid";
-    for (const row of lines) {
-      const cells = document.createElement("tr");
-      for (const label of row.split(" ")) {
-        const cell = document.createElement("td");
-        cell.append(label === "()" ? "∅" : diagram(numbers(label)));
-        cells.append(cell);
-      }
-      table.append(cells);
-    }
-    box.append(table);
-  } else if (words[0] === "rsk") {
-    lines.forEach((it) => box.append(figure(tableau(it.slice(2)), it[0])));
-  } else if (words[0] === "rect") {
-    box.append(figure(tableau(lines[0])));
-  } else if (words[0] === "tab") {
-    if (text === "0\n") return null;
-    const slash = words.indexOf("/"), behind = words.indexOf("-from");
-    const inner = words.slice(slash + 1, behind < 0 ? undefined : behind).map(Number);
-    lines.slice(0, MOST_DRAWN).forEach((it) => box.append(figure(tableau(it, inner))));
-  } else {
-    const terms = termsOf(text);
-    if (!terms || ["x", "S", "SS"].includes(lettersOf(line))) return null;
-    for (const term of terms.slice(0, MOST_DRAWN)) {
-      const power = term.q ? ` q^${term.q}` : "";
-      box.append(figure(term.first.length ? diagram(term.first) : document.createTextNode("∅"), term.second ? `${term.c}, first` : term.c + power));
-      if (term.second) box.append(figure(term.second.length ? diagram(term.second) : document.createTextNode("∅"), "second"));
-    }
-  }
-  return box.childNodes.length ? box : null;
-}
-
-// ---- the page
-
-const at = (id) => document.getElementById(id);
 const WORKER = `/*WORKER*/`;
 const MODULE = "/*MODULE*/";
-const history_ = [];
-const waiting = [];
-let worker, place = 0, isReady = false, running = null;
+const CITATION = "/*CITATION*/";
+
+const at = (id) => document.getElementById(id);
 
 function say(text) {
   at("state").textContent = text;
 }
 
+// ---- the worker and its queue
+
+/** What was asked, the latest last; what waits; what runs, with the time when it began. */
+const asked = [];
+const waiting = [];
+let worker, place = 0, isReady = false, running = null, clock;
+
+/** Starts the module anew. */
 function boot() {
   isReady = false;
-  worker = new Worker(URL.createObjectURL(new Blob([WORKER], { type: "text/javascript" })));
-  worker.onerror = (error) => say(`The module could not be started: ${error.message}`);
-  worker.onmessage = ({ data }) => {
-    if (data.ready) {
-      isReady = true;
-      at("run").disabled = false;
-      say("Ready.");
-    } else {
-      running = null;
-      show(data);
-    }
-    next();
-  };
-  worker.postMessage({ wasm: Uint8Array.from(atob(MODULE), (byte) => byte.charCodeAt(0)).buffer });
+  say("The module is being compiled.");
+  try {
+    worker = new Worker(URL.createObjectURL(new Blob([WORKER], { type: "text/javascript" })));
+    worker.onerror = (error) => fail(error.message || "its worker does not start");
+    worker.onmessage = ({ data }) => received(data);
+    const bytes = Uint8Array.from(atob(MODULE), (byte) => byte.charCodeAt(0)).buffer;
+    worker.postMessage({ packed: bytes }, [bytes]);
+  } catch (error) {
+    fail(error.message);
+  }
+}
+
+/** Says that nothing can be computed. */
+function fail(message) {
+  isReady = false;
+  running = null;
+  waiting.length = 0;
+  document.body.classList.add("failed");
+  at("run").disabled = true;
+  update();
+  say(`The module could not be started in this browser, so nothing can be computed here: ${message}`);
+}
+
+function received(data) {
+  if (data.failed !== undefined) return fail(data.failed);
+  if (data.ready) {
+    isReady = true;
+    at("run").disabled = false;
+    if (waiting.length === 0) say("Ready.");
+  } else {
+    const job = running;
+    running = null;
+    show(job, data);
+  }
+  return next();
 }
 
 function next() {
-  at("stop").disabled = !running;
-  if (!isReady || running || waiting.length === 0) return;
-  running = waiting.shift();
-  at("stop").disabled = false;
-  say(`${running} is running.`);
-  worker.postMessage({ line: running });
+  if (isReady && !running && waiting.length > 0) {
+    running = waiting.shift();
+    running.began = performance.now();
+    say(`${named(running.line)} is running.`);
+    worker.postMessage({ line: running.line });
+  }
+  update();
 }
 
-function ask(text) {
-  const lines = text.split(";").map((line) => line.trim()).filter(Boolean);
-  lines.forEach((line) => {
-    history_.push(line);
-    waiting.push(line);
-  });
-  place = history_.length;
-  location.hash = encodeURIComponent(lines.join("; "));
-  next();
+function stop() {
+  if (!running) return;
+  // (an answer on its way from the old worker is no answer to a later command)
+  worker.onmessage = null;
+  worker.terminate();
+  const job = running;
+  running = null;
+  show(job, { stopped: true, time: performance.now() - job.began });
+  boot();
+  update();
 }
+
+/** Runs the commands of a text as they were typed, after those that wait. */
+function ask(text) {
+  const jobs = linesOf(text).map((typed) => ({ typed, ...readTyped(typed) })).filter((job) => job.line);
+  if (jobs.length === 0) return say("Nothing to run: type a command, such as mult 2 1 - 2 1.");
+  for (const job of jobs) {
+    asked.push(job.typed);
+    waiting.push(job);
+  }
+  place = asked.length;
+  history.replaceState(null, "", "#" + encodeURIComponent(jobs.map((job) => job.line).join("; ")));
+  return next();
+}
+
+/** Shows what runs and what waits. */
+function update() {
+  at("stop").disabled = !running;
+  at("queue").hidden = waiting.length === 0;
+  at("count").textContent = `${waiting.length} ${waiting.length === 1 ? "command waits" : "commands wait"}.`;
+  at("waiting").replaceChildren(...waiting.slice(0, 100).map(waitingItem));
+  clearInterval(clock);
+  tick();
+  if (running) clock = setInterval(tick, 100);
+}
+
+function waitingItem(job) {
+  const remove = button("Remove", () => {
+    waiting.splice(waiting.indexOf(job), 1);
+    update();
+  });
+  remove.setAttribute("aria-label", `Remove ${named(job.line)}`);
+  return element("li", {}, element("code", {}, named(job.line)), " ", remove);
+}
+
+/** The sign that a command runs, which comes after a moment, and the time that has passed. */
+function tick() {
+  const passed = running ? performance.now() - running.began : 0;
+  at("progress").hidden = passed < 250;
+  if (running) {
+    at("running").textContent = named(running.line);
+    at("elapsed").textContent = `${(passed / 1000).toFixed(1)} s`;
+  }
+}
+
+// ---- answers
 
 function button(name, action) {
-  const it = document.createElement("button");
-  it.type = "button";
-  it.textContent = name;
+  const it = element("button", { type: "button" }, name);
   it.onclick = action;
   return it;
 }
 
-async function copy(text) {
+async function copy(text, what) {
   try {
     await navigator.clipboard.writeText(text);
+    say(`${what} copied.`);
   } catch {
-    const field = document.createElement("textarea");
+    const field = element("textarea");
     field.value = text;
     document.body.append(field);
     field.select();
-    document.execCommand("copy");
+    const isDone = document.execCommand("copy");
     field.remove();
+    say(isDone ? `${what} copied.` : "The browser does not let this page copy. Mark the text and copy it.");
   }
-  say("Copied.");
 }
 
-const MOST_SHOWN = 200000;
+function download(line, text) {
+  const name = `calc ${line}`.replace(/[^\w.,-]+/g, "_").slice(0, 80) + ".txt";
+  const link = element("a", { href: URL.createObjectURL(new Blob([text], { type: "text/plain" })), download: name });
+  link.click();
+  setTimeout(() => URL.revokeObjectURL(link.href), 60000);
+  say("The answer is being downloaded.");
+}
 
-function show({ line, status, text, time }) {
-  const article = document.createElement("article"), header = document.createElement("header");
-  const words = document.createElement("code"), about = document.createElement("span"), body = document.createElement("pre");
-  words.textContent = line;
-  about.textContent = status < 0 ? "no answer" : `status ${status}, ${time.toFixed(1)} ms`;
-  header.append(words, about);
-  body.textContent = text.length > MOST_SHOWN ? text.slice(0, MOST_SHOWN) + "... (copy has the whole)" : text;
-  body.tabIndex = 0;
-  if (status !== 0) article.className = "refused";
-  const tools = document.createElement("div"), terms = status === 0 ? termsOf(text) : null;
-  tools.className = "tools";
-  tools.append(button("Copy text", () => copy(text)));
-  if (terms) {
-    tools.append(button("Copy LaTeX", () => copy(latexOf(line, terms))));
-    const sage = sageOf(line, terms);
-    if (sage !== null) tools.append(button("Copy for Sage", () => copy(sage)));
-  }
-  article.append(header, tools, body);
-  const drawing = status === 0 && text.length < MOST_SHOWN ? drawn(line, text) : null;
+const LINES_SHOWN = 200;
+const CHARACTERS_OF_LINE = 500;
+
+/** Where this number of lines of a text ends; fewer lines, or a part of a single one, if they are very long. */
+function endOf(text, lines) {
+  const most = CHARACTERS_OF_LINE * lines;
+  let end = 0;
+  for (let i = 0; i < lines && end < text.length; i += 1) end = text.indexOf("\n", end) + 1 || text.length;
+  return end <= most ? end : text.lastIndexOf("\n", most - 1) + 1 || most;
+}
+
+/** How many lines a text has. */
+function linesIn(text) {
+  let count = 0;
+  for (let end = text.indexOf("\n"); end >= 0; end = text.indexOf("\n", end + 1)) count += 1;
+  return count;
+}
+
+/** The text of an answer, in part where it is long, and below it what is shown and how to have the rest. */
+function textOf(line, text) {
+  const body = element("pre", { tabindex: "0", "aria-label": "The text of the answer" });
+  const part = element("p", { class: "part" }), all = linesIn(text);
+  const showUpTo = (lines) => {
+    const end = endOf(text, lines), front = text.slice(0, end), shown = linesIn(front);
+    const [some, whole, what] = shown < all && shown > 0 ? [shown, all, "lines"] : [end, text.length, "characters"];
+    const said = `The first ${some.toLocaleString("en")} of ${whole.toLocaleString("en")} ${what} are shown.`;
+    const more = button("Show more", () => showUpTo(5 * lines)), save = button("Download", () => download(line, text));
+    body.textContent = front;
+    part.replaceChildren(said, " ", more, " ", save);
+    part.hidden = end >= text.length;
+  };
+  showUpTo(LINES_SHOWN);
+  return [body, part];
+}
+
+/** As much of a text as is looked at before a button asks for more: the lines shown first; a single line whole. */
+function frontOf(line, text) {
+  return line.includes("-m") ? text : text.slice(0, endOf(text, LINES_SHOWN));
+}
+
+/** The words of a line, with the place of an offence marked. */
+function marked(line, told) {
+  if (!told || told.at === undefined) return [line];
+  const end = told.at + told.length, mark = element("mark", {}, line.slice(told.at, end));
+  if (told.length === 0) mark.className = "end";
+  return [line.slice(0, told.at), mark, line.slice(end)];
+}
+
+/** How an answer ended and how long it took, in words. */
+function aboutOf(status, count, time, isStopped) {
+  const refused = status < 0 ? "no answer" : `refused, status ${status}`;
+  const how = isStopped ? "stopped" : status === 0 ? count : refused;
+  const took = time < 1000 ? `${time.toFixed(0)} ms` : `${(time / 1000).toFixed(1)} s`;
+  return [how, time < 1 ? "under 1 ms" : took].filter(Boolean).join(", ");
+}
+
+/** What the page did to what was typed, in words, if it did something. */
+function changesOf({ typed, changes }) {
+  const text = `Typed as “${typed}”. The page ${allOf(changes)}, and ran the words above.`;
+  return changes.length > 0 ? [element("p", { class: "note" }, text)] : [];
+}
+
+/** What the page adds to the text of an answer, in words: what was refused, what it means. */
+function notesOf(line, isDone, told, error) {
+  const note = (name, text) => element("p", { class: name }, text), notes = [];
+  if (told) notes.push(note("said", told.sentence + (error ? ` (${error})` : "")));
+  if (isDone && line === "batch") notes.push(note("note", "Here batch has no input. Type commands with ; between them."));
+  return isDone ? [...notes, ...meaningsOf(line).map((it) => note("meaning", it))] : notes;
+}
+
+/** Shows an answer above the others. */
+function show(job, { status, text = "", time, stopped, error }) {
+  const { line } = job, isDone = status === 0;
+  const told = stopped || isDone ? null : explained(line, status, text);
+  const answer = isDone ? answerOf(line, frontOf(line, text)) : null;
+  const count = countOf(answer, text), drawing = drawn(answer, text);
+  const title = element("h3", {}, element("code", {}, ...marked(line, told)));
+  const header = element("header", {}, title, element("span", {}, aboutOf(status, count, time, stopped)));
+  const article = element("article", isDone ? {} : { class: "refused" }, header, ...changesOf(job));
+  if (text) article.append(...textOf(line, text));
+  article.append(...notesOf(line, isDone, told, error), toolsOf(line, text, answer));
   if (drawing) article.append(drawing);
   at("answers").prepend(article);
-  say("Ready.");
+  performance.mark("answer");
+  const outcome = stopped ? "stopped." : told ? told.sentence : `${count || "done"}.`;
+  say(`${named(line)}: ${outcome}`);
 }
+
+/** The buttons of an answer. What they copy is made when they are pressed. */
+function toolsOf(line, text, answer) {
+  const tools = element("div", { class: "tools" });
+  const add = (name, made, what) => tools.append(button(name, () => copy(made(), what)));
+  const whole = () => answerOf(line, text);
+  if (text) add("Copy text", () => text, "Text");
+  if (answer) add("Copy LaTeX", () => latexOf(whole()), "LaTeX");
+  if (answer && sageOf(answer) !== null) add("Copy for Sage", () => sageOf(whole()), "Text for Sage");
+  add("Copy link", () => `${location.href.split("#")[0]}#${encodeURIComponent(line)}`, "Link");
+  return tools;
+}
+
+/** What the questions to begin with say of the answer to a line. */
+function meaningsOf(line) {
+  const buttons = [...document.querySelectorAll("#questions [data-line]")];
+  const asking = buttons.filter((it) => it.dataset.line === line);
+  return asking.map((it) => it.closest("li").querySelector(".meant").textContent);
+}
+
+// ---- what is typed and clicked
 
 document.forms[0].onsubmit = (event) => {
   event.preventDefault();
   ask(at("line").value);
 };
 
-at("stop").onclick = () => {
-  worker.terminate();
-  show({ line: running, status: -1, text: "Stopped.\n", time: 0 });
-  running = null;
+at("stop").onclick = stop;
+at("clear").onclick = () => {
   waiting.length = 0;
-  boot();
+  update();
+  say("The queue was cleared.");
 };
+at("cite").onclick = () => copy(CITATION, "Citation");
+
+document.addEventListener("keydown", (event) => {
+  if (event.key === "Escape") stop();
+});
 
 at("line").onkeydown = (event) => {
   const step = { ArrowUp: -1, ArrowDown: 1 }[event.key];
   if (!step) return;
   event.preventDefault();
-  place = Math.min(Math.max(place + step, 0), history_.length);
-  at("line").value = history_[place] || "";
+  place = Math.min(Math.max(place + step, 0), asked.length);
+  at("line").value = asked[place] || "";
 };
 
-for (const [what, examples] of COMMANDS) {
-  const row = document.createElement("tr"), name = document.createElement("td"), cell = document.createElement("td");
-  name.textContent = what;
-  examples.forEach((line) =>
-    cell.append(
-      button(line, () => {
-        at("line").value = line;
-        ask(line);
-        at("line").focus();
-      }),
-      document.createElement("br"),
-    ),
-  );
-  row.append(name, cell);
-  at("commands").append(row);
-}
+/** A list with a command on each line is pasted with `;` between them: the field has one line. */
+at("line").onpaste = (event) => {
+  const pasted = event.clipboardData.getData("text");
+  if (!/[\n\r]/.test(pasted.trim())) return;
+  event.preventDefault();
+  const field = at("line");
+  field.setRangeText(linesOf(pasted).join("; "), field.selectionStart, field.selectionEnd, "end");
+};
 
-window.onhashchange = () => {
-  const line = decodeURIComponent(location.hash.slice(1));
-  if (line && line !== history_.slice(-line.split(";").length).join("; ")) {
-    at("line").value = line;
-    ask(line);
+document.addEventListener("click", (event) => {
+  const line = event.target.dataset && event.target.dataset.line;
+  if (!line) return;
+  at("line").value = line;
+  ask(line);
+  const isStill = matchMedia("(prefers-reduced-motion: reduce)").matches;
+  window.scrollTo({ top: 0, behavior: isStill ? "auto" : "smooth" });
+  if (!matchMedia("(pointer: coarse)").matches) at("line").focus({ preventScroll: true });
+});
+
+/** Runs the commands of the page's address, if it has some; the sections have addresses, too. */
+function follow() {
+  let text = location.hash.slice(1);
+  try {
+    text = decodeURIComponent(text);
+  } catch {
+    // (an address with a % that begins no byte is taken as it is)
   }
-};
-boot();
-const linked = decodeURIComponent(location.hash.slice(1));
-if (linked) {
-  at("line").value = linked;
-  ask(linked);
+  if (!text || at(text)) return;
+  at("line").value = text;
+  ask(text);
 }
+
+window.onhashchange = follow;
+boot();
+follow();

@@ -5,7 +5,14 @@ const encoder = new TextEncoder();
 const decoder = new TextDecoder();
 /** That the module had no room left for a line or its text, as the program says with its status 7. */
 const refused = new Error("no memory");
+/** The room for the text of a line. A line with a longer text is run once more. */
+const ROOM = 1 << 22;
 let module, exports, needed;
+
+/** The module of bytes that gzip has packed. */
+function unpacked(bytes) {
+  return new Response(new Blob([bytes]).stream().pipeThrough(new DecompressionStream("gzip"))).arrayBuffer();
+}
 
 /** A fresh instance: nothing of an earlier call is left in it. */
 function start() {
@@ -21,11 +28,11 @@ function put(bytes) {
   return at;
 }
 
-/** The status and the text of a line. It is run once more where its text is longer than the buffer. */
+/** The status and the text of a line. */
 function run(line, input) {
   const words = encoder.encode(line), given = encoder.encode(input);
   const at = put(words), from = put(given);
-  for (let room = 1 << 16; ; ) {
+  for (let room = ROOM; ; ) {
     const out = exports.room(BigInt(room));
     if (out === 0n) throw refused;
     const status = exports.calc_run(at, BigInt(words.length), from, BigInt(given.length), out, BigInt(room), needed) & 255;
@@ -42,21 +49,29 @@ function run(line, input) {
   }
 }
 
-onmessage = async ({ data }) => {
-  if (data.wasm) {
-    module = await WebAssembly.compile(data.wasm);
-    start();
-    postMessage({ ready: true });
-    return;
-  }
-  const began = performance.now();
-  let answer;
+/** Runs a line, or says what went wrong. */
+function answered(line, input) {
   try {
-    answer = run(data.line, data.input || "");
+    return run(line, input);
   } catch (error) {
     // A trap, as where no stack is left, leaves the instance in no known state: it is thrown away whole.
-    answer = error === refused ? { status: 7, text: "" } : { status: -1, text: `${error.message}\n` };
     start();
+    return error === refused ? { status: 7, text: "" } : { status: -1, text: "", error: error.message };
   }
-  postMessage({ ...answer, line: data.line, time: performance.now() - began });
+}
+
+onmessage = async ({ data }) => {
+  try {
+    if (data.wasm || data.packed) {
+      module = await WebAssembly.compile(data.wasm || (await unpacked(data.packed)));
+      start();
+      postMessage({ ready: true });
+      return;
+    }
+    const began = performance.now();
+    const answer = answered(data.line, data.input || "");
+    postMessage({ ...answer, time: performance.now() - began });
+  } catch (error) {
+    postMessage({ failed: error.message });
+  }
 };

@@ -1,42 +1,31 @@
 """The commands of `calc` as methods."""
 from __future__ import annotations
 
-import subprocess
-from typing import Any, Callable, Iterable, Iterator, NamedTuple, Optional, Sequence, Union
+from concurrent.futures import Executor
+from typing import Any, Callable, Iterable, Iterator, Optional, SupportsIndex, Tuple, Union
 
-from ._answers import Expansion, Numbers, Pair, Tableau, numbers, rows, spoken
-from ._refusals import Refusal
-from ._ways import Pipe, found
+from . import _batch
+from ._answers import Grid, grid_of, letters_of
+from ._arguments import Exponents, Numbers, Partition, Permutation, Rows, Shape, factors, limit, numbers, partition, spoken, whole, words
+from ._batch import Block
+from ._expansion import Expansion, Number
+from ._refusals import Refusal, SyntaxRefusal
+from ._search import way
+from ._tableaux import Pair, Tableau, pair_of, tableau_of
+from ._ways import sent
 
-Shape = Sequence[int]
-
-
-class Block(NamedTuple):
-    """What came of a line of a batch: its text, or what it was refused by."""
-
-    line: str
-    text: str
-    refusal: Optional[Exception]
-
-
-def _words(*parts: Union[str, int, Shape]) -> str:
-    """A line of words: texts and numbers as they are, sequences number by number."""
-    return " ".join(it if isinstance(it, str) else str(it) if isinstance(it, int) else " ".join(map(str, it)) for it in parts if it != ())
-
-
-def _between(sign: str, shapes: Sequence[Shape]) -> "list[Union[str, Shape]]":
-    """Sequences with a word between them."""
-    words: "list[Union[str, Shape]]" = []
-    for shape in shapes:
-        words += [sign, shape] if words else [shape]
-    return words
+Words = Union[str, SupportsIndex, Shape]
+# An expression: its text, an answer of this package, or an element of a basis of Sage's symmetric functions.
+Expression = Union[str, "Expansion[Partition, Any]"]
 
 
 class Calculator:
-    """`calc`, by its C library where that is there, and else by its program.
+    """`calc`: the program `calc` in a separate process, or with `library=True` its C library in this process.
 
-    `library` is the path of `libcalc.so`, `program` that of `calc`. Where neither is given they are looked for as the head of
-    this package says. A calculator can be used by several threads, and `with` closes it.
+    Ctrl-C ends the program, and so does a call that takes longer than `timeout` seconds; the next call starts it again. The library is
+    faster for many small calls, but cannot be stopped. `program` and `library` can be paths; python/README.md says where they are looked
+    for otherwise. A Calculator can be shared by threads, which then work in parallel. It can also be used after a fork, and be pickled: the
+    copy starts a program of its own.
 
     >>> calc = Calculator()
     >>> calc.mult([1], [1])
@@ -44,11 +33,15 @@ class Calculator:
     >>> calc.mult([1, 2], [1])
     Traceback (most recent call last):
         ...
-    yorqanish._refusals.ShapeRefusal: Shape at word 2, byte 0
+    yorqanish._refusals.ShapeRefusal: part 2 of factor 1 is greater than part 1, in mult 1 [2] - 1
     """
 
-    def __init__(self, library: Optional[str] = None, program: Optional[str] = None) -> None:
-        self._way = found(library, program)
+    def __init__(self, *, program: Optional[str] = None, library: Union[bool, str, None] = None, timeout: Optional[float] = None) -> None:
+        if timeout is not None and library:
+            raise ValueError("timeout: a command of the library cannot be stopped")
+        self._arguments = (library, program)
+        self._seconds = timeout
+        self._way = way(library, program)
 
     def __enter__(self) -> "Calculator":
         return self
@@ -56,210 +49,294 @@ class Calculator:
     def __exit__(self, *error: Any) -> None:
         self.close()
 
+    def __reduce__(self) -> "Tuple[Any, ...]":
+        return _opened, (*self._arguments, self._seconds)
+
     def close(self) -> None:
-        """Ends the program, where there is one."""
+        """Ends the program, even if other threads are using it."""
         self._way.close()
 
-    def text(self, *words: Union[str, int, Shape]) -> str:
-        """The text that `calc` prints for the words, as its lines. What is refused is raised.
+    # ---- one line
+
+    def _limit(self, timeout: Optional[float]) -> Optional[float]:
+        """The seconds that a command may take."""
+        seconds = self._seconds if timeout is None else timeout
+        if seconds is not None and self._arguments[0]:
+            raise ValueError("timeout: a command of the library cannot be stopped")
+        return seconds
+
+    def _text(self, line: str, timeout: Optional[float]) -> str:
+        """The text of a line. What is refused is raised."""
+        data, seconds = sent(line), self._limit(timeout)
+        if data is None:
+            raise SyntaxRefusal(line, 0, 0)
+        try:
+            text = self._way.answer(data, seconds)
+        except TimeoutError:
+            raise _batch.late(line, seconds) from None
+        if text.startswith("! "):
+            raise Refusal.of(text, line)
+        return text
+
+    def text(self, *parts: Words, timeout: Optional[float] = None) -> str:
+        """The text that `calc` prints for these arguments: strings, numbers and shapes. An error of `calc` is raised.
 
         >>> Calculator().text("coef", (3, 2, 1), "-", (2, 1), "-", (2, 1))
         '2\\n'
         """
-        return self._checked(_words(*words))
-
-    def _checked(self, line: str) -> str:
-        if line.split(None, 1)[:1] in ([], ["batch"], ["work"]) or line.startswith("#") or "\n" in line:
-            raise ValueError("no command of a line")
-        text = self._way.block(line)
-        if text.startswith("! "):
-            raise Refusal.of(text.rstrip("\n")) or ValueError(text)
-        return text
+        return self._text(words(*(_word(it) for it in parts)), timeout)
 
     # ---- products of Schur functions
 
-    def mult(self, *factors: Shape, rows: Optional[int] = None) -> Expansion:
-        """The product of two to eight Schur functions; with `rows` in so many variables.
+    def mult(self, *shapes: Shape, rows: Optional[SupportsIndex] = None, timeout: Optional[float] = None) -> "Expansion[Partition, int]":
+        """The product of two to eight Schur functions, in Schur functions; with `rows=K`, in K variables.
 
         >>> Calculator().mult([2, 1], [2, 1], rows=2)
         {(4, 2): 1, (3, 3): 1}
         """
-        return Expansion.of(self.text("mult", *_limit(rows), *_between("-", factors)), "symmetric")
+        return Expansion.of(self._text(words("mult", limit(rows), *factors(shapes)), timeout))
 
-    def skew(self, outer: Shape, inner: Shape, rows: Optional[int] = None) -> Expansion:
-        """The skew Schur function of a shape over another, in Schur functions; with `rows` in so many variables.
+    def skew(
+        self, outer: Shape, inner: Shape, rows: Optional[SupportsIndex] = None, timeout: Optional[float] = None
+    ) -> "Expansion[Partition, int]":
+        """The skew Schur function of outer/inner, in Schur functions; with `rows=K`, in K variables.
 
         >>> Calculator().skew([2, 1], [1])
         {(2,): 1, (1, 1): 1}
         """
-        return Expansion.of(self.text("skew", *_limit(rows), outer, "/", inner), "symmetric")
+        return Expansion.of(self._text(words("skew", limit(rows), *_over(outer, inner)), timeout))
 
-    def coef(self, outer: Shape, left: Shape, right: Shape) -> int:
-        """The coefficient of a Schur function in the product of two: a Littlewood-Richardson coefficient.
+    def coef(self, outer: Shape, left: Shape, right: Shape, timeout: Optional[float] = None) -> int:
+        """A Littlewood-Richardson coefficient: that of the Schur function of `outer` in the product of those of `left` and `right`.
 
         >>> Calculator().coef([3, 2, 1], [2, 1], [2, 1])
         2
         """
-        return int(self.text("coef", outer, "-", left, "-", right))
+        shapes = partition(outer, "outer"), "-", partition(left, "left"), "-", partition(right, "right")
+        return int(self._text(words("coef", *shapes), timeout))
 
-    def coprod(self, shape: Shape) -> Expansion:
-        """The coproduct of a Schur function, in pairs.
+    def coprod(self, shape: Shape, timeout: Optional[float] = None) -> "Expansion[Tuple[Partition, Partition], int]":
+        """The coproduct of a Schur function. Labels are pairs of partitions.
 
         >>> Calculator().coprod([1])
         {((1,), ()): 1, ((), (1,)): 1}
         """
-        return Expansion.of(self.text("coprod", shape), "pairs")
+        return Expansion.of(self._text(words("coprod", partition(shape, "shape")), timeout), "pairs")
 
-    def quantum(self, rows: int, cols: int, *factors: Shape) -> Expansion:
-        """The quantum product of the Grassmannian of shapes in so many rows and columns.
+    def quantum(
+        self, rows: SupportsIndex, cols: SupportsIndex, *shapes: Shape, timeout: Optional[float] = None
+    ) -> "Expansion[Tuple[int, Partition], int]":
+        """The product of two to eight classes in the quantum cohomology of the Grassmannian Gr(rows, rows + cols). Labels are
+        pairs of the exponent of q and a partition.
 
         >>> Calculator().quantum(2, 2, [1], [2, 1])
         {(0, (2, 2)): 1, (1, ()): 1}
         """
-        return Expansion.of(self.text("quantum", rows, cols, *_between("-", factors)), "powers")
+        line = words("quantum", whole(rows, "rows"), whole(cols, "cols"), *factors(shapes))
+        return Expansion.of(self._text(line, timeout), "powers")
 
-    def fusion(self, rows: int, level: int, *factors: Shape) -> Expansion:
-        """The fusion product of so many rows at a level; sizes are kept.
+    def fusion(
+        self, rows: SupportsIndex, level: SupportsIndex, *shapes: Shape, timeout: Optional[float] = None
+    ) -> "Expansion[Partition, int]":
+        """The fusion product of two to eight factors for su(rows) at this level. Columns of length `rows` are not removed.
 
         >>> Calculator().fusion(2, 1, [1], [1])
         {(1, 1): 1}
         """
-        return Expansion.of(self.text("fusion", rows, level, *_between("-", factors)), "symmetric")
+        line = words("fusion", whole(rows, "rows"), whole(level, "level"), *factors(shapes))
+        return Expansion.of(self._text(line, timeout))
 
     # ---- Schubert polynomials
 
-    def schubert(self, perm: Shape) -> Expansion:
-        """The Schubert polynomial of a permutation, by the exponents of its monomials.
+    def schubert(self, perm: Shape, timeout: Optional[float] = None) -> "Expansion[Exponents, int]":
+        """The Schubert polynomial of a permutation. Labels are the exponents of monomials.
 
         >>> Calculator().schubert([1, 3, 2])
         {(1,): 1, (0, 1): 1}
         """
-        return Expansion.of(self.text("schubert", perm), "monomials")
+        return Expansion.of(self._text(words("schubert", numbers(perm, "perm")), timeout), "monomials")
 
-    def schubmult(self, left: Shape, right: Shape) -> Expansion:
+    def schubmult(self, left: Shape, right: Shape, timeout: Optional[float] = None) -> "Expansion[Permutation, int]":
         """The product of two Schubert polynomials, in Schubert polynomials.
 
         >>> Calculator().schubmult([2, 1], [2, 1])
         {(3, 1, 2): 1}
         """
-        return Expansion.of(self.text("schubmult", left, "-", right), "permutations")
+        return Expansion.of(self._text(words("schubmult", *_two(left, right)), timeout), "permutations")
 
-    def dschubmult(self, left: Shape, right: Shape) -> Expansion:
-        """The product of two double Schubert polynomials: a permutation and the exponents of a monomial in y.
+    def dschubmult(self, left: Shape, right: Shape, timeout: Optional[float] = None) -> "Expansion[Tuple[Permutation, Exponents], int]":
+        """The product of two double Schubert polynomials, in double Schubert polynomials. Labels are pairs of a permutation and the
+        exponents of a monomial in y.
 
         >>> Calculator().dschubmult([1], [2, 1])
         {((2, 1), ()): 1}
         """
-        return Expansion.of(self.text("dschubmult", left, "-", right), "shifts")
+        return Expansion.of(self._text(words("dschubmult", *_two(left, right)), timeout), "shifts")
 
-    def stanley(self, rows: int, perm: Shape) -> Expansion:
-        """The Stanley polynomial of a permutation in so many variables, in Schur functions of at most so many rows.
+    def stanley(self, rows: SupportsIndex, perm: Shape, timeout: Optional[float] = None) -> "Expansion[Partition, int]":
+        """The Stanley symmetric function of a permutation in K variables, where K is `rows`, in Schur functions.
 
         >>> Calculator().stanley(2, [2, 1, 4, 3])
         {(2,): 1, (1, 1): 1}
         """
-        return Expansion.of(self.text("stanley", "-r", rows, perm), "symmetric")
+        return Expansion.of(self._text(words("stanley", limit(rows), numbers(perm, "perm")), timeout))
 
     # ---- changes of basis
 
-    def expand(self, target: str, expression: str) -> Expansion:
-        """An expression in the basis m, e, h, p or s.
+    def expand(self, target: str, expression: Expression, timeout: Optional[float] = None) -> "Expansion[Partition, Number]":
+        """An expression in the basis `target`: m, e, h, p or s. The expression is a string without blanks, or an Expansion or a symmetric
+        function of Sage in one of these bases.
 
-        >>> Calculator().expand("p", "s[2,1]")
+        >>> calc = Calculator()
+        >>> calc.expand("p", "s[2,1]")
         {(3,): Fraction(-1, 3), (1, 1, 1): Fraction(1, 3)}
+        >>> calc.expand("h", calc.mult([1], [1]))
+        {(1, 1): 1}
         """
-        return Expansion.of(self._checked(f"expand {target} {expression}"), "symmetric", target)
+        return Expansion.of(self._text(words("expand", _basis(target), _expression(expression, "expression")), timeout), basis=target)
 
-    def plethysm(self, target: str, outer: str, inner: str) -> Expansion:
-        """The plethysm of two expressions in a basis: the variables of the first replaced by the monomials of the second.
+    def plethysm(
+        self, target: str, outer: Expression, inner: Expression, timeout: Optional[float] = None
+    ) -> "Expansion[Partition, Number]":
+        """The plethysm outer[inner] of two expressions, in the basis `target`: the monomials of `inner` are substituted for the variables
+        of `outer`.
 
         >>> Calculator().plethysm("s", "h[2]", "h[2]")
         {(4,): 1, (2, 2): 1}
         """
-        return Expansion.of(self._checked(f"plethysm {target} {outer} {inner}"), "symmetric", target)
+        line = words("plethysm", _basis(target), _expression(outer, "outer"), _expression(inner, "inner"))
+        return Expansion.of(self._text(line, timeout), basis=target)
 
     # ---- tableaux
 
-    def tab(self, outer: Shape, inner: Shape, after: Optional[Tableau] = None) -> Iterator[Tableau]:
-        """The lattice tableaux of a skew shape, one after another; those behind `after` where it is given.
-
-        With the program they come as they are listed, however many there are; with the library alone they are listed first.
+    def tab(self, outer: Shape, inner: Shape, after: Optional[Rows] = None, timeout: Optional[float] = None) -> Iterator[Tableau]:
+        """The Littlewood-Richardson tableaux of a skew shape, each as soon as it is listed; with `after`, those after this one. `timeout`
+        is the time for each. They come from the program also with `library=True`.
 
         >>> list(Calculator().tab([2, 1], [1]))
         [((1,), (1,)), ((1,), (2,))]
         """
-        line = _words("tab", outer, "/", inner, *(() if after is None else ("-from", spoken(after))))
-        lines = self._listed(line) if isinstance(self._way, Pipe) else iter(self._checked(line).splitlines())
-        return (rows(it) for it in lines if it != "0")
+        after_words = () if after is None else ("-from", spoken(after, "after"))
+        shape = partition(inner, "inner")
+        line = words("tab", partition(outer, "outer"), "/", shape, *after_words)
+        seconds = self._seconds if timeout is None else timeout
+        return self._listed(line, shape, seconds)
 
-    def _listed(self, line: str) -> Iterator[str]:
-        """The lines of a command that a process of its own writes, read as they are asked for."""
-        assert isinstance(self._way, Pipe)
-        with subprocess.Popen([self._way.path, *line.split()], stdout=subprocess.PIPE, encoding="ascii") as process:
-            assert process.stdout
-            try:
-                for it in process.stdout:
-                    if it.startswith("! "):
-                        raise Refusal.of(it.rstrip("\n")) or ValueError(it)
-                    yield it.rstrip("\n")
-            finally:
-                process.kill()
+    def _listed(self, line: str, inner: Partition, seconds: Optional[float]) -> Iterator[Tableau]:
+        lines = self._way.listed(line.encode(), seconds)
+        try:
+            for text in lines:
+                if text.startswith("! "):
+                    raise Refusal.of(f"{text}\n", line)
+                if text != "0":
+                    yield tableau_of(text, inner)
+        except TimeoutError:
+            raise _batch.late(line, seconds) from None
 
-    def rsk(self, letters: Shape) -> Pair:
-        """The insertion tableau and the recording tableau of a word.
+    def rsk(self, letters: Shape, timeout: Optional[float] = None) -> Pair:
+        """The insertion tableau and the recording tableau of a word, by RSK row insertion.
 
         >>> Calculator().rsk([3, 1, 2])
         Pair(insertion=((1, 2), (3,)), recording=((1, 3), (2,)))
         """
-        first, second = self.text("rsk", letters).splitlines()
-        return Pair(rows(first[2:]), rows(second[2:]))
+        return pair_of(self._text(words("rsk", numbers(letters, "letters")), timeout))
 
-    def unrsk(self, insertion: Tableau, recording: Tableau) -> Numbers:
-        """The word that insertion takes to the pair of tableaux.
+    def unrsk(self, insertion: Rows, recording: Rows, timeout: Optional[float] = None) -> Numbers:
+        """The inverse of `rsk`: the word with this insertion tableau and this recording tableau.
 
         >>> Calculator().unrsk(((1, 2), (3,)), ((1, 3), (2,)))
         (3, 1, 2)
         """
-        return tuple(map(int, self.text("unrsk", spoken(insertion), "-", spoken(recording)).split()))
+        return letters_of(self._text(words("unrsk", spoken(insertion, "insertion"), "-", spoken(recording, "recording")), timeout))
 
-    def rect(self, outer: Shape, inner: Shape, tableau: Tableau) -> Tableau:
-        """The straight tableau that slides reach from a skew one, given by its rows.
+    def rect(self, outer: Shape, inner: Shape, tableau: Rows, timeout: Optional[float] = None) -> Tableau:
+        """The rectification of a skew tableau by jeu de taquin. The tableau is given by its shape and its rows.
 
         >>> Calculator().rect([2, 2], [1], ((1,), (1, 2)))
         ((1, 1), (2,))
         """
-        return rows(self.text("rect", outer, "/", inner, "-", spoken(tableau)).rstrip("\n"))
+        text = self._text(words("rect", *_over(outer, inner), "-", spoken(tableau, "tableau")), timeout)
+        return tableau_of(text.rstrip("\n"))
 
-    def growth(self, perm: Shape) -> "tuple[tuple[Numbers, ...], ...]":
-        """The growth grid of a permutation of n letters: the shapes at (i, 0) to (i, n), for i = 0 to n.
+    def growth(self, perm: Shape, timeout: Optional[float] = None) -> Grid:
+        """The growth diagram of a permutation of n letters: a tuple of rows 0 to n, where row i has the partitions at (i, 0) to (i, n).
 
         >>> Calculator().growth([1])
         (((), ()), ((), (1,)))
         """
-        return tuple(tuple(map(numbers, line.split(" "))) for line in self.text("growth", perm).splitlines())
+        return grid_of(self._text(words("growth", numbers(perm, "perm")), timeout))
 
     # ---- many commands
 
-    def batch(self, lines: Iterable[str], progress: Optional[Callable[[int], None]] = None) -> Iterator[Block]:
-        """What comes of each line, one after another; a refused one does not stop the others.
+    def batch(
+        self,
+        lines: Iterable[str],
+        progress: Optional[Callable[[int], None]] = None,
+        workers: Optional[int] = None,
+        executor: Optional[Executor] = None,
+        timeout: Optional[float] = None,
+    ) -> Iterator[Block]:
+        """An iterator over the outcomes of lines, in their order. An error in one line does not stop the others.
 
-        Lines without words and comments are passed over. `progress` is told how many lines are done.
+        Blank lines and comments are skipped. `progress` is called with the number of lines done so far. `workers=N` distributes the lines
+        over N processes, `executor` over those of an executor of `concurrent.futures`, Dask or mpi4py. `timeout` is the time for each line.
+        `lines` can be any iterable, even an endless one; it is read some way ahead of the outcomes.
 
-        >>> [it.text or str(it.refusal) for it in Calculator().batch(["mult 1 - 1", "# a comment", "mult 1 2 - 1"])]
-        ['1  (2)\\n1  (1,1)\\n', 'Shape at word 2, byte 0']
+        >>> [it.text or it.refusal.kind for it in Calculator().batch(["mult 1 - 1", "# a comment", "mult 1 2 - 1"])]
+        ['1  (2)\\n1  (1,1)\\n', 'Shape']
+        >>> [it.answer[2, 1] for it in Calculator().batch(["mult 2 - 1", "mult 1 - 1 - 1"], workers=2)]
+        [1, 2]
         """
-        done = 0
-        for line in lines:
-            if line.split() and not line.lstrip().startswith("#"):
-                try:
-                    yield Block(line, self._checked(line.strip()), None)
-                except (Refusal, OverflowError) as refusal:
-                    yield Block(line, "", refusal)
-            done += 1
-            if progress:
-                progress(done)
+        if isinstance(lines, (str, bytes)):
+            raise TypeError("lines: a string is not a list of lines; use splitlines()")
+        count = None if workers is None else whole(workers, "workers")
+        if count == 0:
+            raise ValueError("workers: at least 1")
+        each, seconds, arguments = iter(lines), self._limit(timeout), self._arguments
+        if executor is not None:
+            return _batch.blocks(_batch.over_executor(executor, arguments, each, count, seconds), progress)
+        if count and count > 1:
+            return _batch.blocks(_batch.over_workers(lambda: way(*arguments), each, count, seconds), progress)
+        outcomes = (it for window in _batch.windows(self._way, each, seconds) for it in window)
+        return _batch.blocks(outcomes, progress)
 
 
-def _limit(count: Optional[int]) -> "tuple[Union[str, int], ...]":
-    """The words that limit the number of rows."""
-    return () if count is None else ("-r", count)
+def _opened(library: Union[bool, str, None], program: Optional[str], timeout: Optional[float]) -> Calculator:
+    """A Calculator that was pickled, opened anew."""
+    return Calculator(library=library, program=program, timeout=timeout)
+
+
+def _word(part: Words) -> Union[str, int, Numbers]:
+    """A part of a line: a text, a number or a shape."""
+    if isinstance(part, str):
+        return part
+    if isinstance(part, SupportsIndex) and not hasattr(part, "__iter__"):
+        return whole(part, "a word")
+    return numbers(part, "a word")  # type: ignore[arg-type]
+
+
+def _over(outer: Shape, inner: Shape) -> "Tuple[Union[str, Numbers], ...]":
+    return partition(outer, "outer"), "/", partition(inner, "inner")
+
+
+def _two(left: Shape, right: Shape) -> "Tuple[Union[str, Numbers], ...]":
+    return numbers(left, "left"), "-", numbers(right, "right")
+
+
+def _basis(target: str) -> str:
+    if target not in ("m", "e", "h", "p", "s"):
+        raise ValueError(f"target: {target!r} is not m, e, h, p or s")
+    return target
+
+
+def _expression(value: Any, name: str) -> str:
+    """The text of an expression."""
+    if isinstance(value, str):
+        return value
+    if not isinstance(value, Expansion):
+        from ._sage import expansion_of
+
+        value = expansion_of(value)
+    if value is None or value.kind != "symmetric":
+        raise TypeError(f"{name}: it is neither a string nor a symmetric function")
+    return str(value)

@@ -2,58 +2,73 @@
 from __future__ import annotations
 
 import re
-from typing import Optional
+from typing import Any, Dict, Optional, Tuple, Type
+
+from ._reasons import reason
 
 
 class Refusal(ValueError):
-    """The words are no command, or offend: `name` says by what, `word` and `byte` where, counted from 0.
+    """Raised for a command that `calc` refuses. The message says why, and at which word of the line.
 
-    >>> str(Refusal.of("! Range 1:0"))
-    'Range at word 1, byte 0'
+    `kind` is the name that `calc` prints (`Syntax`, `Literal`, `Range`, `Shape` or `Large`), `line` is the command, and `word` and `byte`
+    are the place in it, both counted from 0. For `Large` they are None.
+
+    >>> refusal = Refusal.of("! Shape 2:0\\n", "mult 1 2 - 1")
+    >>> print(refusal)
+    part 2 of factor 1 is greater than part 1, in mult 1 [2] - 1
+    >>> refusal.kind, refusal.word, refusal.byte
+    ('Shape', 2, 0)
     """
 
-    name = ""
+    kind = ""
 
-    def __init__(self, word: int, byte: int) -> None:
-        super().__init__(f"{self.name} at word {word}, byte {byte}")
-        self.word = word
-        self.byte = byte
+    def __init__(self, line: str, word: Optional[int] = None, byte: Optional[int] = None) -> None:
+        super().__init__(reason(self.kind, line, word, byte))
+        self.line, self.word, self.byte = line, word, byte
+
+    def __reduce__(self) -> "Tuple[Any, ...]":
+        return type(self), (self.line, self.word, self.byte)
 
     @staticmethod
-    def of(line: str) -> Optional[Exception]:
-        """The exception that a printed line stands for, if it is the line of a refusal."""
-        if line == "! Large":
-            return TooLarge("a coefficient, or the bound of the computation, is past 2^127 - 1")
-        found = re.fullmatch(r"! (\w+) (\d+):(\d+)", line)
-        return found and REFUSALS[found[1]](int(found[2]), int(found[3]))
+    def of(text: str, line: str) -> "Refusal":
+        """The refusal of this line that `calc` has printed."""
+        if text == "! Large\n":
+            return TooLarge(line)
+        found = re.fullmatch(r"! (\w+) (\d+):(\d+)\n", text)
+        if not found or found[1] not in REFUSALS:
+            raise ValueError(f"{text!r} is not an answer of calc")
+        return REFUSALS[found[1]](line, int(found[2]), int(found[3]))
 
 
 class SyntaxRefusal(Refusal):
-    """The words are no command, and this is where they go wrong."""
+    """The line is not a command. `word` and `byte` are the first place at which it is wrong."""
 
-    name = "Syntax"
+    kind = "Syntax"
 
 
 class LiteralRefusal(Refusal):
-    """A number is past 2^127 - 1."""
+    """A number in the command is greater than 2^127 - 1."""
 
-    name = "Literal"
+    kind = "Literal"
 
 
 class RangeRefusal(Refusal):
-    """A limit of the calculator is passed."""
+    """A limit of `calc` is exceeded."""
 
-    name = "Range"
+    kind = "Range"
 
 
 class ShapeRefusal(Refusal):
-    """A list that is no partition or permutation, a tableau that is none there, a denominator 0."""
+    """A list is not a partition or permutation, rows are not a tableau of the shape, a denominator is 0, or the inner expression of a
+    plethysm has a minus sign or a fraction."""
 
-    name = "Shape"
-
-
-class TooLarge(OverflowError):
-    """The answer is past numbers of 128 bits, or the bound for all numbers on the way is."""
+    kind = "Shape"
 
 
-REFUSALS = {it.name: it for it in (SyntaxRefusal, LiteralRefusal, RangeRefusal, ShapeRefusal)}
+class TooLarge(Refusal, OverflowError):
+    """A coefficient of the answer, or a bound for the intermediate numbers, is greater than 2^127 - 1."""
+
+    kind = "Large"
+
+
+REFUSALS: "Dict[str, Type[Refusal]]" = {it.kind: it for it in (SyntaxRefusal, LiteralRefusal, RangeRefusal, ShapeRefusal)}

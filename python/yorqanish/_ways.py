@@ -1,148 +1,73 @@
-"""The two ways to the calculator: the C library, and the program behind a pipe."""
+"""The two ways to the calculator: the program in processes of its own, and the C library."""
 from __future__ import annotations
 
-import ctypes
-import ctypes.util
-import os
-import shutil
-import subprocess
-import threading
-from typing import Iterator, Optional, Protocol
+from typing import Iterator, List, Optional, Protocol, Sequence
 
 # The statuses by which a command says that memory was refused: for the text, which the library alone does, or for the answer.
 NO_TEXT, NO_MEMORY = 5, 7
 
+# What each way is asked first, before anything that it says is taken for an answer of `calc`.
+QUESTION, ANSWER = b"coef 3 2 1 - 2 1 - 2 1", b"2\n"
+# The line that is asked after others: where its known answer begins, theirs have ended.
+LAST, END = b"rsk", b"P .\nQ .\n"
+BREAK = b"--\n"
+
+# A line of a batch has at most this many bytes.
+LONGEST = 4096
+# How long a first answer may take, in seconds.
+PATIENCE = 20.0
+
 
 class NoCalculator(RuntimeError):
-    """Neither the library nor the program is there, or the program has gone."""
+    """There is no program or library that answers as `calc` does, or it has ended."""
+
+
+class Ended(NoCalculator):
+    """The program has ended in the middle of a command."""
 
 
 class Way(Protocol):
-    """How a line of words becomes the text of its answer."""
+    """How lines of words become the texts of their answers."""
 
-    def block(self, line: str) -> str:
-        """The block of the line, or the line that refuses it."""
+    def answer(self, line: bytes, seconds: Optional[float]) -> str:
+        """The text of one line, of whatever length."""
         ...
 
-    def blocks(self, lines: Iterator[str]) -> Iterator[str]:
-        """The blocks of lines, one after another."""
+    def blocks(self, lines: Sequence[bytes], seconds: Optional[float]) -> List[str]:
+        """The texts of the lines of a batch, none of which it passes over."""
+        ...
+
+    def listed(self, line: bytes, seconds: Optional[float]) -> Iterator[str]:
+        """The lines of an answer as they are listed."""
         ...
 
     def close(self) -> None:
-        """Lets go of what is held."""
+        """Lets go of what is held, and ends what still runs."""
         ...
 
 
-class Library:
-    """The C library. Calls from several threads do not disturb each other."""
+def sent(line: str) -> Optional[bytes]:
+    """The line of a batch that is sent for a line, or nothing if a batch passes over it.
 
-    def __init__(self, path: str) -> None:
-        self._run = ctypes.CDLL(path).calc_run
-        size = ctypes.c_size_t
-        self._run.argtypes = [ctypes.c_char_p, size, ctypes.c_char_p, size, ctypes.c_char_p, size, ctypes.POINTER(size)]
-        self._run.restype = ctypes.c_uint8
-        self._own = threading.local()
+    A line feed at its end is dropped. One within it is sent as another byte that is in no word of a command, and is refused at its place.
 
-    def run(self, line: bytes, given: bytes = b"") -> "tuple[int, bytes]":
-        """The status of the line's command, and its text. The text is asked for once more where it is longer than the buffer."""
-        own = self._own
-        if not hasattr(own, "buffer"):
-            own.buffer, own.needed = ctypes.create_string_buffer(1 << 16), ctypes.c_size_t()
-        status = self._run(line, len(line), given, len(given), own.buffer, len(own.buffer), ctypes.byref(own.needed))
-        while own.needed.value > len(own.buffer):
-            own.buffer = ctypes.create_string_buffer(own.needed.value)
-            status = self._run(line, len(line), given, len(given), own.buffer, len(own.buffer), ctypes.byref(own.needed))
-        text = ctypes.string_at(own.buffer, own.needed.value)
-        if len(own.buffer) > 1 << 24:
-            del own.buffer
-        return status, text
-
-    def block(self, line: str) -> str:
-        status, text = self.run(line.encode())
-        if status in (NO_TEXT, NO_MEMORY):
-            raise MemoryError("calc was refused memory")
-        return text.decode()
-
-    def blocks(self, lines: Iterator[str]) -> Iterator[str]:
-        return map(self.block, lines)
-
-    def close(self) -> None:
-        pass
+    >>> sent("mult 1 - 1\\n"), sent("# a comment"), sent(" "), sent("mult 1\\n- 1")
+    (b'mult 1 - 1', None, None, b'mult 1\\x01- 1')
+    """
+    if not isinstance(line, str):
+        raise TypeError(f"a line is a string, and {line!r} is not")
+    data = (line[:-1] if line.endswith("\n") else line).encode("utf-8", "surrogatepass")
+    if b"\n" in data:
+        data = data.replace(b"\n", b"\x01")
+        return b"\x01" + data if is_passed_over(data) else data
+    return None if is_passed_over(data) else data
 
 
-class Pipe:
-    """The program, which runs as `calc batch`. Calls from several threads wait for each other."""
-
-    def __init__(self, path: str) -> None:
-        self.path = path
-        self._lock = threading.Lock()
-        self._batch = subprocess.Popen([path, "batch"], stdin=subprocess.PIPE, stdout=subprocess.PIPE, encoding="ascii")
-        self._is_first = True
-
-    def block(self, line: str) -> str:
-        # A line of a known answer goes behind each line: its block is over where that answer begins.
-        with self._lock:
-            if self._batch.stdin is None or self._batch.stdin.closed:
-                raise NoCalculator("the calculator is closed")
-            try:
-                self._batch.stdin.write(f"{line}\nrsk\n")
-                self._batch.stdin.flush()
-            except BrokenPipeError:
-                raise self._gone() from None
-            if not self._is_first:
-                self._expect("--\n")
-            self._is_first = False
-            read: "list[str]" = []
-            while (it := self._read()) != "--\n":
-                read.append(it)
-            self._expect("P .\n")
-            self._expect("Q .\n")
-            return "".join(read)
-
-    def blocks(self, lines: Iterator[str]) -> Iterator[str]:
-        return map(self.block, lines)
-
-    def close(self) -> None:
-        with self._lock:
-            if self._batch.stdin:
-                self._batch.stdin.close()
-            self._batch.wait()
-            if self._batch.stdout:
-                self._batch.stdout.close()
-
-    def _read(self) -> str:
-        line = self._batch.stdout.readline() if self._batch.stdout else ""
-        if not line:
-            raise self._gone()
-        return line
-
-    def _expect(self, line: str) -> None:
-        if self._read() != line:
-            raise NoCalculator("the program does not answer as calc does")
-
-    def _gone(self) -> Exception:
-        if self._batch.wait() == NO_MEMORY:
-            return MemoryError("calc was refused memory")
-        return NoCalculator(f"calc ended with status {self._batch.returncode}")
+def is_passed_over(data: bytes) -> bool:
+    """Whether a batch gives no block for a line: it has no word, or is a comment."""
+    words = (data[:-1] if data.endswith(b"\r") else data).strip(b" \t")
+    return len(data) <= LONGEST and (not words or words.startswith(b"#"))
 
 
-def found(library: Optional[str], program: Optional[str]) -> "Library | Pipe":
-    """The library, where one is named or found, and else the program."""
-    if library or not program:
-        beside = os.path.join(os.path.dirname(os.path.abspath(__file__)), "libcalc.so")
-        for path in (library, os.environ.get("YORQANISH_LIBRARY"), beside if os.path.exists(beside) else None):
-            if path:
-                return Library(path)
-    path = program or os.environ.get("YORQANISH_CALC")
-    if path:
-        return Pipe(path)
-    name = ctypes.util.find_library("calc")
-    if name:
-        try:
-            return Library(name)
-        except (OSError, AttributeError):
-            pass  # a library of this name that is another one
-    path = shutil.which("calc")
-    if path:
-        return Pipe(path)
-    raise NoCalculator("neither libcalc.so nor the program calc is found: name one, or set YORQANISH_LIBRARY or YORQANISH_CALC")
+def no_memory() -> MemoryError:
+    return MemoryError("calc was refused memory")

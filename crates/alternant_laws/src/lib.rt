@@ -3,6 +3,17 @@
 //!
 //! A law function takes nothing, answers nothing and does no work when it runs: its contract is
 //! the law.
+//!
+//! What is proved:
+//!
+//! `bender_knuth_law`: the involutions on semistandard tableaux, and the symmetry of skew Schur
+//! polynomials. `alternant_law`, `alternant_product_law`, `classical_product_law`,
+//! `counted_answers_law` (lists of counts of good tableaux are what `mult`, `skew` and `coef` must
+//! answer). `stembridge_law`: in every number of variables a_(λ+ρ)·s_(μ/ν) is the sum over the good
+//! tableaux. `littlewood_richardson_law`: so products of Schur polynomials and skew Schur
+//! polynomials are sums over good tableaux, and their Schur coefficients the counts.
+//! `straighten_law`: a monomial symmetric polynomial as the sum of Schur polynomials, with signs,
+//! over the arrangements of its label, in every number of variables.
 #![tactic(auto)]
 
 mod bender_knuth;

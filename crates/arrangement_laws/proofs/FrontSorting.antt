@@ -4,7 +4,7 @@
 --     value-strict       at a strictly falling list
 --     value-front        what stands in front straightened first
 --     value-zero         a zero in a further place changes nothing
-use Rattle.std.proofs.Common.{◌≡◌, ◌⊎◌, ℕ, zero, suc, ◌+◌, ◌-◌, ◌<◌, ◌≤◌, Bool, true, false, ◌||◌, ◌==◌, cond, List, [], ◌∷◌, ◌++◌, map, length, refl, sym, ap, ap₂, ◌∙◌, inl, inr, arith, append_assoc, length-append, ℤ, pos, neg_ℤ, ◌*ℤ◌}
+use Rattle.std.proofs.Common.{◌≡◌, ◌⊎◌, ℕ, suc, ◌+◌, ◌-◌, ◌<◌, Bool, true, false, ◌||◌, ◌==◌, cond, List, [], ◌∷◌, ◌++◌, map, length, refl, sym, ap, ap₂, ◌∙◌, inl, inr, arith, append_assoc, length-append, ℤ, pos, neg_ℤ, ◌*ℤ◌}
 use Rattle.std.proofs.lemmas.Int.{ints}
 use Rattle.std.proofs.lemmas.Bool.{cases_eq, ne_eqb}
 use Rattle.std.proofs.lemmas.Bool.Decides.{nat_tests}
@@ -18,9 +18,9 @@ use Rattle.sym_model.proofs.Ring.{ring, one-product}
 use Rattle.beta_list_laws.specs.StrictFall.{FallsStrictly}
 use Rattle.beta_list_laws.proofs.NeighbourExchanges.{sort_back, sorted-exchange, equal-exchange, sorted-falling, sorting_sign-exchange, length-sorted}
 use Rattle.beta_list_laws.proofs.SortedLists.{sorted_strict}
-use Rattle.beta_list_laws.proofs.BetaLists.{beta-from_beta, strict_tail, length-less}
+use Rattle.beta_list_laws.proofs.BetaLists.{beta-from_beta}
 use Rattle.beta_list_laws.proofs.Lowest.{strict_pairs}
-use Rattle.arrangement_laws.specs.SpecialRimHooks.{straight_value, hooked}
+use Rattle.arrangement_laws.specs.SpecialRimHooks.{straight_value}
 
 -- ---- alternating functions of lists
 

@@ -2,7 +2,7 @@
 --     value-rows       as many as are counted
 --     value-far        nothing comes of a row that is more than a rows further down
 --     total_after-cut  a sum over the rows with one row more
-use Rattle.std.proofs.Common.{◌≡◌, ◌⊎◌, ℕ, zero, suc, ◌+◌, ◌-◌, ◌<◌, ◌≤◌, Bool, true, false, ◌||◌, ◌==◌, cond, nat_le, List, [], ◌∷◌, ◌++◌, map, length, refl, sym, ap, ap₂, ◌∙◌, inl, inr, arith, length-append, ℤ, pos, ◌+ℤ◌, ◌*ℤ◌}
+use Rattle.std.proofs.Common.{◌≡◌, ◌⊎◌, ℕ, zero, suc, ◌+◌, ◌-◌, ◌<◌, ◌≤◌, Bool, true, false, ◌||◌, ◌==◌, cond, nat_le, List, [], ◌∷◌, ◌++◌, map, length, refl, sym, ap, ◌∙◌, inl, inr, arith, length-append, ℤ, pos, ◌+ℤ◌, ◌*ℤ◌}
 use Rattle.std.proofs.lemmas.Int.{ints}
 use Rattle.std.proofs.lemmas.Bool.{cases_eq, cases_lt, eq-eqb, or_right, or_left}
 use Rattle.std.proofs.lemmas.Bool.Decides.{nat_tests}
@@ -19,7 +19,7 @@ use Rattle.beta_list_laws.proofs.BetaLists.{strict_tail, length-beta, length-les
 use Rattle.beta_list_laws.proofs.ReducedSums.{times_chosen}
 use Rattle.arrangement_laws.specs.SpecialRimHooks.{straight_value, hooked, within_rows}
 use Rattle.arrangement_laws.proofs.FrontSorting.{above, value-equal, value-different}
-use lib.IntN.{+ℤ_idl, +ℤ_idr}
+use lib.IntN.{+ℤ_idl}
 
 -- ---- how many rows
 

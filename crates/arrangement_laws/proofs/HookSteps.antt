@@ -2,17 +2,17 @@
 --     beta-last          the others are the beta list without its last entry, 0
 --     value-put          what comes of it
 --     size-put           the size
-use Rattle.std.proofs.Common.{◌≡◌, ℕ, zero, suc, ◌+◌, ◌-◌, ◌<◌, ◌≤◌, Bool, true, false, ◌||◌, ◌==◌, cond, nat_lt, List, [], ◌∷◌, ◌++◌, map, length, refl, sym, ap, ap₂, ◌∙◌, subst, inl, inr, arith, length-append, ℤ, pos, ◌*ℤ◌}
+use Rattle.std.proofs.Common.{◌≡◌, ℕ, suc, ◌+◌, ◌-◌, ◌≤◌, true, false, ◌||◌, ◌==◌, cond, nat_lt, List, [], ◌∷◌, ◌++◌, map, length, refl, sym, ap, ap₂, ◌∙◌, subst, inl, inr, arith, length-append, ℤ, pos, ◌*ℤ◌}
 use Rattle.std.proofs.lemmas.Bool.{cases_lt, or_parts, ne_eqb, both_ways, eq-eqb}
 use Rattle.std.proofs.lemmas.List.{map-append, length-map}
 use Rattle.sym_model.specs.Partition.{Falls, IsPartition, size, rows, part, after}
 use Rattle.sym_model.specs.Bases.{has}
 use Rattle.sym_model.specs.Alternant.{staircase}
-use Rattle.sym_model.specs.BetaList.{beta, has_equal_entries, put_falling, sorted_falling, greater, rising_pairs, sorting_sign, from_beta}
+use Rattle.sym_model.specs.BetaList.{beta, has_equal_entries, put_falling, sorted_falling, greater, rising_pairs, from_beta}
 use Rattle.sym_model.specs.PlaceOrders.{minus_one_to}
 use Rattle.sym_model.proofs.AfterLists.{after_among, after-more}
 use Rattle.sym_model.proofs.Lists.{map-among, map-map}
-use Rattle.sym_model.proofs.Numbers.{counts-not_less, counts-less, equal-sym}
+use Rattle.sym_model.proofs.Numbers.{counts-not_less, counts-less}
 use Rattle.sym_model.proofs.Parts.{past_end, size-append}
 use Rattle.beta_list_laws.specs.StrictFall.{FallsStrictly}
 use Rattle.beta_list_laws.proofs.NeighbourExchanges.{sorted-exchange, sorted-falling, size-sorted, length-sorted}
@@ -20,7 +20,7 @@ use Rattle.beta_list_laws.proofs.SortedLists.{sorted_strict, greater_first}
 use Rattle.beta_list_laws.proofs.BetaLists.{beta_strict, strict_tail, length-beta, size-beta, size-from_beta}
 use Rattle.arrangement_laws.specs.SpecialRimHooks.{straight_value, hooked}
 use Rattle.arrangement_laws.proofs.FrontSorting.{above, strict_falls, equal-strict, value-equal, value-different}
-use Rattle.arrangement_laws.proofs.HookRows.{equal-last, length-hooked}
+use Rattle.arrangement_laws.proofs.HookRows.{equal-last}
 
 -- ---- the entries of the other rows
 

@@ -19,7 +19,7 @@ use Rattle.sym_model.proofs.SortedParts.{insert_part_comm, without_one-insert_pa
 use Rattle.monomial_laws.proofs.Arrangements.{down_from-below}
 use Rattle.monomial_laws.proofs.PowerSums.{total_distinct-only}
 use Rattle.monomial_laws.proofs.PowerSumLists.{has_from-distinct}
-use lib.IntN.{+ℤ_idl, +ℤ_idr}
+use lib.IntN.{+ℤ_idl}
 
 -- ---- what an arrangement is
 

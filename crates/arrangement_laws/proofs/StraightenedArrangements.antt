@@ -1,13 +1,11 @@
 -- What the arrangements of a partition straighten to, from those with one part less.
 --     last_part          the law of `last_part_law`
 --     no_part            the list for no parts
-use Rattle.std.proofs.Common.{◌≡◌, ◌⊎◌, ℕ, zero, suc, ◌+◌, ◌-◌, ◌<◌, ◌≤◌, Bool, true, false, cond, nat_le, List, [], ◌∷◌, ◌++◌, map, length, replicate, refl, sym, ap, ap₂, subst, ◌∙◌, inl, inr, arith, ℤ, pos, ◌+ℤ◌, ◌*ℤ◌}
-use Rattle.std.proofs.lemmas.Int.{ints}
+use Rattle.std.proofs.Common.{◌≡◌, ℕ, zero, suc, ◌+◌, ◌-◌, ◌<◌, true, false, cond, nat_le, List, [], ◌∷◌, ◌++◌, length, replicate, refl, sym, ap, ap₂, subst, ◌∙◌, arith, ℤ, pos, ◌+ℤ◌, ◌*ℤ◌}
 use Rattle.std.proofs.lemmas.Bool.Decides.{nat_tests}
 use Rattle.sym_model.specs.Sum.{total, Among}
 use Rattle.sym_model.specs.Polynomial.{Term, join, pair}
 use Rattle.sym_model.specs.Partition.{IsPartition, ArePositive, rows, after}
-use Rattle.sym_model.specs.Bases.{has}
 use Rattle.sym_model.specs.Alternant.{staircase}
 use Rattle.sym_model.specs.Arrangement.{arrangements}
 use Rattle.sym_model.specs.BetaList.{beta}
@@ -26,7 +24,7 @@ use Rattle.arrangement_laws.specs.SpecialRimHooks.{straight_value, arranged_valu
 use Rattle.arrangement_laws.proofs.LastPlaces.{arrangement, arrangements-few, arrangements-last, arrangements-none}
 use Rattle.arrangement_laws.proofs.FrontSorting.{above, value-front, value-zero}
 use Rattle.arrangement_laws.proofs.HookRows.{value-rows, value-far, total_after-cut}
-use lib.IntN.{+ℤ_idl, +ℤ_idr, *ℤ-zero}
+use lib.IntN.{+ℤ_idr, *ℤ-zero}
 
 -- ---- the last place
 

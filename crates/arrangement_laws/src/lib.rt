@@ -2,6 +2,12 @@
 //!
 //! A law function takes nothing, answers nothing and does no work when it runs: its contract is
 //! the law.
+//!
+//! What is proved:
+//!
+//! `last_part_law`: what the arrangements of a partition straighten to, in every number of places,
+//! is made of the same lists for the partition without one of each different part, by special rim
+//! hooks.
 #![tactic(auto)]
 
 mod last_part;

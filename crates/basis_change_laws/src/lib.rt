@@ -2,6 +2,11 @@
 //!
 //! A law function takes nothing, answers nothing and does no work when it runs: its contract is
 //! the law.
+//!
+//! What is proved:
+//!
+//! `newton_law`: Newton's identities for h and e. `augmented_monomial_law`: a power sum times an
+//! augmented monomial symmetric polynomial.
 #![tactic(auto)]
 
 mod augmented;

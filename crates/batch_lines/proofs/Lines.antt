@@ -1,5 +1,5 @@
 -- The lines of a text, line by line, and the blocks of a batch, block by block.
-use Rattle.std.proofs.Common.{◌≡◌, ℕ, ◌==◌, ◌<◌, Bool, true, false, ◌&&◌, cond, List, [], ◌∷◌, ◌++◌, append_assoc, length, refl, sym, ap, ◌∙◌, arith, Some, ◌⊎◌, inl, inr}
+use Rattle.std.proofs.Common.{◌≡◌, ℕ, ◌==◌, ◌<◌, Bool, true, false, ◌&&◌, cond, List, [], ◌∷◌, ◌++◌, append_assoc, length, refl, sym, ap, ◌∙◌, arith, Some, ◌⊎◌, inl, inr, subst}
 use Rattle.std.specs.Prelude.{codes}
 use Rattle.std.proofs.lemmas.Bool.{lt-ltb, ne_eqb}
 use Rattle.std.proofs.lemmas.List.{append-nil}
@@ -8,6 +8,7 @@ use Rattle.sym_model.specs.BatchOutcome.{Block, AreBlocks, batch_text, is_done, 
 use Rattle.sym_model.specs.Entry.{Entry}
 use Rattle.sym_model.specs.NumberText.{split_at, before_first}
 use Rattle.batch_lines.specs.Feeds.{HasNoFeed}
+use Rattle.calc_base.specs.Source.{SourceSeen}
 use Rattle.batch_lines.specs.Reading.{Took, EndsAtFeed, EndsAtEnd, ReadsNext}
 use Rattle.batch_lines.specs.declared.next.Next.TheVariants.{Line, TooLong, End}
 
@@ -80,28 +81,43 @@ either_way pending all rest taken text behind a h l (inr e) =
     let x = at_end pending all rest taken text behind a e in
     ap lines_of x.0 ∙ line_last text h l ∙ ap (λ ls. text ∷ lines_of ls) (sym x.1)
 
-pub read_line : (all rest pending behind line : List ℕ) (allowance less : ℕ) (ended : Bool) → ReadsNext (Some all) (Some rest) allowance less pending behind line ended Line
+-- what was taken of a source that tells its bytes
+took_told : (before now : SourceSeen) (all rest taken : List ℕ) → before.left ≡ Some all → now.left ≡ Some rest → Took before.left now.left taken
+    → Took (Some all) (Some rest) taken
+took_told before now all rest taken was is took =
+    subst (λ left. Took (Some all) left taken) is (subst (λ left. Took left now.left taken) was took)
+
+pub read_line : (before now : SourceSeen) (all rest pending behind line : List ℕ) (ended : Bool) → before.left ≡ Some all → now.left ≡ Some rest
+    → ReadsNext before now pending behind line ended Line
     → lines_of (pending ++ all) ≡ line ∷ lines_of (behind ++ rest)
-read_line all rest pending behind line allowance less ended r = by r.is_next.2 ∙ ap (λ t. t ∷ lines_of (behind ++ rest)) (sym r.is_next.0)
+read_line before now all rest pending behind line ended was is r = by r.is_next.2 ∙ ap (λ t. t ∷ lines_of (behind ++ rest)) (sym r.is_next.0)
   where
-    by : EndsAtFeed (pending ++ r.taken) r.text behind ⊎ (EndsAtEnd (pending ++ r.taken) r.text behind (Some rest) × (0 < length r.text))
+    took : all ≡ r.taken ++ rest
+    took = told all rest r.taken (took_told before now all rest r.taken was is r.took)
+
+    by : EndsAtFeed (pending ++ r.taken) r.text behind ⊎ (EndsAtEnd (pending ++ r.taken) r.text behind now.left × (0 < length r.text))
         → lines_of (pending ++ all) ≡ r.text ∷ lines_of (behind ++ rest)
-    by (inl e) = at_feed pending all rest r.taken r.text behind (told all rest r.taken r.took) e r.no_feed
-    by (inr e) = either_way pending all rest r.taken r.text behind (told all rest r.taken r.took) r.no_feed e.1 (inr e.0)
+    by (inl e) = at_feed pending all rest r.taken r.text behind took e r.no_feed
+    by (inr e) = either_way pending all rest r.taken r.text behind took r.no_feed e.1 (inr (subst (EndsAtEnd (pending ++ r.taken) r.text behind) is e.0))
 
 pub long_is : (text : List ℕ) → most_bytes < length text → batch_line text ≡ too_long
 long_is text h = ap (λ t. cond t too_long (line_of_words (words_of_line (without_return text)))) (lt-ltb most_bytes (length text) h)
 
-pub read_long : (all rest pending behind line : List ℕ) (allowance less : ℕ) (ended : Bool) → ReadsNext (Some all) (Some rest) allowance less pending behind line ended TooLong
+pub read_long : (before now : SourceSeen) (all rest pending behind line : List ℕ) (ended : Bool) → before.left ≡ Some all → now.left ≡ Some rest
+    → ReadsNext before now pending behind line ended TooLong
     → (text : List ℕ) × (batch_line text ≡ too_long) × (lines_of (pending ++ all) ≡ text ∷ lines_of (behind ++ rest))
-read_long all rest pending behind line allowance less ended r =
+read_long before now all rest pending behind line ended was is r =
     let l = r.is_next.0 in
-    (r.text, long_is r.text l, either_way pending all rest r.taken r.text behind (told all rest r.taken r.took) r.no_feed (omega (arith, l)) r.is_next.1)
+    let ends = subst (λ left. EndsAtFeed (pending ++ r.taken) r.text behind ⊎ EndsAtEnd (pending ++ r.taken) r.text behind left) is r.is_next.1 in
+    (r.text, long_is r.text l, either_way pending all rest r.taken r.text behind (told all rest r.taken (took_told before now all rest r.taken was is r.took)) r.no_feed (omega (arith, l)) ends)
 
-pub read_end : (all rest pending behind line : List ℕ) (allowance less : ℕ) (ended : Bool) → ReadsNext (Some all) (Some rest) allowance less pending behind line ended End
+pub read_end : (before now : SourceSeen) (all rest pending behind line : List ℕ) (ended : Bool) → before.left ≡ Some all → now.left ≡ Some rest
+    → ReadsNext before now pending behind line ended End
     → (pending ++ all ≡ []) × (behind ++ rest ≡ [])
-read_end all rest pending behind line allowance less ended r =
-    let x = at_end pending all rest r.taken r.text behind (told all rest r.taken r.took) r.is_next.1 in (x.0 ∙ r.is_next.0, x.1)
+read_end before now all rest pending behind line ended was is r =
+    let x = at_end pending all rest r.taken r.text behind (told all rest r.taken (took_told before now all rest r.taken was is r.took))
+    (subst (EndsAtEnd (pending ++ r.taken) r.text behind) is r.is_next.1) in
+    (x.0 ∙ r.is_next.0, x.1)
 
 -- ---- blocks
 

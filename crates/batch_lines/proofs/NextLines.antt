@@ -6,6 +6,7 @@ use Rattle.std.proofs.KnownBytes.{Consumes-trans, Consumes-kept}
 use Rattle.std.proofs.lemmas.Bool.{ltb-true, ltb-false}
 use Rattle.std.proofs.lemmas.List.{append-nil}
 use Rattle.sym_model.specs.BatchLine.{most_bytes}
+use Rattle.calc_base.specs.Source.{SourceSeen}
 use Rattle.batch_lines.specs.Feeds.{HasNoFeed}
 use Rattle.batch_lines.specs.Heard.{IsHeard, IsTaken, Hears}
 use Rattle.batch_lines.specs.Reading.{Took, TookPart, EndsAtFeed, EndsAtEnd, EndsBy, IsNext, ReadsNext, next_at_feed, next_at_end}
@@ -24,11 +25,11 @@ took_more before between now first more h k = Consumes-trans before between now 
 
 -- ---- a line so far
 
-pub record ReadsSo (before now : Option (List ℕ)) (allowance less faults count : ℕ) (first pending kept : List ℕ) (is_long : Bool) : Type 0 where
+pub record ReadsSo (before now : SourceSeen) (first pending kept : List ℕ) (is_long : Bool) : Type 0 where
   pub taken : List ℕ
-  pub took : Took before now taken
-  pub spent : less + length taken ≤ allowance
-  pub still : count ≡ faults
+  pub took : Took before.left now.left taken
+  pub spent : now.allowance + length taken ≤ before.allowance
+  pub still : now.faults ≡ before.faults
   pub text : List ℕ
   pub no_feed : HasNoFeed text
   pub bytes : first ++ taken ≡ text ++ pending
@@ -41,10 +42,10 @@ ended_at_feed : (text line : List ℕ) (is_long : Bool) (all pending : List ℕ)
 ended_at_feed text line true all pending now h e = (ltb-true most_bytes (length text) (sym h.long), inl e)
 ended_at_feed text line false all pending now h e = (h.whole refl, ltb-false most_bytes (length text) (sym h.long), inl e)
 
-pub ends : (before now : Option (List ℕ)) (allowance less faults count : ℕ) (first pending kept behind line : List ℕ) (is_long : Bool) (heard : Heard) (ended : Bool) (next : Next)
-    → (r : ReadsSo before now allowance less faults count first pending kept is_long) → Hears r.text pending behind line heard → heard.has_ended ≡ true
-    → ended ≡ false → next ≡ next_at_feed heard.is_long → ReadsNext before now allowance less first behind line ended next
-ends before now allowance less faults count first pending kept behind line is_long heard ended next r h e going n =
+pub ends : {before now : SourceSeen} {first pending kept behind line : List ℕ} {is_long : Bool} (heard : Heard) (ended : Bool) (next : Next)
+    → (r : ReadsSo before now first pending kept is_long) → Hears r.text pending behind line heard → heard.has_ended ≡ true
+    → ended ≡ false → next ≡ next_at_feed heard.is_long → ReadsNext before now first behind line ended next
+ends {before = before} {now = now} {first = first} {pending = pending} {behind = behind} {line = line} heard ended next r h e going n =
     let cut : pending ≡ h.part ++ 10 ∷ behind = subst (IsTaken h.part pending behind) e h.taken in
     let all : EndsAtFeed (first ++ r.taken) (r.text ++ h.part) behind =
     r.bytes ∙ ap (λ xs. r.text ++ xs) cut ∙ sym (append_assoc r.text h.part (10 ∷ behind)) in
@@ -54,23 +55,23 @@ ends before now allowance less faults count first pending kept behind line is_lo
       spent = r.spent;
       text = r.text ++ h.part;
       no_feed = no_feed_append r.text h.part r.no_feed h.no_feed;
-      ends = subst (λ x. EndsBy x (first ++ r.taken) (r.text ++ h.part) behind now) (sym going) all;
+      ends = subst (λ x. EndsBy x (first ++ r.taken) (r.text ++ h.part) behind now.left) (sym going) all;
       is_next =
-          subst (λ x. IsNext x (first ++ r.taken) (r.text ++ h.part) behind now line) (sym n)
-          (ended_at_feed (r.text ++ h.part) line heard.is_long (first ++ r.taken) behind now h.heard all);
+          subst (λ x. IsNext x (first ++ r.taken) (r.text ++ h.part) behind now.left line) (sym n)
+          (ended_at_feed (r.text ++ h.part) line heard.is_long (first ++ r.taken) behind now.left h.heard all);
     }
 
 -- ---- a line that goes on
 
-pub goes_on : (before now later : Option (List ℕ)) (allowance less still_less faults count more_count : ℕ) (first pending kept behind line piece : List ℕ) (is_long : Bool) (heard : Heard)
-    → (r : ReadsSo before now allowance less faults count first pending kept is_long) → Hears r.text pending behind line heard → heard.has_ended ≡ false
-    → Took now later piece → still_less + length piece ≤ less → more_count ≡ count
-    → ReadsSo before later allowance still_less faults more_count first piece line heard.is_long
-goes_on before now later allowance less still_less faults count more_count first pending kept behind line piece is_long heard r h e t s f =
+pub goes_on : {before now later : SourceSeen} {first pending kept behind line piece : List ℕ} {is_long : Bool} (heard : Heard)
+    → (r : ReadsSo before now first pending kept is_long) → Hears r.text pending behind line heard → heard.has_ended ≡ false
+    → Took now.left later.left piece → later.allowance + length piece ≤ now.allowance → later.faults ≡ now.faults
+    → ReadsSo before later first piece line heard.is_long
+goes_on {before = before} {now = now} {later = later} {first = first} {pending = pending} {behind = behind} {piece = piece} heard r h e t s f =
     let cut : (pending ≡ h.part) × (behind ≡ []) = subst (IsTaken h.part pending behind) e h.taken in
     record {
       taken = r.taken ++ piece;
-      took = took_more before now later r.taken piece r.took t;
+      took = took_more before.left now.left later.left r.taken piece r.took t;
       spent = let x = r.spent in let l = length-append r.taken piece in omega (arith, x, l, s);
       still = f ∙ r.still;
       text = r.text ++ h.part;
@@ -83,14 +84,14 @@ goes_on before now later allowance less still_less faults count more_count first
 
 -- ---- a fault of the source
 
-pub cuts : (before now later : Option (List ℕ)) (allowance less faults count : ℕ) (first pending kept behind line : List ℕ) (is_long : Bool) (heard : Heard)
-    → (r : ReadsSo before now allowance less faults count first pending kept is_long) → Hears r.text pending behind line heard → heard.has_ended ≡ false
-    → Keeps now later → TookPart before later first
-cuts before now later allowance less faults count first pending kept behind line is_long heard r h e kept_left =
+pub cuts : {before now : SourceSeen} (later : Option (List ℕ)) {first pending kept behind line : List ℕ} {is_long : Bool} (heard : Heard)
+    → (r : ReadsSo before now first pending kept is_long) → Hears r.text pending behind line heard → heard.has_ended ≡ false
+    → Keeps now.left later → TookPart before.left later first
+cuts {before = before} {now = now} later {first = first} {pending = pending} {behind = behind} heard r h e kept_left =
     let cut : (pending ≡ h.part) × (behind ≡ []) = subst (IsTaken h.part pending behind) e h.taken in
     record {
       taken = r.taken;
-      took = Consumes-kept before now later r.taken r.took kept_left;
+      took = Consumes-kept before.left now.left later r.taken r.took kept_left;
       no_feed =
           subst HasNoFeed (sym (r.bytes ∙ ap (λ xs. r.text ++ xs) cut.0)) (no_feed_append r.text h.part r.no_feed h.no_feed);
     }
@@ -113,24 +114,24 @@ at_end_is text (b ∷ line) false all pending later h e =
     let w = h.whole refl in
     (w, ltb-false most_bytes (length text) (sym h.long), inr (e, (let l = ap length w in omega (arith, l))))
 
-pub stops : (before now later : Option (List ℕ)) (allowance less still_less faults count : ℕ) (first pending kept behind line piece : List ℕ) (is_long : Bool) (heard : Heard) (next : Next)
-    → (r : ReadsSo before now allowance less faults count first pending kept is_long) → Hears r.text pending behind line heard → heard.has_ended ≡ false
-    → Took now later piece → still_less + length piece ≤ less → length piece ≡ 0 → IsAtEnd later
-    → next ≡ next_at_end line heard.is_long → ReadsNext before later allowance still_less first piece line true next
-stops before now later allowance less still_less faults count first pending kept behind line piece is_long heard next r h e t s z q n =
+pub stops : {before now later : SourceSeen} {first pending kept behind line piece : List ℕ} {is_long : Bool} (heard : Heard) (next : Next)
+    → (r : ReadsSo before now first pending kept is_long) → Hears r.text pending behind line heard → heard.has_ended ≡ false
+    → Took now.left later.left piece → later.allowance + length piece ≤ now.allowance → length piece ≡ 0 → IsAtEnd later.left
+    → next ≡ next_at_end line heard.is_long → ReadsNext before later first piece line true next
+stops {before = before} {now = now} {later = later} {first = first} {pending = pending} {behind = behind} {line = line} {piece = piece} heard next r h e t s z q n =
     let cut : (pending ≡ h.part) × (behind ≡ []) = subst (IsTaken h.part pending behind) e h.taken in
     let none = no_bytes piece z in
     let text = r.text ++ h.part in
-    let at_end : EndsAtEnd (first ++ r.taken) text piece later =
-    record { whole = r.bytes ∙ ap (λ xs. r.text ++ xs) cut.0; none_pending = none; none_left = told_end later q } in
+    let at_end : EndsAtEnd (first ++ r.taken) text piece later.left =
+    record { whole = r.bytes ∙ ap (λ xs. r.text ++ xs) cut.0; none_pending = none; none_left = told_end later.left q } in
     record {
       taken = r.taken;
-      took = subst (Took before later) (ap (λ xs. r.taken ++ xs) none ∙ append-nil r.taken) (took_more before now later r.taken piece r.took t);
+      took = subst (Took before.left later.left) (ap (λ xs. r.taken ++ xs) none ∙ append-nil r.taken) (took_more before.left now.left later.left r.taken piece r.took t);
       spent = let x = r.spent in omega (arith, x, s);
       text = text;
       no_feed = no_feed_append r.text h.part r.no_feed h.no_feed;
       ends = at_end;
       is_next =
-          subst (λ x. IsNext x (first ++ r.taken) text piece later line) (sym n)
-          (at_end_is text line heard.is_long (first ++ r.taken) piece later h.heard at_end);
+          subst (λ x. IsNext x (first ++ r.taken) text piece later.left line) (sym n)
+          (at_end_is text line heard.is_long (first ++ r.taken) piece later.left h.heard at_end);
     }

@@ -1,8 +1,9 @@
 -- How far a batch is, and how it ends (this project's own).
-use Rattle.std.specs.Prelude.{◌≡◌, ℕ, List, [], Bool, true, false, ◌&&◌, codes, cond, Option}
+use Rattle.std.specs.Prelude.{◌≡◌, ℕ, List, [], Bool, true, false, ◌&&◌, codes, cond}
 use Rattle.calc_base.specs.declared.status.Status.{Status}
 use Rattle.calc_base.specs.declared.status.Status.TheVariants as status
 use Rattle.calc_base.specs.Puts.{Puts}
+use Rattle.calc_base.specs.Sink.{SinkSeen}
 use Rattle.batch_lines.specs.declared.progress.Progress.{Progress}
 
 -- what stands in front of a block: nothing in front of the first one, and the line `--` in front of the others
@@ -34,9 +35,8 @@ abbrev pub status_where : Bool → Status → Status
 status_where well answer = cond well answer status.SinkFault
 
 -- The sink is finished, and the answer is the status; or that failed.
-pub record Finishes {K : Type 0} (written : K → Option (List ℕ)) (count : K → Option ℕ) (faults : K → ℕ) (settled : K → Bool)
-    (old new : K) (answer result : Status) : Type 0 where
+pub record Finishes (old new : SinkSeen) (answer result : Status) : Type 0 where
   pub well : Bool
-  pub puts : Puts written count faults true old well new []
-  pub settles : well ≡ true → settled new ≡ true
+  pub puts : Puts true old well new []
+  pub settles : well ≡ true → new.settled ≡ true
   pub is : result ≡ status_where well answer

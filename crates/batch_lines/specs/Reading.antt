@@ -3,6 +3,7 @@ use Rattle.std.specs.Prelude.{◌≡◌, ◌⊎◌, ◌<◌, ◌≤◌, ℕ, ◌
 use Rattle.std.specs.Io.KnownBytes.{Consumes}
 use Rattle.sym_model.specs.BatchLine.{most_bytes}
 use Rattle.calc_base.specs.Fault.{Rose}
+use Rattle.calc_base.specs.Source.{SourceSeen}
 use Rattle.batch_lines.specs.Feeds.{HasNoFeed}
 use Rattle.batch_lines.specs.declared.next.Next.{Next}
 use Rattle.batch_lines.specs.declared.next.Next.TheVariants.{Line, TooLong, End}
@@ -51,14 +52,14 @@ IsNext TooLong all text pending left line = (most_bytes < length text) × (EndsA
 IsNext End all text pending left line = (text ≡ []) × EndsAtEnd all text pending left
 
 -- these bytes were taken, and of them and those that were pending the next line was read
-pub record ReadsNext (before now : Option (List ℕ)) (allowance less : ℕ) (pending left_pending line : List ℕ) (has_ended : Bool) (next : Next) : Type 0 where
+pub record ReadsNext (before now : SourceSeen) (pending left_pending line : List ℕ) (has_ended : Bool) (next : Next) : Type 0 where
   pub taken : List ℕ
-  pub took : Took before now taken
-  pub spent : less + length taken ≤ allowance
+  pub took : Took before.left now.left taken
+  pub spent : now.allowance + length taken ≤ before.allowance
   pub text : List ℕ
   pub no_feed : HasNoFeed text
-  pub ends : EndsBy has_ended (pending ++ taken) text left_pending now
-  pub is_next : IsNext next (pending ++ taken) text left_pending now line
+  pub ends : EndsBy has_ended (pending ++ taken) text left_pending now.left
+  pub is_next : IsNext next (pending ++ taken) text left_pending now.left line
 
 -- what is read where a line ends at a line feed
 abbrev pub next_at_feed : Bool → Next

@@ -7,14 +7,14 @@ use calc_base::{Sink, Status};
 
 /// Puts the line `--`, but not in front of the first block, and answers whether all went well.
 pub fn put_separator<K: Sink>(is_first: bool, sink: &mut K) -> bool
-    ensures { Puts K.written K.length K.faults true sink.old result sink.new (separator is_first) }
+    ensures { Puts true (K.seen sink.old) result (K.seen sink.new) (separator is_first) }
 {
     is_first || sink.put(b"--\n").is_ok()
 }
 
 /// Finishes the sink, and answers the status, or that the sink failed.
 pub fn finished<K: Sink>(status: Status, sink: &mut K) -> Status
-    ensures { Finishes K.written K.length K.faults K.settled sink.old sink.new status result }
+    ensures { Finishes (K.seen sink.old) (K.seen sink.new) status result }
 {
     status_if(sink.finish().is_ok(), status)
 }

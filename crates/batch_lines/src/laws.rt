@@ -1,9 +1,10 @@
 //! What a loop over the lines of a batch stands on.
 
-ghost use Rattle.std.specs.Prelude.{◌≡◌, ◌<◌, ◌&&◌, ℕ, Bool, List, [], ◌∷◌, ◌++◌, Some, length, codes};
+ghost use Rattle.std.specs.Prelude.{◌≡◌, ◌<◌, ◌&&◌, Bool, ℕ, List, [], ◌∷◌, ◌++◌, Some, length, codes};
 ghost use Rattle.sym_model.specs.BatchLine.{BatchLine, lines_of, batch_line, too_long};
 ghost use Rattle.sym_model.specs.BatchOutcome.{Block, AreBlocks, batch_text, is_done, are_done};
 ghost use Rattle.sym_model.specs.Entry.{Entry};
+ghost use Rattle.calc_base.specs.Source.{SourceSeen};
 ghost use Rattle.batch_lines.specs.Feeds.{HasNoFeed};
 ghost use Rattle.batch_lines.specs.Reading.{ReadsNext};
 ghost use Rattle.batch_lines.specs.declared.next.Next.TheVariants.{Line, TooLong, End};
@@ -13,14 +14,14 @@ ghost use Rattle.batch_lines.specs.declared.next.Next.TheVariants.{Line, TooLong
 pub fn lines_read_law()
     ensures first { (text rest : List ℕ) → HasNoFeed text → lines_of (text ++ 10 ∷ rest) ≡ text ∷ lines_of rest }
     ensures last { (text : List ℕ) → HasNoFeed text → 0 < length text → lines_of text ≡ text ∷ [] }
-    ensures line { (all rest pending behind line : List ℕ) (allowance less : ℕ) (ended : Bool)
-        → ReadsNext (Some all) (Some rest) allowance less pending behind line ended Line
+    ensures line { (before now : SourceSeen) (all rest pending behind line : List ℕ) (ended : Bool)
+        → before.left ≡ Some all → now.left ≡ Some rest → ReadsNext before now pending behind line ended Line
         → lines_of (pending ++ all) ≡ line ∷ lines_of (behind ++ rest) }
-    ensures long { (all rest pending behind line : List ℕ) (allowance less : ℕ) (ended : Bool)
-        → ReadsNext (Some all) (Some rest) allowance less pending behind line ended TooLong
+    ensures long { (before now : SourceSeen) (all rest pending behind line : List ℕ) (ended : Bool)
+        → before.left ≡ Some all → now.left ≡ Some rest → ReadsNext before now pending behind line ended TooLong
         → (text : List ℕ) × (batch_line text ≡ too_long) × (lines_of (pending ++ all) ≡ text ∷ lines_of (behind ++ rest)) }
-    ensures end { (all rest pending behind line : List ℕ) (allowance less : ℕ) (ended : Bool)
-        → ReadsNext (Some all) (Some rest) allowance less pending behind line ended End
+    ensures end { (before now : SourceSeen) (all rest pending behind line : List ℕ) (ended : Bool)
+        → before.left ≡ Some all → now.left ≡ Some rest → ReadsNext before now pending behind line ended End
         → (pending ++ all ≡ []) × (behind ++ rest ≡ []) }
 {}
 

@@ -1,5 +1,15 @@
 //! The lines of a batch, read from a source piece by piece, how a batch goes on and how commands end; the lines that the command
 //! `work` runs, and the sums over their blocks.
+//!
+//! What is proved:
+//!
+//! `LineReader` gives the lines of a source one at a time, over pieces of any size; `has_line` says
+//! whether a whole line was taken that is still to be read; `lines_read_law` and `blocks_law` say
+//! what follows for a batch. `Progress`, `at_end`, `put_separator`, `finished`: what stands between
+//! two blocks of a batch, how far it is, and the status at its end, each by the definition of its
+//! name. `work_line` writes the next line of the generator and moves its state on, without memory.
+//! `Sums::add` counts a block, its terms and its bytes, and `put_summary` puts the three lines of
+//! the sums.
 #![tactic(auto)]
 
 mod draws;

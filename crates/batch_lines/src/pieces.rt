@@ -61,11 +61,11 @@ impl Pieces {
     /// Takes the next bytes of the source, in place of those that are there, and answers how many.
     pub(crate) fn refill<S: Source>(&mut self, source: &mut S) -> Result<usize, SourceFault>
         ensures count { IfOk result (λ count. count ≡ length self.new) }
-        ensures taken { IfOk result (λ _. Consumes (S.left source.old) (S.left source.new) self.new) }
-        ensures ended { IfOk result (λ count. count ≡ 0 → IsAtEnd (S.left source.new)) }
-        ensures spends { Spends (S.allowance source.old) (S.allowance source.new) result }
-        ensures kept { OnErr result (Keeps (S.left source.old) (S.left source.new)) }
-        ensures counts { CountsFaults (S.faults source.old) (S.faults source.new) result }
+        ensures taken { IfOk result (λ _. Consumes (S.seen source.old).left (S.seen source.new).left self.new) }
+        ensures ended { IfOk result (λ count. count ≡ 0 → IsAtEnd (S.seen source.new).left) }
+        ensures spends { Spends (S.seen source.old).allowance (S.seen source.new).allowance result }
+        ensures kept { OnErr result (Keeps (S.seen source.old).left (S.seen source.new).left) }
+        ensures counts { CountsFaults (S.seen source.old).faults (S.seen source.new).faults result }
     {
         self.start = 0;
         self.end = 0;

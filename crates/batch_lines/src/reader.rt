@@ -68,13 +68,13 @@ impl LineReader {
     /// not to be used. Where the source was found at its end no call of it is made, and the answer is `End`; what is read is told
     /// of a source in which nothing is left then, and so of the one that was found there.
     pub fn next<S: Source>(&mut self, source: &mut S) -> Result<Next, LineFault>
-        ensures reads { IsAtEnd self.old.has_ended (S.left source.old)
-            → IfOk result (ReadsNext (S.left source.old) (S.left source.new) (S.allowance source.old) (S.allowance source.new)
+        ensures reads { IsAtEnd self.old.has_ended (S.seen source.old).left
+            → IfOk result (ReadsNext (S.seen source.old) (S.seen source.new)
             self.old.pending self.new.pending self.new.line self.new.has_ended) }
-        ensures takes { (taken : List ℕ) × Took (S.left source.old) (S.left source.new) taken }
-        ensures cuts { CutsLine (S.left source.old) (S.left source.new) self.old.pending self.old.has_ended result }
-        ensures counts { CountsLine (S.faults source.old) (S.faults source.new) result }
-        ensures later { S.faults source.old ≤ S.faults source.new }
+        ensures takes { (taken : List ℕ) × Took (S.seen source.old).left (S.seen source.new).left taken }
+        ensures cuts { CutsLine (S.seen source.old).left (S.seen source.new).left self.old.pending self.old.has_ended result }
+        ensures counts { CountsLine (S.seen source.old).faults (S.seen source.new).faults result }
+        ensures later { (S.seen source.old).faults ≤ (S.seen source.new).faults }
         ensures rests { self.old.has_ended ≡ true → (source.new ≡ source.old) × (result ≡ Ok Next.End) }
         ensures short { IfOk result (λ _. length self.new.pending ≤ most_pending) }
         ensures little { IfOk result (λ _. length self.new.line ≤ most_bytes) }
@@ -120,13 +120,13 @@ fn read_next<S: Source>(
     source: &mut S,
 ) -> Result<Next, LineFault>
     requires { has_ended.old ≡ false }
-    ensures reads { IfOk result (ReadsNext (S.left source.old) (S.left source.new) (S.allowance source.old) (S.allowance source.new)
+    ensures reads { IfOk result (ReadsNext (S.seen source.old) (S.seen source.new)
         pieces.old pieces.new line.new.items has_ended.new) }
     ensures goes_on { OnErr result (has_ended.new ≡ false) }
-    ensures takes { (taken : List ℕ) × Took (S.left source.old) (S.left source.new) taken }
-    ensures cuts { CutsLine (S.left source.old) (S.left source.new) pieces.old has_ended.old result }
-    ensures counts { CountsLine (S.faults source.old) (S.faults source.new) result }
-    ensures later { S.faults source.old ≤ S.faults source.new }
+    ensures takes { (taken : List ℕ) × Took (S.seen source.old).left (S.seen source.new).left taken }
+    ensures cuts { CutsLine (S.seen source.old).left (S.seen source.new).left pieces.old has_ended.old result }
+    ensures counts { CountsLine (S.seen source.old).faults (S.seen source.new).faults result }
+    ensures later { (S.seen source.old).faults ≤ (S.seen source.new).faults }
     ensures short { IfOk result (λ _. length pieces.new ≤ most_pending) }
     ensures little { IfOk result (λ _. length line.new.items ≤ most_bytes) }
 {

@@ -76,7 +76,7 @@ fn feed(byte: u8) -> u64
 
 /// Puts the three lines of the sums, and answers whether all went well.
 pub fn put_summary<K: Sink>(sums: &Sums, sink: &mut K) -> bool
-    ensures { Puts K.written K.length K.faults true sink.old result sink.new (sums_text sums.now) }
+    ensures { Puts true (K.seen sink.old) result (K.seen sink.new) (sums_text sums.now) }
 {
     let lines = put_if(true, sink, b"lines ");
     let lines = put_number(lines, sums.lines, sink);
@@ -89,7 +89,7 @@ pub fn put_summary<K: Sink>(sums: &Sums, sink: &mut K) -> bool
 
 /// Puts a number.
 fn put_number<K: Sink>(well: bool, number: u128, sink: &mut K) -> bool
-    ensures { Puts K.written K.length K.faults well sink.old result sink.new (decimal number) }
+    ensures { Puts well (K.seen sink.old) result (K.seen sink.new) (decimal number) }
 {
     let mut buffer = Buffer::new();
     put_if(well, sink, buffer.format(number).as_bytes())

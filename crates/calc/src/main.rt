@@ -1,17 +1,21 @@
 //! The calculator as a program. It runs the command that its words name, over standard input and standard output, and
 //! ends with the code of its status. Nothing goes to standard error.
+//!
+//! What is proved:
+//!
+//! The program: it is proved safe, and its stored run is `expand m p[2,1]`. `code_of_run`: the
+//! program's code is that of a status that `answers` the words after the program's name, as `run`
+//! says; `code_for`: 7 or 8 where the system refuses the words. `run_over`: all clauses of `run`,
+//! over any reader and any writer behind a buffer, and its `headline` and `lines` also of the bytes
+//! that the writer itself holds.
 #![tactic(auto)]
 
-ghost use Rattle.std.specs.Prelude.{◌≡◌, ◌≢◌, ◌⊎◌, ℕ, List, Some, drop, map, string_bytes};
-ghost use Rattle.calc_app.specs.Top.{IsAccepted, IsThrough, PrintsAnswerTo, PrintsLines, RunsLines, WasCutOff, status_of as status_for};
-ghost use Rattle.calc_base.specs.Edge.{told_bytes};
-ghost use Rattle.calc_base.specs.Status.{code_of};
-ghost use Rattle.calc_language.specs.BuiltCommands.{command_entries};
-ghost use Rattle.sym_model.specs.Command.{Command};
-ghost use Rattle.sym_model.specs.CommandOffence.{Offence};
-ghost use Rattle.sym_model.specs.Entry.{SpellsWithoutOffence, HasFirstOffence};
-ghost use Rattle.sym_model.specs.Outcome.{ending_of};
-ghost use Rattle.sym_model.specs.SyntaxPlace.{IsSyntaxPlace};
+ghost use Rattle.std.specs.Prelude.{◌≡◌, ◌≢◌, ℕ, List, Some, drop, map, string_bytes};
+ghost use Rattle.std.specs.Process.{exit_status};
+ghost use Rattle.calc_app.specs.Top.{AnswersWords, CutsLines, HidesNoFault, IsEmptied, IsOutcome, IsThrough, Leaves, PrintsAnswerTo, PrintsLines, RunsLines};
+ghost use Rattle.calc_base.specs.Edge.{intake_seen, outlet_seen, told_bytes};
+ghost use Rattle.calc_base.specs.Sink.{Appends};
+ghost use Rattle.calc_base.specs.Status.{IsCodeOf, code_of};
 
 use calc_app::run;
 use calc_base::{Status, StdIn, StdOut};
@@ -27,9 +31,16 @@ const WORDS_REFUSED: u8 = 8;
 
 fn main(rt: HostRuntime) -> ExitCode {
     match arguments_of(&rt) {
-        Ok(arguments) => ExitCode::from(status_of(&rt, behind_name(&arguments)).code()),
+        Ok(arguments) => code_of_run(&rt, &arguments),
         Err(error) => ExitCode::from(code_for(error.kind())),
     }
+}
+
+/// Runs the words after the program's name, and gives the code of their status.
+fn code_of_run(rt: &HostRuntime, arguments: &[String]) -> ExitCode
+    ensures { IsCodeOf (AnswersWords (map string_bytes (drop 1 arguments.now)) (λ line. Unit {0})) (exit_status result) }
+{
+    ExitCode::from(status_of(rt, after_name(arguments)).code())
 }
 
 /// The words from the system, of which the first is the program's name.
@@ -37,8 +48,8 @@ fn arguments_of(rt: &(impl Env + Alloc<A = Global>)) -> io::Result<Vec<String>> 
     Ok(env::args(rt)?.collect(rt.alloc())?)
 }
 
-/// The words behind the program's name.
-fn behind_name(arguments: &[String]) -> &[String]
+/// The words after the program's name.
+fn after_name(arguments: &[String]) -> &[String]
     ensures { result.now ≡ drop 1 arguments.now }
 {
     match arguments {
@@ -62,13 +73,8 @@ fn code_for(refusal: ErrorKind) -> u8
 /// Runs the words over standard input and standard output. The text is written in large pieces; `run` finishes the output where a
 /// batch has no further line to run, so that who sends a line and waits for its block gets it.
 fn status_of(rt: &HostRuntime, words: &[String]) -> Status
-    // The status that `run` answers to the words.
-    ensures accepted { (command : Command) → SpellsWithoutOffence command_entries (map string_bytes words.now) command
-        → IsAccepted command result }
-    ensures offended { (offence : Offence) → HasFirstOffence command_entries (map string_bytes words.now) (Some offence)
-        → (result ≡ status_for (ending_of offence.2)) ⊎ WasCutOff result }
-    ensures no_command { (word byte : ℕ) → IsSyntaxPlace command_entries (map string_bytes words.now) word byte
-        → (result ≡ Status.Syntax) ⊎ WasCutOff result }
+    // The status that `run` answers to the words. What standard input gives and standard output takes no clause can say.
+    ensures { AnswersWords (map string_bytes words.now) (λ line. Unit {0}) result }
 {
     let Ok(writer) = BufWriter::new(rt.alloc(), rt.stdout()) else {
         return Status::NoMemory;
@@ -91,13 +97,19 @@ fn run_over<R: Read, W: Write + Drop>(
         → told_bytes W.contents sink.old ≡ Some before
         → PrintsLines before (R.remaining source.old.reader) (W.contents sink.new.writer) }
 
-    // The status that `run` answers to the words.
-    ensures accepted { (command : Command) → SpellsWithoutOffence command_entries (map string_bytes words.now) command
-        → IsAccepted command result }
-    ensures offended { (offence : Offence) → HasFirstOffence command_entries (map string_bytes words.now) (Some offence)
-        → (result ≡ status_for (ending_of offence.2)) ⊎ WasCutOff result }
-    ensures no_command { (word byte : ℕ) → IsSyntaxPlace command_entries (map string_bytes words.now) word byte
-        → (result ≡ Status.Syntax) ⊎ WasCutOff result }
+    // The other clauses of `run`, as it says them of its source and sink.
+    ensures cut { RunsLines (map string_bytes words.now) → result ≡ Status.SinkFault
+        → CutsLines (outlet_seen W.contents sink.old) (outlet_seen W.contents sink.new) (intake_seen R.remaining source.old)
+        (intake_seen R.remaining source.new) }
+    ensures leaves { Leaves (outlet_seen W.contents sink.old) (outlet_seen W.contents sink.new) (intake_seen R.remaining source.old)
+        (intake_seen R.remaining source.new) (sink.new ≡ sink.old) (RunsLines (map string_bytes words.now))
+        (IsOutcome (map string_bytes words.now)) result }
+    ensures answers { AnswersWords (map string_bytes words.now)
+        (Appends (outlet_seen W.contents sink.old) (outlet_seen W.contents sink.new)) result }
+    ensures faults { HidesNoFault (outlet_seen W.contents sink.old) (outlet_seen W.contents sink.new)
+        (intake_seen R.remaining source.old) (intake_seen R.remaining source.new) result }
+    ensures all_read { RunsLines (map string_bytes words.now) → IsThrough result → IsEmptied (R.remaining source.new.reader) }
+    ensures untouched { (RunsLines (map string_bytes words.now) → ⊥) → source.new ≡ source.old }
 {
     run(alloc, words, source, sink)
 }

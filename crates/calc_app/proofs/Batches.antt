@@ -1,7 +1,6 @@
 -- The blocks of the lines of a batch, one after another, and how a batch ends.
 use Rattle.std.proofs.Common.{◌≡◌, ◌⊎◌, ℕ, ◌+◌, ◌≤◌, ◌<◌, Bool, true, false, ◌&&◌, cond, List, [], ◌∷◌, ◌++◌, append_assoc, append-nil, map, length, length-append, refl, sym, ap, ◌∙◌, subst, arith, Option, Some, None, inl, inr}
-use Rattle.std.specs.Prelude.{IfSome, Ok}
-use Rattle.std.proofs.lemmas.Bool.{lt-ltb}
+use Rattle.std.specs.Prelude.{Ok}
 use Rattle.std.proofs.lemmas.List.{map-append}
 use Rattle.batch_lines.proofs.Lines.{long_is, more_blocks, more_text, more_done}
 use Rattle.batch_lines.proofs.NextLines.{took_nothing}
@@ -16,12 +15,13 @@ use Rattle.calc_base.specs.declared.words.WordsFault.{WordsFault}
 use Rattle.calc_base.specs.declared.words.WordsFault.TheVariants as fault
 use Rattle.calc_base.specs.Fault.{Rose, counted_up}
 use Rattle.calc_base.specs.Puts.{Puts}
-use Rattle.calc_base.specs.Sink.{Appends, AppendsPrefix}
+use Rattle.calc_base.specs.Sink.{SinkSeen, Appends, AppendsPrefix}
+use Rattle.calc_base.specs.Source.{SourceSeen}
 use Rattle.calc_language.specs.BuiltCommands.{batch_entries}
 use Rattle.calc_commands.specs.declared.command.Command.{Command}
 use Rattle.calc_language.specs.Lines.{IsLineRead}
 use Rattle.calc_language.specs.Reading.{IsFaultOf, command_of}
-use Rattle.sym_model.specs.BatchLine.{BatchLine, too_long, passed_over, spoken, batch_line, lines_of, line_of_words, words_of_line, without_return, most_bytes, too_long_offence}
+use Rattle.sym_model.specs.BatchLine.{BatchLine, too_long, passed_over, spoken, batch_line, lines_of, most_bytes, too_long_offence}
 use Rattle.sym_model.specs.BatchOutcome.{Block, AreBlocks, batch_text, is_done, are_done, batch_ending, RunsInput}
 use Rattle.sym_model.specs.CommandOffence.{Offence}
 use Rattle.sym_model.specs.Ending.{Ending, done, some_refused, syntax, range, past}
@@ -31,12 +31,13 @@ use Rattle.batch_lines.specs.declared.progress.Progress.{Progress}
 use Rattle.calc_app.specs.declared.batch.Turn.{Turn}
 use Rattle.calc_app.specs.declared.batch.Turn.TheVariants as turn
 use Rattle.calc_replies.specs.declared.outcome.Outcome.{Outcome}
-use Rattle.calc_replies.specs.declared.outcome.Outcome.TheVariants.{Answered, Refused, Large, Told}
+use Rattle.calc_replies.specs.declared.outcome.Outcome.TheVariants.{Refused}
 use Rattle.batch_lines.specs.Ends.{separator, is_done_status, progress_after, end_status, Finishes}
-use Rattle.calc_app.specs.Batch.{RefusesLong, ComesOfLine, IsTurn, TakesTurn, EndsBatch}
-use Rattle.calc_replies.specs.Computed.{IsReplyTo, text_of, HasText, HasBlock, status_for}
-use Rattle.calc_app.specs.Top.{status_of, IsThrough, IsWholeLines, Leaves, CutsBlock, PutsBlocks}
+use Rattle.calc_app.specs.Batch.{ComesOfLine, IsTurn, TakesTurn, EndsBatch}
+use Rattle.calc_replies.specs.Computed.{IsReplyTo, text_of, HasBlock, status_for}
+use Rattle.calc_app.specs.Top.{status_of, IsThrough, IsWholeLines, CutsBlock, PutsBlocks}
 use Rattle.calc_app.proofs.LinesRead.{IsEnded, ReadsTold, EndsLine, begin_read, begin_spelled, spelled_more, whole_more, read_more, read_whole, Cut, read_cut, read_part}
+use Rattle.calc_app.proofs.Faults.{no_faults, sink_failed, source_failed, ends_well, is_full}
 use Rattle.calc_app.proofs.Outcomes.{has_outcome, leaves_ending}
 use Rattle.calc_replies.proofs.Replies.{computes_reply}
 
@@ -90,46 +91,44 @@ is_none [] = true
 is_none (b ∷ blocks) = false
 
 -- these lines were read, and their blocks were put
-pub record Runs {K : Type 0} (written : K → Option (List ℕ)) (count : K → Option ℕ) (faults : K → ℕ) (first now : K)
-    (left now_left : Option (List ℕ)) (source_faults now_faults : ℕ) (pending : List ℕ) (has_ended : Bool) (progress : Progress) : Type 0 where
+pub record Runs (first now : SinkSeen) (source here : SourceSeen) (pending : List ℕ) (has_ended : Bool) (progress : Progress) : Type 0 where
   pub lines : List (List ℕ)
   pub spelled : List ℕ
   pub is_spelled : IsEnded spelled lines
   pub is_whole : IsWholeLines spelled
-  pub read : ReadsTold left now_left lines pending has_ended
+  pub read : ReadsTold source.left here.left lines pending has_ended
   pub blocks : List Block
   pub are_blocks : AreBlocks batch_entries (map batch_line lines) blocks
   pub is_first : progress.is_first ≡ is_none blocks
   pub is_done : progress.is_done ≡ are_done blocks
-  pub appended : Appends written count first now (batch_text blocks)
-  pub still : faults now ≡ faults first
-  pub source_still : now_faults ≡ source_faults
+  pub appended : Appends first now (batch_text blocks)
+  pub still : now.faults ≡ first.faults
+  pub source_still : here.faults ≡ source.faults
 
-pub begins : {K : Type 0} (written : K → Option (List ℕ)) (count : K → Option ℕ) (faults : K → ℕ) (sink : K) (left : Option (List ℕ))
-    (source_faults : ℕ) → Runs written count faults sink sink left left source_faults source_faults [] false (record { is_first = true; is_done = true })
-begins written count faults sink left source_faults = record {
+pub begins : (sink : SinkSeen) (source : SourceSeen) → Runs sink sink source source [] false (record { is_first = true; is_done = true })
+begins sink source = record {
   lines = [];
   spelled = [];
   is_spelled = begin_spelled;
   is_whole = inl refl;
-  read = begin_read left;
+  read = begin_read source.left;
   blocks = [];
   are_blocks = tt;
   is_first = refl;
   is_done = refl;
-  appended = Appends-nothing written count sink;
+  appended = Appends-nothing sink;
   still = refl;
   source_still = refl;
 }
 
 -- what was read next: a line, of which this comes
-pub record TookLine (before now : Option (List ℕ)) (allowance less : ℕ) (pending behind : List ℕ) (ended : Bool) (comes : Option Outcome) : Type 0 where
+pub record TookLine (before now : SourceSeen) (pending behind : List ℕ) (ended : Bool) (comes : Option Outcome) : Type 0 where
   pub taken : List ℕ
-  pub took : Took before now taken
-  pub spent : less + length taken ≤ allowance
+  pub took : Took before.left now.left taken
+  pub spent : now.allowance + length taken ≤ before.allowance
   pub text : List ℕ
   pub no_feed : HasNoFeed text
-  pub ends : EndsLine ended (pending ++ taken) text behind now
+  pub ends : EndsLine ended (pending ++ taken) text behind now.left
   pub is : ComesOfLine (batch_line text) comes
 
 abbrev Comes : Turn → Option Outcome → Type 0
@@ -158,20 +157,20 @@ line_ends true all text behind now e (inr is) = (e, is.1)
 line_ends true all text behind now e (inl feed) =
     let w = ap length e.whole in let l = ap length feed in let t = length-append text (10 ∷ behind) in absurd (omega (arith, w, l, t))
 
-took_line : (before now : Option (List ℕ)) (allowance less : ℕ) (pending behind : List ℕ) (ended : Bool) (turn : Turn) (comes : Option Outcome)
-    → (t : TakesTurn before now allowance less pending behind ended turn) → (t.read ≡ next.End → ⊥) → Comes turn comes
-    → TookLine before now allowance less pending behind ended comes
-took_line before now allowance less pending behind ended turn comes t not_end says = by t.read refl t.reads.is_next
+took_line : {before now : SourceSeen} {pending behind : List ℕ} {ended : Bool} {turn : Turn} (comes : Option Outcome)
+    → (t : TakesTurn before now pending behind ended turn) → (t.read ≡ next.End → ⊥) → Comes turn comes
+    → TookLine before now pending behind ended comes
+took_line {before = before} {now = now} {pending = pending} {behind = behind} {ended = ended} comes t not_end says = by t.read refl t.reads.is_next
   where
-    by : (read : Next) → t.read ≡ read → IsNext read (pending ++ t.reads.taken) t.reads.text behind now t.line
-        → TookLine before now allowance less pending behind ended comes
+    by : (read : Next) → t.read ≡ read → IsNext read (pending ++ t.reads.taken) t.reads.text behind now.left t.line
+        → TookLine before now pending behind ended comes
     by next.Line same is = record {
       taken = t.reads.taken;
       took = t.reads.took;
       spent = t.reads.spent;
       text = t.reads.text;
       no_feed = t.reads.no_feed;
-      ends = line_ends ended (pending ++ t.reads.taken) t.reads.text behind now t.reads.ends is.2;
+      ends = line_ends ended (pending ++ t.reads.taken) t.reads.text behind now.left t.reads.ends is.2;
       is = says t.read t.line t.reads.text t.is (λ e. is.0) (λ e. let clash : next.Line ≡ next.TooLong = sym same ∙ e in cc);
     }
     by next.TooLong same is = record {
@@ -180,40 +179,38 @@ took_line before now allowance less pending behind ended turn comes t not_end sa
       spent = t.reads.spent;
       text = t.reads.text;
       no_feed = t.reads.no_feed;
-      ends = long_ends ended (pending ++ t.reads.taken) t.reads.text behind now is.0 t.reads.ends;
+      ends = long_ends ended (pending ++ t.reads.taken) t.reads.text behind now.left is.0 t.reads.ends;
       is = says t.read t.line t.reads.text t.is (λ e. let clash : next.TooLong ≡ next.Line = sym same ∙ e in cc) (λ e. long_is t.reads.text is.0);
     }
     by next.End same is = absurd (not_end same)
 
-pub block_took : (before now : Option (List ℕ)) (allowance less : ℕ) (pending behind : List ℕ) (ended : Bool) (outcome : Outcome)
-    → TakesTurn before now allowance less pending behind ended (turn.Block outcome) → TookLine before now allowance less pending behind ended (Some outcome)
-block_took before now allowance less pending behind ended outcome t =
-    took_line before now allowance less pending behind ended (turn.Block outcome) (Some outcome) t
-    (λ e. subst (λ r. IsTurn r t.line (turn.Block outcome)) e t.is) (block_comes outcome)
+pub block_took : {before now : SourceSeen} {pending behind : List ℕ} {ended : Bool} (outcome : Outcome)
+    → TakesTurn before now pending behind ended (turn.Block outcome) → TookLine before now pending behind ended (Some outcome)
+block_took outcome t =
+    took_line (Some outcome) t (λ e. subst (λ r. IsTurn r t.line (turn.Block outcome)) e t.is) (block_comes outcome)
 
-pub passed_took : (before now : Option (List ℕ)) (allowance less : ℕ) (pending behind : List ℕ) (ended : Bool)
-    → TakesTurn before now allowance less pending behind ended turn.Passed → TookLine before now allowance less pending behind ended None
-passed_took before now allowance less pending behind ended t =
-    took_line before now allowance less pending behind ended turn.Passed None t
-    (λ e. subst (λ r. IsTurn r t.line turn.Passed) e t.is) passed_comes
+pub passed_took : {before now : SourceSeen} {pending behind : List ℕ} {ended : Bool}
+    → TakesTurn before now pending behind ended turn.Passed → TookLine before now pending behind ended None
+passed_took t = took_line None t (λ e. subst (λ r. IsTurn r t.line turn.Passed) e t.is) passed_comes
 
 -- the end of the source was read
-pub record TookEnd (before now : Option (List ℕ)) (pending behind : List ℕ) : Type 0 where
+pub record TookEnd (before now : SourceSeen) (pending behind : List ℕ) : Type 0 where
   pub taken : List ℕ
-  pub took : Took before now taken
-  pub ends : EndsAtEnd (pending ++ taken) [] behind now
+  pub took : Took before.left now.left taken
+  pub ends : EndsAtEnd (pending ++ taken) [] behind now.left
 
-pub last_took : (before now : Option (List ℕ)) (allowance less : ℕ) (pending behind : List ℕ) (ended : Bool)
-    → TakesTurn before now allowance less pending behind ended turn.Last → TookEnd before now pending behind
-last_took before now allowance less pending behind ended t = by t.read t.is t.reads.is_next
+pub last_took : {before now : SourceSeen} {pending behind : List ℕ} {ended : Bool}
+    → TakesTurn before now pending behind ended turn.Last → TookEnd before now pending behind
+last_took {before = before} {now = now} {pending = pending} {behind = behind} t = by t.read t.is t.reads.is_next
   where
-    by : (read : Next) → IsTurn read t.line turn.Last → IsNext read (pending ++ t.reads.taken) t.reads.text behind now t.line → TookEnd before now pending behind
+    by : (read : Next) → IsTurn read t.line turn.Last → IsNext read (pending ++ t.reads.taken) t.reads.text behind now.left t.line
+        → TookEnd before now pending behind
     by next.Line is e = absurd is
     by next.TooLong is e = absurd is
     by next.End is e = record {
       taken = t.reads.taken;
       took = t.reads.took;
-      ends = subst (λ x. EndsAtEnd (pending ++ t.reads.taken) x behind now) e.0 e.1;
+      ends = subst (λ x. EndsAtEnd (pending ++ t.reads.taken) x behind now.left) e.0 e.1;
     }
 
 -- ---- one line more
@@ -242,17 +239,15 @@ is_some_block : (blocks : List Block) (b : Block) → false ≡ is_none (blocks 
 is_some_block [] b = refl
 is_some_block (first ∷ blocks) b = refl
 
-pub runs_passed : {K : Type 0} (written : K → Option (List ℕ)) (count : K → Option ℕ) (faults : K → ℕ) (first sink : K)
-    (left before now : Option (List ℕ)) (source_faults faults_before faults_now allowance less : ℕ) (pending behind : List ℕ) (had ended : Bool) (progress : Progress)
-    → Runs written count faults first sink left before source_faults faults_before pending had progress
-    → TookLine before now allowance less pending behind ended None → faults_now ≡ faults_before
-    → Runs written count faults first sink left now source_faults faults_now behind ended progress
-runs_passed written count faults first sink left before now source_faults faults_before faults_now allowance less pending behind had ended progress r t same = record {
+pub runs_passed : {first sink : SinkSeen} {source before now : SourceSeen} {pending behind : List ℕ} {had ended : Bool} {progress : Progress}
+    → Runs first sink source before pending had progress → TookLine before now pending behind ended None → now.faults ≡ before.faults
+    → Runs first sink source now behind ended progress
+runs_passed {source = source} {before = before} {now = now} {pending = pending} {behind = behind} {had = had} {ended = ended} r t same = record {
   lines = r.lines ++ t.text ∷ [];
   spelled = r.spelled ++ (t.text ++ 10 ∷ []);
   is_spelled = spelled_more r.spelled r.lines t.text r.is_spelled t.no_feed;
   is_whole = whole_more r.spelled t.text;
-  read = read_more left before now t.taken pending t.text behind r.lines had ended r.read t.took t.no_feed t.ends;
+  read = read_more source.left before.left now.left t.taken pending t.text behind r.lines had ended r.read t.took t.no_feed t.ends;
   blocks = r.blocks;
   are_blocks =
       subst (AreBlocks batch_entries (map batch_line (r.lines ++ t.text ∷ []))) (append-nil r.blocks)
@@ -264,13 +259,12 @@ runs_passed written count faults first sink left before now source_faults faults
   source_still = same ∙ r.source_still;
 }
 
-pub runs_block : {K : Type 0} (written : K → Option (List ℕ)) (count : K → Option ℕ) (faults : K → ℕ) (first sink next_sink : K)
-    (left before now : Option (List ℕ)) (source_faults faults_before faults_now allowance less : ℕ) (pending behind : List ℕ) (had ended : Bool) (progress : Progress) (outcome : Outcome)
-    → Runs written count faults first sink left before source_faults faults_before pending had progress
-    → TookLine before now allowance less pending behind ended (Some outcome) → HasBlock outcome → faults_now ≡ faults_before
-    → Appends written count sink next_sink (separator progress.is_first ++ text_of outcome) → faults next_sink ≡ faults sink
-    → Runs written count faults first next_sink left now source_faults faults_now behind ended (progress_after progress (status_for outcome))
-runs_block written count faults first sink next_sink left before now source_faults faults_before faults_now allowance less pending behind had ended progress outcome r t block same appended still =
+pub runs_block : {first sink next_sink : SinkSeen} {source before now : SourceSeen} {pending behind : List ℕ} {had ended : Bool} {progress : Progress}
+    (outcome : Outcome) → Runs first sink source before pending had progress
+    → TookLine before now pending behind ended (Some outcome) → HasBlock outcome → now.faults ≡ before.faults
+    → Puts true sink true next_sink (separator progress.is_first ++ text_of outcome)
+    → Runs first next_sink source now behind ended (progress_after progress (status_for outcome))
+runs_block {first = first} {sink = sink} {next_sink = next_sink} {source = source} {before = before} {now = now} {pending = pending} {behind = behind} {had = had} {ended = ended} outcome r t block same puts =
     let has = comes_block (batch_line t.text) outcome t.is block in
     let b : Block = (text_of outcome, has.ending) in
     record {
@@ -278,7 +272,7 @@ runs_block written count faults first sink next_sink left before now source_faul
       spelled = r.spelled ++ (t.text ++ 10 ∷ []);
       is_spelled = spelled_more r.spelled r.lines t.text r.is_spelled t.no_feed;
       is_whole = whole_more r.spelled t.text;
-      read = read_more left before now t.taken pending t.text behind r.lines had ended r.read t.took t.no_feed t.ends;
+      read = read_more source.left before.left now.left t.taken pending t.text behind r.lines had ended r.read t.took t.no_feed t.ends;
       blocks = r.blocks ++ b ∷ [];
       are_blocks = blocks_more r.lines t.text r.blocks (b ∷ []) r.are_blocks has.are;
       is_first = is_some_block r.blocks b;
@@ -287,13 +281,29 @@ runs_block written count faults first sink next_sink left before now source_faul
           ∙ ap (λ x. are_done r.blocks && x) (ap is_done_status has.same ∙ done_same has.ending)
           ∙ sym (more_done r.blocks b);
       appended =
-          subst (Appends written count first next_sink) (sym (text_more r.blocks b))
-          (Appends-then r.appended (subst (λ x. Appends written count sink next_sink (separator x ++ text_of outcome)) r.is_first appended));
-      still = still ∙ r.still;
+          subst (Appends first next_sink) (sym (text_more r.blocks b))
+          (Appends-then r.appended (subst (λ x. Appends sink next_sink (separator x ++ text_of outcome)) r.is_first (puts.whole refl)));
+      still = puts.still refl ∙ r.still;
       source_still = same ∙ r.source_still;
     }
 
 -- ---- how a batch ends
+
+-- the statuses with which a batch was not read to its end
+is_cut : IsThrough status.SinkFault → ⊥
+is_cut (inl e) = cc
+is_cut (inr e) = cc
+
+is_full_not_through : IsThrough status.NoMemory → ⊥
+is_full_not_through (inl e) = cc
+is_full_not_through (inr e) = cc
+
+is_source_fault : IsThrough status.SourceFault → ⊥
+is_source_fault (inl e) = cc
+is_source_fault (inr e) = cc
+
+no_end : {answer : Status} {Read : Type 0} → (IsThrough answer → ⊥) → IsThrough answer → Read
+no_end none through = absurd (none through)
 
 -- a text over an input with these lines
 runs_input : (input : List ℕ) (lines : List (List ℕ)) (blocks : List Block) → AreBlocks batch_entries (map batch_line lines) blocks → lines_of input ≡ lines
@@ -306,11 +316,10 @@ runs_input input lines blocks are same = record {
 }
 
 -- the block of one line more was cut off
-cuts_block : {K : Type 0} (written : K → Option (List ℕ)) (count : K → Option ℕ) (first sink next_sink : K) (lines : List (List ℕ)) (line : List ℕ)
-    (blocks : List Block) (b : Block) → AreBlocks batch_entries (map batch_line lines) blocks → AreBlocks batch_entries (batch_line line ∷ []) (b ∷ [])
-    → Appends written count first sink (batch_text blocks) → AppendsPrefix written count sink next_sink (separator (is_none blocks) ++ b.0)
-    → CutsBlock written count first next_sink (map batch_line (lines ++ line ∷ []))
-cuts_block written count first sink next_sink lines line blocks b are is_last appended cut = record {
+cuts_block : (first sink next_sink : SinkSeen) (lines : List (List ℕ)) (line : List ℕ) (blocks : List Block) (b : Block) → AreBlocks batch_entries (map batch_line lines) blocks → AreBlocks batch_entries (batch_line line ∷ []) (b ∷ [])
+    → Appends first sink (batch_text blocks) → AppendsPrefix sink next_sink (separator (is_none blocks) ++ b.0)
+    → CutsBlock first next_sink (map batch_line (lines ++ line ∷ []))
+cuts_block first sink next_sink lines line blocks b are is_last appended cut = record {
   earlier = map batch_line lines;
   line = batch_line line;
   lines_are = map_more lines line;
@@ -329,21 +338,20 @@ cuts_block written count first sink next_sink lines line blocks b are is_last ap
 }
 
 -- the sink failed in a block
-pub ends_cut : {K : Type 0} (written : K → Option (List ℕ)) (count : K → Option ℕ) (faults : K → ℕ) (settled : K → Bool) (first sink next_sink : K)
-    (left before now : Option (List ℕ)) (source_faults faults_before faults_now allowance less : ℕ) (pending behind : List ℕ) (had ended : Bool) (progress : Progress) (outcome : Outcome)
-    → Runs written count faults first sink left before source_faults faults_before pending had progress
-    → TookLine before now allowance less pending behind ended (Some outcome) → HasBlock outcome → faults_now ≡ faults_before
-    → length behind ≤ most_pending → Puts written count faults true sink false next_sink (separator progress.is_first ++ text_of outcome)
-    → EndsBatch written count faults settled first next_sink left now source_faults faults_now status.SinkFault
-ends_cut written count faults settled first sink next_sink left before now source_faults faults_before faults_now allowance less pending behind had ended progress outcome r t block same short puts =
+pub ends_cut : {first sink next_sink : SinkSeen} {source before now : SourceSeen} (Untouched : Type 0) {pending behind : List ℕ} {had ended : Bool}
+    {progress : Progress} (outcome : Outcome) → Runs first sink source before pending had progress
+    → TookLine before now pending behind ended (Some outcome) → HasBlock outcome → now.faults ≡ before.faults
+    → length behind ≤ most_pending → Puts true sink false next_sink (separator progress.is_first ++ text_of outcome)
+    → EndsBatch first next_sink source now Untouched status.SinkFault
+ends_cut {first = first} {sink = sink} {next_sink = next_sink} {source = source} {before = before} {now = now} Untouched {pending = pending} {behind = behind} {had = had} {ended = ended} outcome r t block same short puts =
     let has = comes_block (batch_line t.text) outcome t.is block in
     let b : Block = (text_of outcome, has.ending) in
-    let read = read_more left before now t.taken pending t.text behind r.lines had ended r.read t.took t.no_feed t.ends in
+    let read = read_more source.left before.left now.left t.taken pending t.text behind r.lines had ended r.read t.took t.no_feed t.ends in
     let lines = r.lines ++ t.text ∷ [] in
     let blocks = r.blocks ++ b ∷ [] in
-    let front = read_cut left now now [] behind (r.spelled ++ (t.text ++ 10 ∷ [])) lines ended read (spelled_more r.spelled r.lines t.text r.is_spelled t.no_feed)
-    (whole_more r.spelled t.text) (took_nothing now) in
-    let cut = subst (λ x. AppendsPrefix written count sink next_sink (separator x ++ text_of outcome)) r.is_first (puts.cut refl refl) in
+    let front = read_cut source.left now.left now.left [] behind (r.spelled ++ (t.text ++ 10 ∷ [])) lines ended read (spelled_more r.spelled r.lines t.text r.is_spelled t.no_feed)
+    (whole_more r.spelled t.text) (took_nothing now.left) in
+    let cut = subst (λ x. AppendsPrefix sink next_sink (separator x ++ text_of outcome)) r.is_first (puts.cut refl refl) in
     record {
       leaves = record {
         front = front.front;
@@ -351,39 +359,30 @@ ends_cut written count faults settled first sink next_sink left before now sourc
         text = batch_text blocks;
         ending = batch_ending blocks;
         outcome = runs_input front.front lines blocks (blocks_more r.lines t.text r.blocks (b ∷ []) r.are_blocks has.are) front.are;
-        appended = subst (AppendsPrefix written count first next_sink) (sym (text_more r.blocks b)) (AppendsPrefix-then r.appended cut);
+        appended = subst (AppendsPrefix first next_sink) (sym (text_more r.blocks b)) (AppendsPrefix-then r.appended cut);
       };
-      sink_fault = λ e. puts.rose refl refl ∙ ap counted_up r.still;
-      no_fault = λ n. absurd (n refl);
-      later = let l = puts.later in let s = r.still in omega (arith, l, s);
-      source_fault = λ e. let clash : status.SinkFault ≡ status.SourceFault = e in cc;
-      no_source_fault = λ n m. absurd (m refl);
-      source_later = let s = same ∙ r.source_still in omega (arith, s);
-      all_read = no_end;
+      faults = sink_failed (puts.rose refl refl ∙ ap counted_up r.still)
+          (let l = puts.later in let s = r.still in omega (arith, l, s)) (let s = same ∙ r.source_still in omega (arith, s));
+      all_read = no_end is_cut;
       cut = λ e. record {
         front = front.front;
         piece = behind ++ [];
         took = front.took;
         is_ended = front.is_ended;
         puts = inl (
-          subst (λ ls. CutsBlock written count first next_sink (map batch_line ls)) (sym front.are)
-              (cuts_block written count first sink next_sink r.lines t.text r.blocks b r.are_blocks has.are r.appended cut),
+          subst (λ ls. CutsBlock first next_sink (map batch_line ls)) (sym front.are)
+              (cuts_block first sink next_sink r.lines t.text r.blocks b r.are_blocks has.are r.appended cut),
           subst (λ xs. length xs ≤ most_pending) (sym (append-nil behind)) short,
         );
       };
     }
-  where
-    no_end : IsThrough status.SinkFault → IfSome now (λ rest. rest ≡ [])
-    no_end (inl e) = cc
-    no_end (inr e) = cc
 
 -- memory was refused after these lines
-pub ends_full : {K : Type 0} (written : K → Option (List ℕ)) (count : K → Option ℕ) (faults : K → ℕ) (settled : K → Bool) (first sink : K)
-    (left before now : Option (List ℕ)) (source_faults faults_before faults_now : ℕ) (pending : List ℕ) (had : Bool) (progress : Progress)
-    → Runs written count faults first sink left before source_faults faults_before pending had progress → faults_now ≡ faults_before
-    → (taken : List ℕ) × Took before now taken → EndsBatch written count faults settled first sink left now source_faults faults_now status.NoMemory
-ends_full written count faults settled first sink left before now source_faults faults_before faults_now pending had progress r same t =
-    let front = read_cut left before now t.0 pending r.spelled r.lines had r.read r.is_spelled r.is_whole t.1 in
+pub ends_full : {first sink : SinkSeen} {source before now : SourceSeen} (Untouched : Type 0) {pending : List ℕ} {had : Bool} {progress : Progress}
+    → Runs first sink source before pending had progress → now.faults ≡ before.faults
+    → (taken : List ℕ) × Took before.left now.left taken → EndsBatch first sink source now Untouched status.NoMemory
+ends_full {source = source} {before = before} {now = now} Untouched {pending = pending} {had = had} r same t =
+    let front = read_cut source.left before.left now.left t.0 pending r.spelled r.lines had r.read r.is_spelled r.is_whole t.1 in
     record {
       leaves = inr (
         tt,
@@ -399,82 +398,59 @@ ends_full written count faults settled first sink left before now source_faults 
           appended = r.appended;
         },
       );
-      sink_fault = λ e. let clash : status.NoMemory ≡ status.SinkFault = e in cc;
-      no_fault = λ n. r.still;
-      later = let s = r.still in omega (arith, s);
-      source_fault = λ e. let clash : status.NoMemory ≡ status.SourceFault = e in cc;
-      no_source_fault = λ n m. same ∙ r.source_still;
-      source_later = let s = same ∙ r.source_still in omega (arith, s);
-      all_read = no_end;
-      cut = λ e. let clash : status.NoMemory ≡ status.SinkFault = e in cc;
+      faults = no_faults is_full r.still (same ∙ r.source_still);
+      all_read = no_end is_full_not_through;
+      cut = λ e. absurd (is_full.0 e);
     }
-  where
-    no_end : IsThrough status.NoMemory → IfSome now (λ rest. rest ≡ [])
-    no_end (inl e) = cc
-    no_end (inr e) = cc
 
 no_front : (front rest : List ℕ) → front ++ rest ≡ [] → front ≡ []
 no_front [] rest h = refl
 no_front (b ∷ front) rest h = cc
 
 -- a prefix of nothing was appended
-put_nothing : {K : Type 0} (written : K → Option (List ℕ)) (count : K → Option ℕ) (first sink next_sink : K) (text : List ℕ)
-    → Appends written count first sink text → AppendsPrefix written count sink next_sink [] → Appends written count first next_sink text
-put_nothing written count first sink next_sink text appended cut =
-    subst (Appends written count first next_sink)
+put_nothing : (first sink next_sink : SinkSeen) (text : List ℕ)
+    → Appends first sink text → AppendsPrefix sink next_sink [] → Appends first next_sink text
+put_nothing first sink next_sink text appended cut =
+    subst (Appends first next_sink)
     (ap (λ xs. text ++ xs) (no_front cut.front cut.is_prefix.rest cut.is_prefix.joined) ∙ append-nil text) (Appends-then appended cut.appends)
 
 -- the text of the lines so far was put, and then the finish failed
-finish_cut : {K : Type 0} (written : K → Option (List ℕ)) (count : K → Option ℕ) (faults : K → ℕ) (settled : K → Bool) (first sink next_sink : K)
-    (left now : Option (List ℕ)) (source_faults faults_now : ℕ) (lines : List (List ℕ)) (piece : List ℕ) (blocks : List Block)
-    → AreBlocks batch_entries (map batch_line lines) blocks → Appends written count first sink (batch_text blocks) → faults sink ≡ faults first
-    → Puts written count faults true sink false next_sink [] → Cut left now lines piece → HasNoFeed piece → source_faults ≤ faults_now
-    → EndsBatch written count faults settled first next_sink left now source_faults faults_now status.SinkFault
-finish_cut written count faults settled first sink next_sink left now source_faults faults_now lines piece blocks are appended still puts front no_feed later = record {
+finish_cut : {first sink next_sink : SinkSeen} {source now : SourceSeen} (Untouched : Type 0) {lines : List (List ℕ)} {piece : List ℕ} (blocks : List Block)
+    → AreBlocks batch_entries (map batch_line lines) blocks → Appends first sink (batch_text blocks) → sink.faults ≡ first.faults
+    → Puts true sink false next_sink [] → Cut source.left now.left lines piece → HasNoFeed piece → source.faults ≤ now.faults
+    → EndsBatch first next_sink source now Untouched status.SinkFault
+finish_cut {first = first} {sink = sink} {next_sink = next_sink} Untouched {lines = lines} {piece = piece} blocks are appended still puts front no_feed later = record {
   leaves = record {
     front = front.front;
     is_front = front.is_front;
     text = batch_text blocks;
     ending = batch_ending blocks;
     outcome = runs_input front.front lines blocks are front.are;
-    appended = subst (AppendsPrefix written count first next_sink) (append-nil (batch_text blocks)) (AppendsPrefix-then appended (puts.cut refl refl));
+    appended = subst (AppendsPrefix first next_sink) (append-nil (batch_text blocks)) (AppendsPrefix-then appended (puts.cut refl refl));
   };
-  sink_fault = λ e. puts.rose refl refl ∙ ap counted_up still;
-  no_fault = λ n. absurd (n refl);
-  later = let l = puts.later in let s = still in omega (arith, l, s);
-  source_fault = λ e. let clash : status.SinkFault ≡ status.SourceFault = e in cc;
-  no_source_fault = λ n m. absurd (m refl);
-  source_later = later;
-  all_read = no_end;
+  faults = sink_failed (puts.rose refl refl ∙ ap counted_up still) (let l = puts.later in let s = still in omega (arith, l, s)) later;
+  all_read = no_end is_cut;
   cut = λ e. record {
     front = front.front;
     piece = piece;
     took = front.took;
     is_ended = front.is_ended;
     puts = inr (
-      subst (λ ls. PutsBlocks written count first next_sink (map batch_line ls)) (sym front.are)
-          (record { blocks = blocks; are_blocks = are; appended = put_nothing written count first sink next_sink (batch_text blocks) appended (puts.cut refl refl) }),
+      subst (λ ls. PutsBlocks first next_sink (map batch_line ls)) (sym front.are)
+          (record { blocks = blocks; are_blocks = are; appended = put_nothing first sink next_sink (batch_text blocks) appended (puts.cut refl refl) }),
       no_feed,
     );
   };
 }
-  where
-    no_end : IsThrough status.SinkFault → IfSome now (λ rest. rest ≡ [])
-    no_end (inl e) = cc
-    no_end (inr e) = cc
 
-finished_text : {K : Type 0} (written : K → Option (List ℕ)) (count : K → Option ℕ) (faults : K → ℕ) (first sink next_sink : K) (text : List ℕ)
-    → Appends written count first sink text → Puts written count faults true sink true next_sink [] → Appends written count first next_sink text
-finished_text written count faults first sink next_sink text appended puts =
-    subst (Appends written count first next_sink) (append-nil text) (Appends-then appended (puts.whole refl))
+finished_text : (first sink next_sink : SinkSeen) (text : List ℕ) → Appends first sink text → Puts true sink true next_sink [] → Appends first next_sink text
+finished_text first sink next_sink text appended puts =
+    subst (Appends first next_sink) (append-nil text) (Appends-then appended (puts.whole refl))
 
 -- what was put was handed on
-pub runs_handed : {K : Type 0} (written : K → Option (List ℕ)) (count : K → Option ℕ) (faults : K → ℕ) (first sink next_sink : K)
-    (left now : Option (List ℕ)) (source_faults faults_now : ℕ) (pending : List ℕ) (had : Bool) (progress : Progress)
-    → Runs written count faults first sink left now source_faults faults_now pending had progress
-    → Puts written count faults true sink true next_sink []
-    → Runs written count faults first next_sink left now source_faults faults_now pending had progress
-runs_handed written count faults first sink next_sink left now source_faults faults_now pending had progress r puts = record {
+pub runs_handed : {first sink next_sink : SinkSeen} {source now : SourceSeen} {pending : List ℕ} {had : Bool} {progress : Progress}
+    → Runs first sink source now pending had progress → Puts true sink true next_sink [] → Runs first next_sink source now pending had progress
+runs_handed {first = first} {sink = sink} {next_sink = next_sink} r puts = record {
   lines = r.lines;
   spelled = r.spelled;
   is_spelled = r.is_spelled;
@@ -484,20 +460,18 @@ runs_handed written count faults first sink next_sink left now source_faults fau
   are_blocks = r.are_blocks;
   is_first = r.is_first;
   is_done = r.is_done;
-  appended = finished_text written count faults first sink next_sink (batch_text r.blocks) r.appended puts;
+  appended = finished_text first sink next_sink (batch_text r.blocks) r.appended puts;
   still = puts.still refl ∙ r.still;
   source_still = r.source_still;
 }
 
 -- what was put could not be handed on, where no further line was there whole
-pub ends_held : {K : Type 0} (written : K → Option (List ℕ)) (count : K → Option ℕ) (faults : K → ℕ) (settled : K → Bool) (first sink next_sink : K)
-    (left now : Option (List ℕ)) (source_faults faults_now : ℕ) (pending : List ℕ) (had : Bool) (progress : Progress)
-    → Runs written count faults first sink left now source_faults faults_now pending had progress
-    → HasNoFeed pending → Puts written count faults true sink false next_sink []
-    → EndsBatch written count faults settled first next_sink left now source_faults faults_now status.SinkFault
-ends_held written count faults settled first sink next_sink left now source_faults faults_now pending had progress r none puts =
-    finish_cut written count faults settled first sink next_sink left now source_faults faults_now r.lines (pending ++ []) r.blocks r.are_blocks r.appended r.still puts
-    (read_cut left now now [] pending r.spelled r.lines had r.read r.is_spelled r.is_whole (took_nothing now))
+pub ends_held : {first sink next_sink : SinkSeen} {source now : SourceSeen} (Untouched : Type 0) {pending : List ℕ} {had : Bool} {progress : Progress}
+    → Runs first sink source now pending had progress → HasNoFeed pending → Puts true sink false next_sink []
+    → EndsBatch first next_sink source now Untouched status.SinkFault
+ends_held {source = source} {now = now} Untouched {pending = pending} {had = had} r none puts =
+    finish_cut Untouched r.blocks r.are_blocks r.appended r.still puts
+    (read_cut source.left now.left now.left [] pending r.spelled r.lines had r.read r.is_spelled r.is_whole (took_nothing now.left))
     (subst HasNoFeed (sym (append-nil pending)) none) (let s = r.source_still in omega (arith, s))
 
 -- the status of the end goes with the ending of the batch
@@ -508,80 +482,47 @@ end_same progress blocks same = ap (λ x. cond x status.Done status.SomeRefused)
     by true = refl
     by false = refl
 
-ending_is : (blocks : List Block) → (batch_ending blocks ≡ done) ⊎ (batch_ending blocks ≡ some_refused)
-ending_is blocks = either (are_done blocks)
-  where
-    either : (x : Bool) → (cond x done some_refused ≡ done) ⊎ (cond x done some_refused ≡ some_refused)
-    either true = inl refl
-    either false = inr refl
-
-not_faults : (ending : Ending) → (status_of ending ≡ status.SinkFault → ⊥) × (status_of ending ≡ status.SourceFault → ⊥)
-not_faults done = ((λ e. cc), (λ e. cc))
-not_faults some_refused = ((λ e. cc), (λ e. cc))
-not_faults syntax = ((λ e. cc), (λ e. cc))
-not_faults range = ((λ e. cc), (λ e. cc))
-not_faults past = ((λ e. cc), (λ e. cc))
-
 -- the end of the source was read, and the sink was finished
-pub ends_last : {K : Type 0} (written : K → Option (List ℕ)) (count : K → Option ℕ) (faults : K → ℕ) (settled : K → Bool) (first sink next_sink : K)
-    (left before now : Option (List ℕ)) (source_faults faults_before faults_now : ℕ) (pending behind : List ℕ) (had : Bool) (progress : Progress) (answer result : Status)
-    → Runs written count faults first sink left before source_faults faults_before pending had progress
-    → TookEnd before now pending behind → faults_now ≡ faults_before → answer ≡ end_status progress
-    → Finishes written count faults settled sink next_sink answer result
-    → EndsBatch written count faults settled first next_sink left now source_faults faults_now result
-ends_last {K = K} written count faults settled first sink next_sink left before now source_faults faults_before faults_now pending behind had progress answer result r t same is f =
+pub ends_last : {first sink next_sink : SinkSeen} {source before now : SourceSeen} (Untouched : Type 0) {pending behind : List ℕ} {had : Bool}
+    {progress : Progress} {answer result : Status} → Runs first sink source before pending had progress
+    → TookEnd before now pending behind → now.faults ≡ before.faults → answer ≡ end_status progress
+    → Finishes sink next_sink answer result → EndsBatch first next_sink source now Untouched result
+ends_last {first = first} {sink = sink} {next_sink = next_sink} {source = source} {before = before} {now = now} Untouched {pending = pending} {behind = behind} {had = had} {progress = progress} {answer = answer} {result = result} r t same is f =
     by f.well f.puts f.settles f.is
   where
-    through : (ending : Ending) → (ending ≡ done) ⊎ (ending ≡ some_refused)
-        → Leaves written count settled first next_sink left now (Unit {0}) (RunsInput batch_entries) (status_of ending) → faults next_sink ≡ faults first
-        → EndsBatch written count faults settled first next_sink left now source_faults faults_now (status_of ending)
-    through ending either leaves still = record {
-      leaves = leaves;
-      sink_fault = λ e. absurd ((not_faults ending).0 e);
-      no_fault = λ n. still;
-      later = omega (arith, still);
-      source_fault = λ e. absurd ((not_faults ending).1 e);
-      no_source_fault = λ n m. same ∙ r.source_still;
-      source_later = let s = same ∙ r.source_still in omega (arith, s);
-      all_read = λ e. t.ends.none_left;
-      cut = λ e. absurd ((not_faults ending).0 e);
-    }
-
-    by : (well : Bool) → Puts written count faults true sink well next_sink [] → (well ≡ true → settled next_sink ≡ true)
-        → result ≡ cond well answer status.SinkFault → EndsBatch written count faults settled first next_sink left now source_faults faults_now result
+    by : (well : Bool) → Puts true sink well next_sink [] → (well ≡ true → next_sink.settled ≡ true)
+        → result ≡ cond well answer status.SinkFault → EndsBatch first next_sink source now Untouched result
     by true puts settles same_status =
-        let whole = read_whole left before now t.taken pending behind r.spelled r.lines had r.read r.is_spelled t.took t.ends in
-        let ended = same_status ∙ is ∙ end_same progress r.blocks r.is_done in
-        subst (EndsBatch written count faults settled first next_sink left now source_faults faults_now) (sym ended)
-        (through (batch_ending r.blocks) (ending_is r.blocks)
-        (leaves_ending written count settled first next_sink left now (Unit {0}) (RunsInput batch_entries) whole.input (batch_text r.blocks) (batch_ending r.blocks)
-        whole.is_input (runs_input whole.input r.lines r.blocks r.are_blocks whole.are) (λ e. tt)
-        (finished_text written count faults first sink next_sink (batch_text r.blocks) r.appended puts) (settles refl))
-        (puts.still refl ∙ r.still))
+        let whole = read_whole source.left before.left now.left t.taken pending behind r.spelled r.lines had r.read r.is_spelled t.took t.ends in
+        let ending = batch_ending r.blocks in
+        subst (EndsBatch first next_sink source now Untouched) (sym (same_status ∙ is ∙ end_same progress r.blocks r.is_done))
+        (record {
+          leaves = leaves_ending first next_sink source now Untouched (Unit {0}) (RunsInput batch_entries) whole.input (batch_text r.blocks) ending
+              whole.is_input (runs_input whole.input r.lines r.blocks r.are_blocks whole.are) (λ e. tt)
+              (finished_text first sink next_sink (batch_text r.blocks) r.appended puts) (settles refl);
+          faults = no_faults (ends_well ending) (puts.still refl ∙ r.still) (same ∙ r.source_still);
+          all_read = λ e. t.ends.none_left;
+          cut = λ e. absurd ((ends_well ending).0 e);
+        })
     by false puts settles same_status =
-        subst (EndsBatch written count faults settled first next_sink left now source_faults faults_now) (sym same_status)
-        (finish_cut written count faults settled first sink next_sink left now source_faults faults_now r.lines (pending ++ t.taken) r.blocks r.are_blocks r.appended r.still puts
-        (read_cut left before now t.taken pending r.spelled r.lines had r.read r.is_spelled r.is_whole t.took) (subst HasNoFeed (sym t.ends.whole) tt) (let s = same ∙ r.source_still in omega (arith, s)))
+        subst (EndsBatch first next_sink source now Untouched) (sym same_status)
+        (finish_cut Untouched r.blocks r.are_blocks r.appended r.still puts
+        (read_cut source.left before.left now.left t.taken pending r.spelled r.lines had r.read r.is_spelled r.is_whole t.took)
+        (subst HasNoFeed (sym t.ends.whole) tt) (let s = same ∙ r.source_still in omega (arith, s)))
 
 -- the source failed, and the sink was finished
-pub ends_source : {K : Type 0} (written : K → Option (List ℕ)) (count : K → Option ℕ) (faults : K → ℕ) (settled : K → Bool) (first sink next_sink : K)
-    (left before now : Option (List ℕ)) (source_faults faults_before faults_now : ℕ) (pending : List ℕ) (progress : Progress) (result : Status)
-    → Runs written count faults first sink left before source_faults faults_before pending false progress
-    → TookPart before now pending → Rose faults_before faults_now → faults_before ≤ faults_now
-    → Finishes written count faults settled sink next_sink status.SourceFault result
-    → EndsBatch written count faults settled first next_sink left now source_faults faults_now result
-ends_source written count faults settled first sink next_sink left before now source_faults faults_before faults_now pending progress result r t rose later f =
+pub ends_source : {first sink next_sink : SinkSeen} {source before now : SourceSeen} (Untouched : Type 0) {pending : List ℕ} {progress : Progress}
+    {result : Status} → Runs first sink source before pending false progress
+    → TookPart before.left now.left pending → Rose before.faults now.faults → before.faults ≤ now.faults
+    → Finishes sink next_sink status.SourceFault result → EndsBatch first next_sink source now Untouched result
+ends_source {first = first} {sink = sink} {next_sink = next_sink} {source = source} {before = before} {now = now} Untouched {pending = pending} {result = result} r t rose later f =
     by f.well f.puts f.settles f.is
   where
-    no_end : IsThrough status.SourceFault → IfSome now (λ rest. rest ≡ [])
-    no_end (inl e) = cc
-    no_end (inr e) = cc
-
-    by : (well : Bool) → Puts written count faults true sink well next_sink [] → (well ≡ true → settled next_sink ≡ true)
-        → result ≡ cond well status.SourceFault status.SinkFault → EndsBatch written count faults settled first next_sink left now source_faults faults_now result
+    by : (well : Bool) → Puts true sink well next_sink [] → (well ≡ true → next_sink.settled ≡ true)
+        → result ≡ cond well status.SourceFault status.SinkFault → EndsBatch first next_sink source now Untouched result
     by true puts settles same_status =
-        let part = read_part left before now pending r.spelled r.lines r.read r.is_spelled r.is_whole t in
-        subst (EndsBatch written count faults settled first next_sink left now source_faults faults_now) (sym same_status)
+        let part = read_part source.left before.left now.left pending r.spelled r.lines r.read r.is_spelled r.is_whole t in
+        subst (EndsBatch first next_sink source now Untouched) (sym same_status)
         (record {
           leaves = (
             tt,
@@ -595,20 +536,16 @@ ends_source written count faults settled first sink next_sink left before now so
               text = batch_text r.blocks;
               ending = batch_ending r.blocks;
               outcome = runs_input part.front r.lines r.blocks r.are_blocks part.are;
-              appended = finished_text written count faults first sink next_sink (batch_text r.blocks) r.appended puts;
+              appended = finished_text first sink next_sink (batch_text r.blocks) r.appended puts;
               is_settled = settles refl;
             },
           );
-          sink_fault = λ e. let clash : status.SourceFault ≡ status.SinkFault = e in cc;
-          no_fault = λ n. puts.still refl ∙ r.still;
-          later = let s = puts.still refl ∙ r.still in omega (arith, s);
-          source_fault = λ e. rose ∙ ap counted_up r.source_still;
-          no_source_fault = λ n m. absurd (n refl);
-          source_later = let s = r.source_still in omega (arith, s, later);
-          all_read = no_end;
+          faults = source_failed (puts.still refl ∙ r.still) (rose ∙ ap counted_up r.source_still) (let s = r.source_still in omega (arith, s, later));
+          all_read = no_end is_source_fault;
           cut = λ e. let clash : status.SourceFault ≡ status.SinkFault = e in cc;
         })
     by false puts settles same_status =
-        subst (EndsBatch written count faults settled first next_sink left now source_faults faults_now) (sym same_status)
-        (finish_cut written count faults settled first sink next_sink left now source_faults faults_now r.lines (pending ++ t.taken) r.blocks r.are_blocks r.appended r.still puts
-        (read_cut left before now t.taken pending r.spelled r.lines false r.read r.is_spelled r.is_whole t.took) t.no_feed (let s = r.source_still in omega (arith, s, later)))
+        subst (EndsBatch first next_sink source now Untouched) (sym same_status)
+        (finish_cut Untouched r.blocks r.are_blocks r.appended r.still puts
+        (read_cut source.left before.left now.left t.taken pending r.spelled r.lines false r.read r.is_spelled r.is_whole t.took)
+        t.no_feed (let s = r.source_still in omega (arith, s, later)))

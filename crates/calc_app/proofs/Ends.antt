@@ -1,76 +1,107 @@
 -- What the top call promises, where an outcome was put, and where lines were run.
-use Rattle.std.proofs.Common.{◌≡◌, ◌≢◌, ◌⊎◌, ℕ, List, [], ◌∷◌, ◌++◌, Bool, true, false, cond, map, Option, Some, refl, sym, ◌∙◌, ap, subst, inl, inr}
-use Rattle.std.specs.Prelude.{codes, Ok, IfSome}
+use Rattle.std.proofs.Common.{◌≡◌, ◌⊎◌, ℕ, List, [], ◌∷◌, ◌++◌, Bool, true, false, cond, map, Some, refl, sym, ◌∙◌, ap, subst, inl, inr, arith}
+use Rattle.std.specs.Prelude.{Ok}
 use Rattle.calc_base.specs.declared.status.Status.{Status}
 use Rattle.calc_base.specs.declared.status.Status.TheVariants as status
-use Rattle.calc_base.specs.declared.words.WordsFault.TheVariants as fault
-use Rattle.calc_base.specs.Fault.{Rose}
 use Rattle.calc_base.specs.Puts.{Puts}
 use Rattle.calc_base.proofs.PutsLaws.{Appends-told}
-use Rattle.calc_base.specs.Sink.{Appends}
+use Rattle.calc_base.specs.Sink.{SinkSeen, Appends}
+use Rattle.calc_base.specs.Source.{SourceSeen}
 use Rattle.calc_language.specs.BuiltCommands.{command_entries, batch_entries}
 use Rattle.sym_model.specs.BatchLine.{BatchLine, too_long, passed_over, spoken, batch_line, lines_of}
 use Rattle.sym_model.specs.BatchOutcome.{Block, AreBlocks, are_done, batch_ending, RunsInput}
 use Rattle.sym_model.specs.Command.{Command, batch}
 use Rattle.sym_model.specs.CommandOffence.{Offence}
 use Rattle.sym_model.specs.Ending.{Ending, done, some_refused, syntax, range, past}
-use Rattle.sym_model.specs.Outcome.{IsLineOutcome, ending_of}
-use Rattle.sym_model.specs.RefusalText.{refusal_line, offence_line}
+use Rattle.sym_model.specs.Entry.{SpellsWithoutOffence, HasFirstOffence}
+use Rattle.sym_model.specs.Outcome.{IsLineOutcome}
+use Rattle.sym_model.specs.SyntaxPlace.{IsSyntaxPlace}
 use Rattle.calc_replies.specs.declared.outcome.Outcome.{Outcome}
-use Rattle.calc_replies.specs.declared.outcome.Outcome.TheVariants.{Answered, Refused, Large, Told}
-use Rattle.calc_replies.specs.Computed.{Computes, Accepts, Refuses, GoesWrong, status_for, text_of}
-use Rattle.calc_app.specs.Top.{IsOutcome, IsInput, RunsLines, Leaves, PutsOutcome, SaysLine, SayLines, PrintsLines, IsThrough, IsAccepted, IsRefused}
-use Rattle.calc_app.proofs.Outcomes.{leaves_whole, leaves_prefix, answers_say, not_done, accepted, refuses_offence, refuses_place, was_cut_off}
+use Rattle.calc_replies.specs.declared.outcome.Task.{Task}
+use Rattle.calc_replies.specs.declared.outcome.Task.TheVariants.{Lines, Put}
+use Rattle.calc_replies.specs.Computed.{IsTaskFor, AcceptsTask, RefusesTask, TaskGoesWrong, status_for, text_of}
+use Rattle.calc_app.specs.Top.{IsOutcome, RunsLines, Leaves, PutsWhole, PutsOutcome, PrintsAnswerTo, SaysLine, SayLines, PrintsLines, CutsLines, HidesNoFault, IsEmptied, IsThrough, IsAccepted, AnswersWords}
+use Rattle.calc_app.specs.Batch.{EndsBatch}
+use Rattle.calc_app.proofs.Faults.{no_faults, sink_failed, ends_well}
+use Rattle.calc_app.proofs.Outcomes.{has_outcome, headline, leaves_whole, leaves_prefix, answers_say, not_done, accepted, refuses_offence, refuses_place, cut_answers}
+
+-- what is known of the task for the words
+pub record HasTask (words : List (List ℕ)) (task : Task) : Type 0 where
+  pub computes : IsTaskFor words (Ok task)
+  pub accepts : (command : Command) → SpellsWithoutOffence command_entries words command → AcceptsTask command (Ok task)
+  pub refuses : (offence : Offence) → HasFirstOffence command_entries words (Some offence) → RefusesTask offence (Ok task)
+  pub goes_wrong : (word byte : ℕ) → IsSyntaxPlace command_entries words word byte → TaskGoesWrong word byte (Ok task)
+
+pub task_is : {words : List (List ℕ)} {found task : Task} → found ≡ task → IsTaskFor words (Ok found)
+    → ((command : Command) → SpellsWithoutOffence command_entries words command → AcceptsTask command (Ok found))
+    → ((offence : Offence) → HasFirstOffence command_entries words (Some offence) → RefusesTask offence (Ok found))
+    → ((word byte : ℕ) → IsSyntaxPlace command_entries words word byte → TaskGoesWrong word byte (Ok found)) → HasTask words task
+task_is {words = words} is computes accepts refuses goes_wrong =
+    subst (HasTask words) is (record { computes = computes; accepts = accepts; refuses = refuses; goes_wrong = goes_wrong })
+
+-- what the top call promises, but that the source is as it was
+pub record Ran (words : List (List ℕ)) (old new : SinkSeen) (source now : SourceSeen) (Untouched : Type 0) (result : Status) : Type 0 where
+  pub headline : result ≡ status.Done → (before : List ℕ) → old.written ≡ Some before → PrintsAnswerTo words before source.left new.written
+  pub lines : RunsLines words → IsThrough result → (before : List ℕ) → old.written ≡ Some before → PrintsLines before source.left new.written
+  pub cut : RunsLines words → result ≡ status.SinkFault → CutsLines old new source now
+  pub leaves : Leaves old new source now Untouched (RunsLines words) (IsOutcome words) result
+  pub answers : AnswersWords words (Appends old new) result
+  pub faults : HidesNoFault old new source now result
+  pub all_read : RunsLines words → IsThrough result → IsEmptied now.left
 
 -- ---- an outcome was put
 
-pub put_leaves : {K : Type 0} (written : K → Option (List ℕ)) (count : K → Option ℕ) (faults : K → ℕ) (settled : K → Bool) (old new : K)
-    (left now_left : Option (List ℕ)) (words : List (List ℕ)) (outcome : Outcome) (result : Status) → Computes command_entries words (Ok outcome)
-    → PutsOutcome written count faults settled old new outcome result
-    → Leaves written count settled old new left now_left (RunsLines words) (IsOutcome words) result
-put_leaves written count faults settled old new left now_left words outcome result computes p = by p.well p.puts p.settles p.is
+put_leaves : (words : List (List ℕ)) (old new : SinkSeen) (source : SourceSeen) (Untouched : Type 0) (outcome : Outcome) (result : Status)
+    → HasTask words (Put outcome) → PutsOutcome old new outcome result
+    → Leaves old new source source Untouched (RunsLines words) (IsOutcome words) result
+put_leaves words old new source Untouched outcome result task p = by p.well p.puts p.settles p.is
   where
-    by : (well : Bool) → Puts written count faults true old well new (text_of outcome) → (well ≡ true → settled new ≡ true)
+    by : (well : Bool) → Puts true old well new (text_of outcome) → (well ≡ true → new.settled ≡ true)
         → result ≡ cond well (status_for outcome) status.SinkFault
-        → Leaves written count settled old new left now_left (RunsLines words) (IsOutcome words) result
+        → Leaves old new source source Untouched (RunsLines words) (IsOutcome words) result
     by true puts settles is =
-        leaves_whole written count settled old new left now_left words outcome result computes p.printable is (puts.whole refl) (settles refl)
+        leaves_whole old new source source Untouched words outcome result task.computes p.printable is (puts.whole refl) (settles refl)
     by false puts settles is =
-        let P : Status → Type 0 = λ s. Leaves written count settled old new left now_left (RunsLines words) (IsOutcome words) s in
-        subst P (sym is) (leaves_prefix written count old new left words outcome computes p.printable (puts.cut refl refl))
+        subst (Leaves old new source source Untouched (RunsLines words) (IsOutcome words)) (sym is)
+        (leaves_prefix old new source words outcome task.computes p.printable (puts.cut refl refl))
 
-pub put_accepted : {K : Type 0} (written : K → Option (List ℕ)) (count : K → Option ℕ) (faults : K → ℕ) (settled : K → Bool) (old new : K)
-    (outcome : Outcome) (result : Status) (command : Command) → PutsOutcome written count faults settled old new outcome result
-    → Accepts command (Ok outcome) → IsAccepted command result
-put_accepted written count faults settled old new outcome result command p accepts = by p.well p.is
+put_answers : (words : List (List ℕ)) (old new : SinkSeen) (outcome : Outcome) (result : Status)
+    → HasTask words (Put outcome) → PutsOutcome old new outcome result → AnswersWords words (Appends old new) result
+put_answers words old new outcome result task p = by p.well p.puts p.is
   where
-    by : (well : Bool) → result ≡ cond well (status_for outcome) status.SinkFault → IsAccepted command result
-    by true is = subst (IsAccepted command) (sym is) (accepted command outcome accepts)
-    by false is = subst (IsAccepted command) (sym is) (inr (inr (inl (inr refl))))
+    by : (well : Bool) → Puts true old well new (text_of outcome) → result ≡ cond well (status_for outcome) status.SinkFault
+        → AnswersWords words (Appends old new) result
+    by true puts is = subst (AnswersWords words (Appends old new)) (sym is) (record {
+      accepted = λ command spelled. accepted command outcome (task.accepts command spelled).0;
+      offended = λ offence first. refuses_offence (Appends old new) offence outcome (task.refuses offence first) (puts.whole refl);
+      no_command = λ word byte place. refuses_place (Appends old new) word byte outcome (task.goes_wrong word byte place) (puts.whole refl);
+    })
+    by false puts is = cut_answers words (Appends old new) result (inr is)
 
-pub put_offended : {K : Type 0} (written : K → Option (List ℕ)) (count : K → Option ℕ) (faults : K → ℕ) (settled : K → Bool) (old new : K)
-    (outcome : Outcome) (result : Status) (offence : Offence) → PutsOutcome written count faults settled old new outcome result
-    → Refuses offence (Ok outcome) → IsRefused written count old new (ending_of offence.2) (offence_line offence) result
-put_offended written count faults settled old new outcome result offence p refuses = by p.well p.puts p.is
+put_faults : (words : List (List ℕ)) (old new : SinkSeen) (source : SourceSeen) (outcome : Outcome) (result : Status)
+    → HasTask words (Put outcome) → PutsOutcome old new outcome result → HidesNoFault old new source source result
+put_faults words old new source outcome result task p = by p.well p.puts p.is
   where
-    by : (well : Bool) → Puts written count faults true old well new (text_of outcome) → result ≡ cond well (status_for outcome) status.SinkFault
-        → IsRefused written count old new (ending_of offence.2) (offence_line offence) result
+    by : (well : Bool) → Puts true old well new (text_of outcome) → result ≡ cond well (status_for outcome) status.SinkFault
+        → HidesNoFault old new source source result
     by true puts is =
-        let P : Status → Type 0 = λ s. IsRefused written count old new (ending_of offence.2) (offence_line offence) s in
-        subst P (sym is) (refuses_offence written count old new offence outcome refuses (puts.whole refl))
-    by false puts is = was_cut_off written count old new (ending_of offence.2) (offence_line offence) result (inr is)
+        let has = has_outcome command_entries words outcome task.computes p.printable in
+        subst (HidesNoFault old new source source) (sym (is ∙ has.same)) (no_faults (ends_well has.ending) (puts.still refl) refl)
+    by false puts is = subst (HidesNoFault old new source source) (sym is) (sink_failed (puts.rose refl refl) puts.later (omega arith))
 
-pub put_misspelt : {K : Type 0} (written : K → Option (List ℕ)) (count : K → Option ℕ) (faults : K → ℕ) (settled : K → Bool) (old new : K)
-    (outcome : Outcome) (result : Status) (word byte : ℕ) → PutsOutcome written count faults settled old new outcome result
-    → GoesWrong word byte (Ok outcome) → IsRefused written count old new syntax (refusal_line (codes "Syntax") word byte) result
-put_misspelt written count faults settled old new outcome result word byte p wrong = by p.well p.puts p.is
-  where
-    by : (well : Bool) → Puts written count faults true old well new (text_of outcome) → result ≡ cond well (status_for outcome) status.SinkFault
-        → IsRefused written count old new syntax (refusal_line (codes "Syntax") word byte) result
-    by true puts is =
-        let P : Status → Type 0 = λ s. IsRefused written count old new syntax (refusal_line (codes "Syntax") word byte) s in
-        subst P (sym is) (refuses_place written count old new word byte outcome wrong (puts.whole refl))
-    by false puts is = was_cut_off written count old new syntax (refusal_line (codes "Syntax") word byte) result (inr is)
+pub put_ran : (words : List (List ℕ)) (old new : SinkSeen) (source : SourceSeen) (Untouched : Type 0) (outcome : Outcome) (result : Status)
+    → HasTask words (Put outcome) → PutsOutcome old new outcome result → Ran words old new source source Untouched result
+put_ran words old new source Untouched outcome result task p =
+    let leaves = put_leaves words old new source Untouched outcome result task p in
+    record {
+      headline = headline old new source source Untouched words result leaves;
+      lines = λ runs. absurd ((task.accepts batch runs).1 refl);
+      cut = λ runs. absurd ((task.accepts batch runs).1 refl);
+      leaves = leaves;
+      answers = put_answers words old new outcome result task p;
+      faults = put_faults words old new source outcome result task p;
+      all_read = λ runs. absurd ((task.accepts batch runs).1 refl);
+    }
 
 -- ---- lines were run
 
@@ -79,23 +110,34 @@ runs_outcome : (words : List (List ℕ)) (input text : List ℕ) (ending : Endin
     → IsOutcome words input text ending
 runs_outcome words input text ending spelled runs = inr (inr (batch, spelled, runs))
 
-pub lines_leave : {K : Type 0} (written : K → Option (List ℕ)) (count : K → Option ℕ) (settled : K → Bool) (old new : K)
-    (left now_left : Option (List ℕ)) (words : List (List ℕ)) (result : Status) → RunsLines words
-    → Leaves written count settled old new left now_left (Unit {0}) (RunsInput batch_entries) result
-    → Leaves written count settled old new left now_left (RunsLines words) (IsOutcome words) result
-lines_leave written count settled old new left now_left words status.Done runs l =
-    record { input = l.input; is_input = l.is_input; text = l.text; outcome = runs_outcome words l.input l.text done runs l.outcome; appended = l.appended; is_settled = l.is_settled }
-lines_leave written count settled old new left now_left words status.SomeRefused runs l =
-    (runs, record { input = l.1.input; is_input = l.1.is_input; text = l.1.text; outcome = runs_outcome words l.1.input l.1.text some_refused runs l.1.outcome; appended = l.1.appended; is_settled = l.1.is_settled })
-lines_leave written count settled old new left now_left words status.Syntax runs l =
-    record { input = l.input; is_input = l.is_input; text = l.text; outcome = runs_outcome words l.input l.text syntax runs l.outcome; appended = l.appended; is_settled = l.is_settled }
-lines_leave written count settled old new left now_left words status.Range runs l =
-    record { input = l.input; is_input = l.is_input; text = l.text; outcome = runs_outcome words l.input l.text range runs l.outcome; appended = l.appended; is_settled = l.is_settled }
-lines_leave written count settled old new left now_left words status.Past runs l =
-    record { input = l.input; is_input = l.is_input; text = l.text; outcome = runs_outcome words l.input l.text past runs l.outcome; appended = l.appended; is_settled = l.is_settled }
-lines_leave written count settled old new left now_left words status.SinkFault runs l =
-    record { front = l.front; is_front = l.is_front; text = l.text; ending = l.ending; outcome = runs_outcome words l.front l.text l.ending runs l.outcome; appended = l.appended }
-lines_leave written count settled old new left now_left words status.SourceFault runs l = (
+whole_leave : (words : List (List ℕ)) {old new : SinkSeen} {source : SourceSeen} (ending : Ending) → RunsLines words
+    → PutsWhole old new source (RunsInput batch_entries) ending → PutsWhole old new source (IsOutcome words) ending
+whole_leave words ending runs l = record {
+  input = l.input;
+  is_input = l.is_input;
+  text = l.text;
+  outcome = runs_outcome words l.input l.text ending runs l.outcome;
+  appended = l.appended;
+  is_settled = l.is_settled;
+}
+
+lines_leave : (words : List (List ℕ)) (old new : SinkSeen) (source now : SourceSeen) (Untouched : Type 0) (result : Status) → RunsLines words
+    → Leaves old new source now Untouched (Unit {0}) (RunsInput batch_entries) result
+    → Leaves old new source now Untouched (RunsLines words) (IsOutcome words) result
+lines_leave words old new source now Untouched status.Done runs l = whole_leave words done runs l
+lines_leave words old new source now Untouched status.SomeRefused runs l = (runs, whole_leave words some_refused runs l.1)
+lines_leave words old new source now Untouched status.Syntax runs l = whole_leave words syntax runs l
+lines_leave words old new source now Untouched status.Range runs l = whole_leave words range runs l
+lines_leave words old new source now Untouched status.Past runs l = whole_leave words past runs l
+lines_leave words old new source now Untouched status.SinkFault runs l = record {
+  front = l.front;
+  is_front = l.is_front;
+  text = l.text;
+  ending = l.ending;
+  outcome = runs_outcome words l.front l.text l.ending runs l.outcome;
+  appended = l.appended;
+}
+lines_leave words old new source now Untouched status.SourceFault runs l = (
   runs,
   record {
     front = l.1.front;
@@ -111,9 +153,21 @@ lines_leave written count settled old new left now_left words status.SourceFault
     is_settled = l.1.is_settled;
   },
 )
-lines_leave written count settled old new left now_left words status.NoMemory runs (inl same) = inl same
-lines_leave written count settled old new left now_left words status.NoMemory runs (inr l) =
-    inr (runs, record { front = l.1.front; piece = l.1.piece; took = l.1.took; is_ended = l.1.is_ended; is_front = l.1.is_front; text = l.1.text; ending = l.1.ending; outcome = runs_outcome words l.1.front l.1.text l.1.ending runs l.1.outcome; appended = l.1.appended })
+lines_leave words old new source now Untouched status.NoMemory runs (inl same) = inl same
+lines_leave words old new source now Untouched status.NoMemory runs (inr l) = inr (
+  runs,
+  record {
+    front = l.1.front;
+    piece = l.1.piece;
+    took = l.1.took;
+    is_ended = l.1.is_ended;
+    is_front = l.1.is_front;
+    text = l.1.text;
+    ending = l.1.ending;
+    outcome = runs_outcome words l.1.front l.1.text l.1.ending runs l.1.outcome;
+    appended = l.1.appended;
+  },
+)
 
 not_so : (blocks : List Block) (ending : Ending) → ending ≡ batch_ending blocks → (ending ≡ done) ⊎ (ending ≡ some_refused)
 not_so blocks ending is = by (are_done blocks) is
@@ -134,23 +188,16 @@ no_past : (past ≡ done) ⊎ (past ≡ some_refused) → ⊥
 no_past (inl e) = cc
 no_past (inr e) = cc
 
-lines_end : {K : Type 0} (written : K → Option (List ℕ)) (count : K → Option ℕ) (settled : K → Bool) (old new : K)
-    (left now_left : Option (List ℕ)) (result : Status)
-    → Leaves written count settled old new left now_left (Unit {0}) (RunsInput batch_entries) result → IsAccepted batch result
-lines_end written count settled old new left now_left status.Done l = inl refl
-lines_end written count settled old new left now_left status.SomeRefused l = inr (inr (inr (refl, inl refl)))
-lines_end written count settled old new left now_left status.Syntax l = absurd (no_syntax (not_so l.outcome.blocks syntax l.outcome.ends))
-lines_end written count settled old new left now_left status.Range l = absurd (no_range (not_so l.outcome.blocks range l.outcome.ends))
-lines_end written count settled old new left now_left status.Past l = absurd (no_past (not_so l.outcome.blocks past l.outcome.ends))
-lines_end written count settled old new left now_left status.SinkFault l = inr (inr (inl (inr refl)))
-lines_end written count settled old new left now_left status.SourceFault l = inr (inr (inr (refl, inr refl)))
-lines_end written count settled old new left now_left status.NoMemory l = inr (inr (inl (inl refl)))
-
-pub lines_accepted : {K : Type 0} (written : K → Option (List ℕ)) (count : K → Option ℕ) (settled : K → Bool) (old new : K)
-    (left now_left : Option (List ℕ)) (result : Status) (command : Command) → command ≡ batch
-    → Leaves written count settled old new left now_left (Unit {0}) (RunsInput batch_entries) result → IsAccepted command result
-lines_accepted written count settled old new left now_left result command is l =
-    subst (λ c. IsAccepted c result) (sym is) (lines_end written count settled old new left now_left result l)
+lines_end : (old new : SinkSeen) (source now : SourceSeen) (Untouched : Type 0) (result : Status)
+    → Leaves old new source now Untouched (Unit {0}) (RunsInput batch_entries) result → IsAccepted batch result
+lines_end old new source now Untouched status.Done l = inl refl
+lines_end old new source now Untouched status.SomeRefused l = inr (inr (inr (refl, inl refl)))
+lines_end old new source now Untouched status.Syntax l = absurd (no_syntax (not_so l.outcome.blocks syntax l.outcome.ends))
+lines_end old new source now Untouched status.Range l = absurd (no_range (not_so l.outcome.blocks range l.outcome.ends))
+lines_end old new source now Untouched status.Past l = absurd (no_past (not_so l.outcome.blocks past l.outcome.ends))
+lines_end old new source now Untouched status.SinkFault l = inr (inr (inl (inr refl)))
+lines_end old new source now Untouched status.SourceFault l = inr (inr (inr (refl, inr refl)))
+lines_end old new source now Untouched status.NoMemory l = inr (inr (inl (inl refl)))
 
 -- ---- what the blocks of lines say
 
@@ -169,27 +216,40 @@ say_lines (spoken words ∷ lines) [] are = tt
 say_lines (spoken words ∷ lines) (b ∷ blocks) are =
     ((λ is. line_says words b.0 (subst (IsLineOutcome batch_entries words b.0) is are.0)), say_lines lines blocks are.1)
 
-whole_prints : {K : Type 0} (written : K → Option (List ℕ)) (count : K → Option ℕ) (old new : K) (left : Option (List ℕ)) (input text before : List ℕ)
-    (ending : Ending) → IsInput left input → RunsInput batch_entries input text ending → Appends written count old new text
-    → written old ≡ Some before → PrintsLines before left (written new)
-whole_prints written count old new left input text before ending is_input runs appended told = record {
-  input = input;
-  is_input = is_input;
-  blocks = runs.blocks;
-  appended = Appends-told before appended told ∙ ap (λ t. Some (before ++ t)) runs.joined;
-  are_blocks = runs.are_blocks;
-  say = say_lines (map batch_line (lines_of input)) runs.blocks runs.are_blocks;
+whole_prints : {old new : SinkSeen} {source : SourceSeen} (ending : Ending) (before : List ℕ) → PutsWhole old new source (RunsInput batch_entries) ending
+    → old.written ≡ Some before → PrintsLines before source.left new.written
+whole_prints ending before l told = record {
+  input = l.input;
+  is_input = l.is_input;
+  blocks = l.outcome.blocks;
+  appended = Appends-told before l.appended told ∙ ap (λ t. Some (before ++ t)) l.outcome.joined;
+  are_blocks = l.outcome.are_blocks;
+  say = say_lines (map batch_line (lines_of l.input)) l.outcome.blocks l.outcome.are_blocks;
 }
 
-pub lines_print : {K : Type 0} (written : K → Option (List ℕ)) (count : K → Option ℕ) (settled : K → Bool) (old new : K)
-    (left now_left : Option (List ℕ)) (result : Status)
-    → Leaves written count settled old new left now_left (Unit {0}) (RunsInput batch_entries) result
-    → IsThrough result → (before : List ℕ) → written old ≡ Some before → PrintsLines before left (written new)
-lines_print written count settled old new left now_left result leaves (inl is) before told =
-    let P : Status → Type 0 = λ s. Leaves written count settled old new left now_left (Unit {0}) (RunsInput batch_entries) s in
-    let l = subst P is leaves in
-    whole_prints written count old new left l.input l.text before done l.is_input l.outcome l.appended told
-lines_print written count settled old new left now_left result leaves (inr is) before told =
-    let P : Status → Type 0 = λ s. Leaves written count settled old new left now_left (Unit {0}) (RunsInput batch_entries) s in
-    let l = (subst P is leaves).1 in
-    whole_prints written count old new left l.input l.text before some_refused l.is_input l.outcome l.appended told
+lines_print : (old new : SinkSeen) (source now : SourceSeen) (Untouched : Type 0) (result : Status)
+    → Leaves old new source now Untouched (Unit {0}) (RunsInput batch_entries) result
+    → IsThrough result → (before : List ℕ) → old.written ≡ Some before → PrintsLines before source.left new.written
+lines_print old new source now Untouched result leaves (inl is) before told =
+    whole_prints done before (subst (Leaves old new source now Untouched (Unit {0}) (RunsInput batch_entries)) is leaves) told
+lines_print old new source now Untouched result leaves (inr is) before told =
+    whole_prints some_refused before (subst (Leaves old new source now Untouched (Unit {0}) (RunsInput batch_entries)) is leaves).1 told
+
+pub lines_ran : (words : List (List ℕ)) (old new : SinkSeen) (source now : SourceSeen) (Untouched : Type 0) (result : Status)
+    → HasTask words Lines → EndsBatch old new source now Untouched result → Ran words old new source now Untouched result
+lines_ran words old new source now Untouched result task e =
+    let leaves = lines_leave words old new source now Untouched result task.computes e.leaves in
+    record {
+      headline = headline old new source now Untouched words result leaves;
+      lines = λ runs. lines_print old new source now Untouched result e.leaves;
+      cut = λ runs. e.cut;
+      leaves = leaves;
+      answers = record {
+        accepted = λ command spelled.
+            subst (λ c. IsAccepted c result) (sym (task.accepts command spelled)) (lines_end old new source now Untouched result e.leaves);
+        offended = λ offence first. absurd (task.refuses offence first);
+        no_command = λ word byte place. absurd (task.goes_wrong word byte place);
+      };
+      faults = e.faults;
+      all_read = λ runs. e.all_read;
+    }

@@ -1,5 +1,6 @@
 -- Lemmas of the crate.
 pub mod CommandKinds
+pub mod Faults
 pub mod Outcomes
 pub mod LinesAlone
 pub mod LinesRead

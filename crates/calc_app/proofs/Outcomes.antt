@@ -1,12 +1,13 @@
 -- What is put for what was computed is what is defined for the words.
-use Rattle.std.proofs.Common.{◌≡◌, ℕ, List, ◌++◌, Bool, true, Option, Some, refl, sym, ◌∙◌, ap, subst, inl, inr, ◌⊎◌}
+use Rattle.std.proofs.Common.{◌≡◌, ℕ, List, ◌++◌, true, Option, Some, refl, sym, ◌∙◌, ap, subst, inl, inr, ◌⊎◌}
 use Rattle.std.specs.Prelude.{codes, None, Ok, []}
 use Rattle.calc_base.specs.declared.status.Status.{Status}
 use Rattle.calc_base.specs.declared.status.Status.TheVariants as status
 use Rattle.calc_base.specs.declared.words.WordsFault.{WordsFault}
 use Rattle.calc_base.specs.declared.words.WordsFault.TheVariants as fault
 use Rattle.calc_base.proofs.PutsLaws.{Appends-told}
-use Rattle.calc_base.specs.Sink.{Appends, AppendsPrefix}
+use Rattle.calc_base.specs.Sink.{SinkSeen, Appends, AppendsPrefix}
+use Rattle.calc_base.specs.Source.{SourceSeen}
 use Rattle.calc_language.specs.BuiltCommands.{command_entries, batch_entries}
 use Rattle.calc_language.specs.Reading.{IsFaultOf}
 use Rattle.expansion_printer.specs.declared.answer.Answer.{Answer}
@@ -32,7 +33,7 @@ use Rattle.sym_model.specs.Target.{Meets}
 use Rattle.calc_replies.specs.declared.outcome.Outcome.{Outcome}
 use Rattle.calc_replies.specs.declared.outcome.Outcome.TheVariants.{Answered, Refused, Large, Told}
 use Rattle.calc_replies.specs.Computed.{Computes, AreRefused, Accepts, Refuses, GoesWrong, Tells, lines_text, text_of, HasBlock, refusal_status, status_for}
-use Rattle.calc_app.specs.Top.{IsOutcome, IsInput, IsFrontOf, RunsLines, Says, SaysOver, status_of, PutsPrefix, Leaves, PrintsAnswerTo, WasCutOff, IsAccepted, IsRefused}
+use Rattle.calc_app.specs.Top.{IsOutcome, IsInput, IsFrontOf, RunsLines, Says, SaysOver, status_of, PutsPrefix, Leaves, PrintsAnswerTo, WasCutOff, IsAccepted, IsRefused, AnswersWords}
 
 -- ---- what comes of a command
 
@@ -155,22 +156,20 @@ no_some_refused Large is = cc
 no_some_refused (Told lines) is = cc
 
 -- where the text was put whole
-pub leaves_ending : {S : Type 0} (written : S → Option (List ℕ)) (count : S → Option ℕ) (settled : S → Bool) (old new : S)
-    (left now_left : Option (List ℕ)) (Runs : Type 0) (Defined : List ℕ → List ℕ → Ending → Type 0) (input text : List ℕ) (ending : Ending)
-    → IsInput left input → Defined input text ending → (status_of ending ≡ status.SomeRefused → Runs)
-    → Appends written count old new text → settled new ≡ true
-    → Leaves written count settled old new left now_left Runs Defined (status_of ending)
-leaves_ending written count settled old new left now_left Runs Defined input text done is_input outcome runs appended is_settled =
+pub leaves_ending : (old new : SinkSeen) (source now : SourceSeen) (Untouched Runs : Type 0) (Defined : List ℕ → List ℕ → Ending → Type 0)
+    (input text : List ℕ) (ending : Ending) → IsInput source.left input → Defined input text ending → (status_of ending ≡ status.SomeRefused → Runs)
+    → Appends old new text → new.settled ≡ true → Leaves old new source now Untouched Runs Defined (status_of ending)
+leaves_ending old new source now Untouched Runs Defined input text done is_input outcome runs appended is_settled =
     record { input = input; is_input = is_input; text = text; outcome = outcome; appended = appended; is_settled = is_settled }
-leaves_ending written count settled old new left now_left Runs Defined input text some_refused is_input outcome runs appended is_settled = (
+leaves_ending old new source now Untouched Runs Defined input text some_refused is_input outcome runs appended is_settled = (
   runs refl,
   record { input = input; is_input = is_input; text = text; outcome = outcome; appended = appended; is_settled = is_settled },
 )
-leaves_ending written count settled old new left now_left Runs Defined input text syntax is_input outcome runs appended is_settled =
+leaves_ending old new source now Untouched Runs Defined input text syntax is_input outcome runs appended is_settled =
     record { input = input; is_input = is_input; text = text; outcome = outcome; appended = appended; is_settled = is_settled }
-leaves_ending written count settled old new left now_left Runs Defined input text range is_input outcome runs appended is_settled =
+leaves_ending old new source now Untouched Runs Defined input text range is_input outcome runs appended is_settled =
     record { input = input; is_input = is_input; text = text; outcome = outcome; appended = appended; is_settled = is_settled }
-leaves_ending written count settled old new left now_left Runs Defined input text past is_input outcome runs appended is_settled =
+leaves_ending old new source now Untouched Runs Defined input text past is_input outcome runs appended is_settled =
     record { input = input; is_input = is_input; text = text; outcome = outcome; appended = appended; is_settled = is_settled }
 
 -- all that is left, where it is told
@@ -183,28 +182,26 @@ pub no_front : (left : Option (List ℕ)) → IsFrontOf left []
 no_front None = tt
 no_front (Some bytes) = (lines_of bytes, refl)
 
-pub leaves_whole : {S : Type 0} (written : S → Option (List ℕ)) (count : S → Option ℕ) (settled : S → Bool) (old new : S)
-    (left now_left : Option (List ℕ)) (words : List (List ℕ)) (outcome : Outcome) (answer : Status)
+pub leaves_whole : (old new : SinkSeen) (source now : SourceSeen) (Untouched : Type 0) (words : List (List ℕ)) (outcome : Outcome) (answer : Status)
     → Computes command_entries words (Ok outcome) → HasBlock outcome
-    → answer ≡ status_for outcome → Appends written count old new (text_of outcome) → settled new ≡ true
-    → Leaves written count settled old new left now_left (RunsLines words) (IsOutcome words) answer
-leaves_whole written count settled old new left now_left words outcome answer computes block is appended is_settled =
+    → answer ≡ status_for outcome → Appends old new (text_of outcome) → new.settled ≡ true
+    → Leaves old new source now Untouched (RunsLines words) (IsOutcome words) answer
+leaves_whole old new source now Untouched words outcome answer computes block is appended is_settled =
     let has = has_outcome command_entries words outcome computes block in
-    let told = told_input left in
-    let P : Status → Type 0 = λ s. Leaves written count settled old new left now_left (RunsLines words) (IsOutcome words) s in
-    subst P (sym (is ∙ has.same))
-    (leaves_ending written count settled old new left now_left (RunsLines words) (IsOutcome words) told.0 (text_of outcome) has.ending
+    let told = told_input source.left in
+    subst (Leaves old new source now Untouched (RunsLines words) (IsOutcome words)) (sym (is ∙ has.same))
+    (leaves_ending old new source now Untouched (RunsLines words) (IsOutcome words) told.0 (text_of outcome) has.ending
     told.1 (alone words told.0 (text_of outcome) has.ending has.outcome)
     (λ e. absurd (no_some_refused outcome (has.same ∙ e))) appended is_settled)
 
-pub leaves_prefix : {S : Type 0} (written : S → Option (List ℕ)) (count : S → Option ℕ) (old new : S)
-    (left : Option (List ℕ)) (words : List (List ℕ)) (outcome : Outcome) → Computes command_entries words (Ok outcome) → HasBlock outcome
-    → AppendsPrefix written count old new (text_of outcome) → PutsPrefix written count old new left (IsOutcome words)
-leaves_prefix written count old new left words outcome computes block appended =
+pub leaves_prefix : (old new : SinkSeen) (source : SourceSeen) (words : List (List ℕ)) (outcome : Outcome)
+    → Computes command_entries words (Ok outcome) → HasBlock outcome → AppendsPrefix old new (text_of outcome)
+    → PutsPrefix old new source (IsOutcome words)
+leaves_prefix old new source words outcome computes block appended =
     let has = has_outcome command_entries words outcome computes block in
     record {
       front = [];
-      is_front = no_front left;
+      is_front = no_front source.left;
       text = text_of outcome;
       ending = has.ending;
       outcome = alone words [] (text_of outcome) has.ending has.outcome;
@@ -253,16 +250,15 @@ not_done offences.range is = cc
 not_done offences.shape is = cc
 
 -- a text that was put whole with the status Done says what the command of the words names
-pub headline : {S : Type 0} (written : S → Option (List ℕ)) (count : S → Option ℕ) (settled : S → Bool) (old new : S)
-    (left now_left : Option (List ℕ)) (words : List (List ℕ)) (answer : Status)
-    → Leaves written count settled old new left now_left (RunsLines words) (IsOutcome words) answer
-    → answer ≡ status.Done → (before : List ℕ) → written old ≡ Some before → PrintsAnswerTo words before left (written new)
-headline {S = S} written count settled old new left now_left words answer leaves ended before told =
-    let P : Status → Type 0 = λ s. Leaves written count settled old new left now_left (RunsLines words) (IsOutcome words) s in
-    let whole = subst P ended leaves in
+pub headline : (old new : SinkSeen) (source now : SourceSeen) (Untouched : Type 0) (words : List (List ℕ)) (answer : Status)
+    → Leaves old new source now Untouched (RunsLines words) (IsOutcome words) answer
+    → answer ≡ status.Done → (before : List ℕ) → old.written ≡ Some before → PrintsAnswerTo words before source.left new.written
+headline old new source now Untouched words answer leaves ended before told =
+    let whole = subst (Leaves old new source now Untouched (RunsLines words) (IsOutcome words)) ended leaves in
     by whole.text whole.input whole.is_input (Appends-told before whole.appended told) whole.outcome
   where
-    by : (text input : List ℕ) → IsInput left input → written new ≡ Some (before ++ text) → IsOutcome words input text done → PrintsAnswerTo words before left (written new)
+    by : (text input : List ℕ) → IsInput source.left input → new.written ≡ Some (before ++ text) → IsOutcome words input text done
+        → PrintsAnswerTo words before source.left new.written
     by text input is_input appended (inl wrong) = let clash : done ≡ syntax = wrong.1 in cc
     by text input is_input appended (inr (inl offends)) = absurd (not_done offends.offence.2 offends.ends)
     by text input is_input appended (inr (inr comes)) = record {
@@ -270,7 +266,7 @@ headline {S = S} written count settled old new left now_left words answer leaves
       appended = appended;
       command = comes.0;
       spelled = comes.1;
-      says = answers_with_say left input comes.0 text is_input comes.2;
+      says = answers_with_say source.left input comes.0 text is_input comes.2;
     }
 
 -- ---- each refusal by its own line
@@ -293,26 +289,21 @@ names offence (fault.Shape at) is =
     (ap (λ (o : Offence). status_of (ending_of o.2)) (sym is), ap (λ (o : Offence). offence_line o) (sym is))
 names offence fault.NoMemory is = absurd is
 
-pub refuses_offence : {S : Type 0} (written : S → Option (List ℕ)) (count : S → Option ℕ) (old new : S) (offence : Offence)
-    (outcome : Outcome) → Refuses offence (Ok outcome) → Appends written count old new (text_of outcome)
-    → IsRefused written count old new (ending_of offence.2) (offence_line offence) (status_for outcome)
-refuses_offence written count old new offence (Answered answer form) refuses appended = absurd refuses
-refuses_offence written count old new offence (Refused reason) refuses appended =
-    let both = names offence reason refuses in
-    let P : List ℕ → Type 0 = λ t. Appends written count old new t in
-    record { ends = inl both.0; puts = λ ended. subst P both.1 appended }
-refuses_offence written count old new offence Large refuses appended = absurd refuses
-refuses_offence written count old new offence (Told lines) refuses appended = absurd refuses
+pub refuses_offence : (IsPut : List ℕ → Type 0) (offence : Offence) (outcome : Outcome) → Refuses offence (Ok outcome) → IsPut (text_of outcome)
+    → IsRefused (ending_of offence.2) (IsPut (offence_line offence)) (status_for outcome)
+refuses_offence IsPut offence (Answered answer form) refuses put = absurd refuses
+refuses_offence IsPut offence (Refused reason) refuses put =
+    let both = names offence reason refuses in record { ends = inl both.0; puts = λ ended. subst IsPut both.1 put }
+refuses_offence IsPut offence Large refuses put = absurd refuses
+refuses_offence IsPut offence (Told lines) refuses put = absurd refuses
 
-pub refuses_place : {S : Type 0} (written : S → Option (List ℕ)) (count : S → Option ℕ) (old new : S) (word byte : ℕ)
-    (outcome : Outcome) → GoesWrong word byte (Ok outcome) → Appends written count old new (text_of outcome)
-    → IsRefused written count old new syntax (refusal_line (codes "Syntax") word byte) (status_for outcome)
-refuses_place written count old new word byte (Answered answer form) wrong appended = absurd wrong
-refuses_place written count old new word byte (Refused reason) wrong appended =
-    let P : List ℕ → Type 0 = λ t. Appends written count old new t in
-    record { ends = inl (ap refusal_status wrong); puts = λ ended. subst P (ap refusal_text wrong) appended }
-refuses_place written count old new word byte Large wrong appended = absurd wrong
-refuses_place written count old new word byte (Told lines) wrong appended = absurd wrong
+pub refuses_place : (IsPut : List ℕ → Type 0) (word byte : ℕ) (outcome : Outcome) → GoesWrong word byte (Ok outcome) → IsPut (text_of outcome)
+    → IsRefused syntax (IsPut (refusal_line (codes "Syntax") word byte)) (status_for outcome)
+refuses_place IsPut word byte (Answered answer form) wrong put = absurd wrong
+refuses_place IsPut word byte (Refused reason) wrong put =
+    record { ends = inl (ap refusal_status wrong); puts = λ ended. subst IsPut (ap refusal_text wrong) put }
+refuses_place IsPut word byte Large wrong put = absurd wrong
+refuses_place IsPut word byte (Told lines) wrong put = absurd wrong
 
 -- where memory was refused, or the sink failed, no line is owed
 no_ending : (ending : Ending) (answer : Status) → WasCutOff answer → answer ≡ status_of ending → ⊥
@@ -327,7 +318,24 @@ no_ending range answer (inr cut) ended = let clash : status.SinkFault ≡ status
 no_ending past answer (inl cut) ended = let clash : status.NoMemory ≡ status.Past = sym cut ∙ ended in cc
 no_ending past answer (inr cut) ended = let clash : status.SinkFault ≡ status.Past = sym cut ∙ ended in cc
 
-pub was_cut_off : {S : Type 0} (written : S → Option (List ℕ)) (count : S → Option ℕ) (old new : S) (ending : Ending)
-    (line : List ℕ) (answer : Status) → WasCutOff answer → IsRefused written count old new ending line answer
-was_cut_off written count old new ending line answer cut =
-    record { ends = inr cut; puts = λ ended. absurd (no_ending ending answer cut ended) }
+was_cut_off : (ending : Ending) (IsPut : Type 0) (answer : Status) → WasCutOff answer → IsRefused ending IsPut answer
+was_cut_off ending IsPut answer cut = record { ends = inr cut; puts = λ ended. absurd (no_ending ending answer cut ended) }
+
+-- so words are answered, whatever they are
+pub cut_answers : (words : List (List ℕ)) (IsPut : List ℕ → Type 0) (answer : Status) → WasCutOff answer → AnswersWords words IsPut answer
+cut_answers words IsPut answer cut = record {
+  accepted = λ command spelled. inr (inr (inl cut));
+  offended = λ offence first. was_cut_off (ending_of offence.2) (IsPut (offence_line offence)) answer cut;
+  no_command = λ word byte place. was_cut_off syntax (IsPut (refusal_line (codes "Syntax") word byte)) answer cut;
+}
+
+-- the same where another thing is said of the line that was put
+pub answers_as : {words : List (List ℕ)} {status : Status} (P Q : List ℕ → Type 0) → ((line : List ℕ) → P line → Q line) → AnswersWords words P status
+    → AnswersWords words Q status
+answers_as P Q carry a = record {
+  accepted = a.accepted;
+  offended = λ offence first.
+      let r = a.offended offence first in record { ends = r.ends; puts = λ ended. carry (offence_line offence) (r.puts ended) };
+  no_command = λ word byte place.
+      let r = a.no_command word byte place in record { ends = r.ends; puts = λ ended. carry (refusal_line (codes "Syntax") word byte) (r.puts ended) };
+}

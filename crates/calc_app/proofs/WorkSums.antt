@@ -1,14 +1,14 @@
 -- The sums over the blocks of the generated lines, one after another, and how `work` ends.
-use Rattle.std.proofs.Common.{◌≡◌, ◌≢◌, ◌⊎◌, ℕ, zero, suc, ◌+◌, ◌<◌, ◌≤◌, Bool, true, false, cond, List, [], ◌∷◌, ◌++◌, append_assoc, append-nil, map, length, refl, sym, ap, ◌∙◌, subst, arith, Option, Some, None, inl, inr}
+use Rattle.std.proofs.Common.{◌≡◌, ℕ, zero, suc, ◌+◌, ◌<◌, ◌≤◌, Bool, true, false, cond, List, [], ◌∷◌, ◌++◌, append_assoc, append-nil, map, length, refl, sym, ap, ◌∙◌, subst, arith, Some, None, inl, inr}
 use Rattle.std.specs.Prelude.{Result, Ok, Err, IfOk}
 use Rattle.std.proofs.lemmas.List.{map-append}
 use Rattle.batch_lines.proofs.Lines.{more_blocks}
 use Rattle.calc_base.specs.declared.faults.NoMemory.{NoMemory}
 use Rattle.calc_base.specs.declared.status.Status.{Status}
 use Rattle.calc_base.specs.declared.status.Status.TheVariants as status
-use Rattle.calc_base.specs.Fault.{Rose}
 use Rattle.calc_base.specs.Puts.{Puts}
-use Rattle.calc_base.specs.Sink.{Appends}
+use Rattle.calc_base.specs.Sink.{SinkSeen}
+use Rattle.calc_base.specs.Source.{SourceSeen}
 use Rattle.calc_language.proofs.Entries.{kept_by_all}
 use Rattle.calc_language.specs.BuiltCommands.{command_entries, batch_entries}
 use Rattle.sym_model.specs.BatchLine.{BatchLine, batch_line}
@@ -19,15 +19,17 @@ use Rattle.sym_model.specs.Entry.{SpellsWithoutOffence}
 use Rattle.sym_model.specs.Partition.{size}
 use Rattle.sym_model.specs.Workload.{terms_in, work_line, after_line, work_lines}
 use Rattle.batch_lines.specs.declared.sums.Sums.{Sums}
-use Rattle.calc_base.specs.Growing.{Growing, growing_bytes, growing_length}
 use Rattle.batch_lines.specs.Totals.{sums_over, sums_with, AreSmall, sums_text}
 use Rattle.calc_replies.specs.declared.outcome.Outcome.{Outcome}
 use Rattle.calc_app.specs.Batch.{ComesOfLine}
 use Rattle.calc_replies.specs.Computed.{text_of, HasBlock}
-use Rattle.calc_app.specs.Top.{IsOutcome, RunsLines, Leaves, IsAccepted}
+use Rattle.calc_replies.specs.declared.outcome.Task.TheVariants.{Workload}
+use Rattle.calc_app.specs.Top.{IsOutcome, RunsLines, Leaves, HidesNoFault, IsAccepted}
 use Rattle.calc_app.specs.Work.{texts_of, sums_more, AddsLine, AreSumsOf, EndsWork}
 use Rattle.calc_app.proofs.Batches.{comes_block, comes_nothing}
-use Rattle.calc_app.proofs.Outcomes.{told_input, no_front}
+use Rattle.calc_app.proofs.Ends.{HasTask, Ran}
+use Rattle.calc_app.proofs.Faults.{no_faults, sink_failed, ends_well, is_full}
+use Rattle.calc_app.proofs.Outcomes.{headline, told_input, no_front}
 
 -- ---- one line
 
@@ -151,22 +153,19 @@ seed_within words lines seed spelled = (kept_by_all words (work lines seed) spel
 runs_work : (lines seed : ℕ) (sums : Sums) → AreSumsOf lines seed sums → RunsWorkload batch_entries lines seed (sums_text sums)
 runs_work lines seed sums are = record { blocks = are.blocks; are_blocks = are.are; summed = ap sums_text are.sum_up }
 
-pub work_leaves : {K : Type 0} (written : K → Option (List ℕ)) (count : K → Option ℕ) (faults : K → ℕ) (settled : K → Bool) (old new : K)
-    (left now_left : Option (List ℕ)) (words : List (List ℕ)) (lines seed : ℕ) (result : Status)
-    → SpellsWithoutOffence command_entries words (work lines seed) → EndsWork written count faults settled old new lines seed result
-    → Leaves written count settled old new left now_left (RunsLines words) (IsOutcome words) result
-work_leaves written count faults settled old new left now_left words lines seed result spelled (inl full) =
-    let P : Status → Type 0 = λ s. Leaves written count settled old new left now_left (RunsLines words) (IsOutcome words) s in
-    subst P (sym full.0) (inl full.1)
-work_leaves written count faults settled old new left now_left words lines seed result spelled (inr w) = by w.put.well w.put.puts w.put.settles w.put.is
+work_leaves : (words : List (List ℕ)) (old new : SinkSeen) (source : SourceSeen) (Untouched : Type 0) (lines seed : ℕ) (result : Status)
+    → SpellsWithoutOffence command_entries words (work lines seed) → EndsWork old new Untouched lines seed result
+    → Leaves old new source source Untouched (RunsLines words) (IsOutcome words) result
+work_leaves words old new source Untouched lines seed result spelled (inl full) =
+    subst (Leaves old new source source Untouched (RunsLines words) (IsOutcome words)) (sym full.0) (inl full.1)
+work_leaves words old new source Untouched lines seed result spelled (inr w) = by w.put.well w.put.puts w.put.settles w.put.is
   where
-    by : (well : Bool) → Puts written count faults true old well new (sums_text w.sums) → (well ≡ true → settled new ≡ true)
+    by : (well : Bool) → Puts true old well new (sums_text w.sums) → (well ≡ true → new.settled ≡ true)
         → result ≡ cond well status.Done status.SinkFault
-        → Leaves written count settled old new left now_left (RunsLines words) (IsOutcome words) result
+        → Leaves old new source source Untouched (RunsLines words) (IsOutcome words) result
     by true puts settles is =
-        let P : Status → Type 0 = λ s. Leaves written count settled old new left now_left (RunsLines words) (IsOutcome words) s in
-        let told = told_input left in
-        subst P (sym is) (record {
+        let told = told_input source.left in
+        subst (Leaves old new source source Untouched (RunsLines words) (IsOutcome words)) (sym is) (record {
           input = told.0;
           is_input = told.1;
           text = sums_text w.sums;
@@ -175,10 +174,9 @@ work_leaves written count faults settled old new left now_left words lines seed 
           is_settled = settles refl;
         })
     by false puts settles is =
-        let P : Status → Type 0 = λ s. Leaves written count settled old new left now_left (RunsLines words) (IsOutcome words) s in
-        subst P (sym is) (record {
+        subst (Leaves old new source source Untouched (RunsLines words) (IsOutcome words)) (sym is) (record {
           front = [];
-          is_front = no_front left;
+          is_front = no_front source.left;
           text = sums_text w.sums;
           ending = done;
           outcome = inr (inr (work lines seed, spelled, (runs_work lines seed w.sums w.are, refl)));
@@ -186,52 +184,48 @@ work_leaves written count faults settled old new left now_left words lines seed 
         })
 
 -- the three statuses of `work`, and its faults
-pub record WorkEnded (before now : ℕ) (result : Status) : Type 0 where
-  pub status_is : (result ≡ status.Done) ⊎ (result ≡ status.NoMemory) ⊎ (result ≡ status.SinkFault)
-  pub sink_fault : result ≡ status.SinkFault → Rose before now
-  pub no_fault : result ≢ status.SinkFault → now ≡ before
-  pub later : before ≤ now
+record WorkEnded (old new : SinkSeen) (source : SourceSeen) (result : Status) : Type 0 where
+  accepted : (command : Command) → IsAccepted command result
+  faults : HidesNoFault old new source source result
 
-pub work_ended : {K : Type 0} (written : K → Option (List ℕ)) (count : K → Option ℕ) (faults : K → ℕ) (settled : K → Bool) (old new : K)
-    (lines seed : ℕ) (result : Status) → EndsWork written count faults settled old new lines seed result → WorkEnded (faults old) (faults new) result
-work_ended written count faults settled old new lines seed result (inl full) = record {
-  status_is = inr (inl full.0);
-  sink_fault = λ e. let clash : status.NoMemory ≡ status.SinkFault = sym full.0 ∙ e in cc;
-  no_fault = λ n. ap faults full.1;
-  later = let e = ap faults full.1 in omega (arith, e);
-}
-work_ended written count faults settled old new lines seed result (inr w) = by w.put.well w.put.puts w.put.is
+work_ended : (old new : SinkSeen) (source : SourceSeen) (Untouched : Type 0) (lines seed : ℕ) (result : Status) → (Untouched → new ≡ old)
+    → EndsWork old new Untouched lines seed result → WorkEnded old new source result
+work_ended old new source Untouched lines seed result same (inl full) = subst (WorkEnded old new source) (sym full.0) (record {
+  accepted = λ command. inr (inr (inl (inl refl)));
+  faults = no_faults is_full (ap (λ (s : SinkSeen). s.faults) (same full.1)) refl;
+})
+work_ended old new source Untouched lines seed result same (inr w) = by w.put.well w.put.puts w.put.is
   where
-    by : (well : Bool) → Puts written count faults true old well new (sums_text w.sums) → result ≡ cond well status.Done status.SinkFault
-        → WorkEnded (faults old) (faults new) result
-    by true puts is = record {
-      status_is = inl is;
-      sink_fault = λ e. let clash : status.Done ≡ status.SinkFault = sym is ∙ e in cc;
-      no_fault = λ n. puts.still refl;
-      later = puts.later;
-    }
-    by false puts is = record {
-      status_is = inr (inr is);
-      sink_fault = λ e. puts.rose refl refl;
-      no_fault = λ n. absurd (n is);
-      later = puts.later;
-    }
+    by : (well : Bool) → Puts true old well new (sums_text w.sums) → result ≡ cond well status.Done status.SinkFault
+        → WorkEnded old new source result
+    by true puts is = subst (WorkEnded old new source) (sym is) (record {
+      accepted = λ command. inl refl;
+      faults = no_faults (ends_well done) (puts.still refl) refl;
+    })
+    by false puts is = subst (WorkEnded old new source) (sym is) (record {
+      accepted = λ command. inr (inr (inl (inr refl)));
+      faults = sink_failed (puts.rose refl refl) puts.later (omega arith);
+    })
 
-pub work_accepted : (command : Command) (before now : ℕ) (result : Status) → WorkEnded before now result → IsAccepted command result
-work_accepted command before now result w = by w.status_is
-  where
-    by : (result ≡ status.Done) ⊎ (result ≡ status.NoMemory) ⊎ (result ≡ status.SinkFault) → IsAccepted command result
-    by (inl e) = inl e
-    by (inr (inl e)) = inr (inr (inl (inl e)))
-    by (inr (inr e)) = inr (inr (inl (inr e)))
-
-pub work_no_source : (before now : ℕ) (result : Status) → WorkEnded before now result → result ≡ status.SourceFault → ⊥
-work_no_source before now result w e = by w.status_is
-  where
-    by : (result ≡ status.Done) ⊎ (result ≡ status.NoMemory) ⊎ (result ≡ status.SinkFault) → ⊥
-    by (inl d) = let clash : status.Done ≡ status.SourceFault = sym d ∙ e in cc
-    by (inr (inl d)) = let clash : status.NoMemory ≡ status.SourceFault = sym d ∙ e in cc
-    by (inr (inr d)) = let clash : status.SinkFault ≡ status.SourceFault = sym d ∙ e in cc
-
-pub no_lines : (lines seed : ℕ) → batch ≡ work lines seed → ⊥
+no_lines : (lines seed : ℕ) → batch ≡ work lines seed → ⊥
 no_lines lines seed e = cc
+
+pub work_ran : (words : List (List ℕ)) (old new : SinkSeen) (source : SourceSeen) (Untouched : Type 0) (lines seed : ℕ) (result : Status)
+    → (Untouched → new ≡ old) → HasTask words (Workload lines seed) → EndsWork old new Untouched lines seed result
+    → Ran words old new source source Untouched result
+work_ran words old new source Untouched lines seed result same task e =
+    let leaves = work_leaves words old new source Untouched lines seed result task.computes e in
+    let ended = work_ended old new source Untouched lines seed result same e in
+    record {
+      headline = headline old new source source Untouched words result leaves;
+      lines = λ runs. absurd (no_lines lines seed (task.accepts batch runs));
+      cut = λ runs. absurd (no_lines lines seed (task.accepts batch runs));
+      leaves = leaves;
+      answers = record {
+        accepted = λ command spelled. ended.accepted command;
+        offended = λ offence first. absurd (task.refuses offence first);
+        no_command = λ word byte place. absurd (task.goes_wrong word byte place);
+      };
+      faults = ended.faults;
+      all_read = λ runs. absurd (no_lines lines seed (task.accepts batch runs));
+    }

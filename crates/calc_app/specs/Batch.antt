@@ -1,5 +1,5 @@
 -- What comes of the lines of a batch, one after another (this project's own).
-use Rattle.std.specs.Prelude.{◌≡◌, ◌≢◌, ℕ, ◌≤◌, List, [], Bool, false, Option, Some, None, Result, Ok, Err}
+use Rattle.std.specs.Prelude.{◌≡◌, ℕ, List, Bool, false, Option, Some, None, Result, Ok, Err}
 use Rattle.batch_lines.specs.declared.next.LineFault.{LineFault}
 use Rattle.batch_lines.specs.declared.next.LineFault.TheVariants as line_fault
 use Rattle.batch_lines.specs.declared.next.Next.{Next}
@@ -9,6 +9,8 @@ use Rattle.calc_base.specs.declared.status.Status.{Status}
 use Rattle.calc_base.specs.declared.status.Status.TheVariants as status
 use Rattle.calc_base.specs.declared.words.WordsFault.{WordsFault}
 use Rattle.calc_base.specs.Fault.{Rose}
+use Rattle.calc_base.specs.Sink.{SinkSeen}
+use Rattle.calc_base.specs.Source.{SourceSeen}
 use Rattle.calc_language.specs.BuiltCommands.{batch_entries}
 use Rattle.calc_language.specs.Reading.{IsFaultOf}
 use Rattle.sym_model.specs.BatchLine.{BatchLine, too_long, passed_over, spoken, batch_line, too_long_offence}
@@ -18,7 +20,7 @@ use Rattle.calc_replies.specs.declared.outcome.Outcome.TheVariants.{Refused}
 use Rattle.calc_app.specs.declared.batch.Turn.{Turn}
 use Rattle.calc_app.specs.declared.batch.Turn.TheVariants.{Passed, Block, Last}
 use Rattle.calc_replies.specs.Computed.{Computes}
-use Rattle.calc_app.specs.Top.{Leaves, IsEmptied, IsThrough, CutsLines}
+use Rattle.calc_app.specs.Top.{Leaves, HidesNoFault, IsEmptied, IsThrough, CutsLines}
 
 -- ---- what comes of one line
 
@@ -50,10 +52,10 @@ IsTurn next.End line (Block outcome) = ⊥
 IsTurn next.End line Last = Unit {0}
 
 -- the next line was read, and this comes of it
-pub record TakesTurn (before now : Option (List ℕ)) (allowance less : ℕ) (pending left_pending : List ℕ) (has_ended : Bool) (turn : Turn) : Type 0 where
+pub record TakesTurn (before now : SourceSeen) (pending left_pending : List ℕ) (has_ended : Bool) (turn : Turn) : Type 0 where
   pub line : List ℕ
   pub read : Next
-  pub reads : ReadsNext before now allowance less pending left_pending line has_ended read
+  pub reads : ReadsNext before now pending left_pending line has_ended read
   pub is : IsTurn read line turn
 
 -- where a fault of the source came, it was not at its end, and no line ends in what was taken
@@ -71,14 +73,8 @@ CountsTurn before now (Err line_fault.NoMemory) = now ≡ before
 -- ---- the end
 
 -- how a batch ends: what it leaves in the sink, which faults were counted, and that all was read where the status says so
-pub record EndsBatch {K : Type 0} (written : K → Option (List ℕ)) (count : K → Option ℕ) (faults : K → ℕ) (settled : K → Bool)
-    (old new : K) (left now_left : Option (List ℕ)) (source_faults now_faults : ℕ) (result : Status) : Type 0 where
-  pub leaves : Leaves written count settled old new left now_left (Unit {0}) (RunsInput batch_entries) result
-  pub sink_fault : result ≡ status.SinkFault → Rose (faults old) (faults new)
-  pub no_fault : result ≢ status.SinkFault → faults new ≡ faults old
-  pub later : faults old ≤ faults new
-  pub source_fault : result ≡ status.SourceFault → Rose source_faults now_faults
-  pub no_source_fault : result ≢ status.SourceFault → result ≢ status.SinkFault → now_faults ≡ source_faults
-  pub source_later : source_faults ≤ now_faults
-  pub all_read : IsThrough result → IsEmptied now_left
-  pub cut : result ≡ status.SinkFault → CutsLines written count old new left now_left
+pub record EndsBatch (old new : SinkSeen) (source now : SourceSeen) (Untouched : Type 0) (result : Status) : Type 0 where
+  pub leaves : Leaves old new source now Untouched (Unit {0}) (RunsInput batch_entries) result
+  pub faults : HidesNoFault old new source now result
+  pub all_read : IsThrough result → IsEmptied now.left
+  pub cut : result ≡ status.SinkFault → CutsLines old new source now

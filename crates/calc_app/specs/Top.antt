@@ -1,22 +1,27 @@
 -- What the top call promises, by cases on the status that it answers (this project's own).
-use Rattle.std.specs.Prelude.{◌≡◌, ◌⊎◌, ◌≤◌, ℕ, List, [], ◌∷◌, ◌++◌, length, Bool, true, map, Option, Some, IfSome}
+use Rattle.std.specs.Prelude.{◌≡◌, ◌≢◌, ◌⊎◌, ◌≤◌, ℕ, List, [], ◌∷◌, ◌++◌, length, Bool, true, codes, map, Option, Some, IfSome}
 use Rattle.calc_base.specs.declared.status.Status.{Status}
 use Rattle.calc_base.specs.declared.status.Status.TheVariants.{Done, SomeRefused, Syntax, Range, Past, SinkFault, SourceFault, NoMemory}
+use Rattle.calc_base.specs.Fault.{Rose}
 use Rattle.calc_base.specs.Puts.{Puts}
-use Rattle.calc_base.specs.Sink.{Appends, AppendsPrefix, IsPrefix}
+use Rattle.calc_base.specs.Sink.{SinkSeen, Appends, AppendsPrefix, IsPrefix}
+use Rattle.calc_base.specs.Source.{SourceSeen}
 use Rattle.batch_lines.specs.Ends.{status_where}
 use Rattle.batch_lines.specs.Feeds.{HasNoFeed}
 use Rattle.batch_lines.specs.Reading.{Took, most_pending}
 use Rattle.sym_model.specs.BatchLine.{BatchLine, too_long, passed_over, spoken, batch_line, lines_of}
 use Rattle.sym_model.specs.BatchOutcome.{Block, AreBlocks, batch_text, RunsInput, RunsWorkload, IsOutcomeOf}
 use Rattle.sym_model.specs.Command.{Command, tab, rsk, unrsk, rect, growth, batch, work}
+use Rattle.sym_model.specs.CommandOffence.{Offence}
 use Rattle.sym_model.specs.Ending.{Ending, done, some_refused, syntax, range, past}
-use Rattle.sym_model.specs.Entry.{SpellsWithoutOffence}
+use Rattle.sym_model.specs.Entry.{SpellsWithoutOffence, HasFirstOffence}
 use Rattle.calc_language.specs.BuiltCommands.{command_entries, batch_entries}
 use Rattle.calc_replies.specs.Computed.{text_of, HasBlock, status_for}
 use Rattle.calc_replies.specs.declared.outcome.Outcome.{Outcome}
 use Rattle.sym_model.specs.Headline.{ReadsBack}
-use Rattle.sym_model.specs.Outcome.{Answers, MayBeLarge}
+use Rattle.sym_model.specs.Outcome.{Answers, MayBeLarge, ending_of}
+use Rattle.sym_model.specs.RefusalText.{refusal_line, offence_line}
+use Rattle.sym_model.specs.SyntaxPlace.{IsSyntaxPlace}
 
 -- ---- which text is defined
 
@@ -55,71 +60,75 @@ status_of past = Past
 -- ---- what is left in the sink, where `Defined input text ending` says which texts are defined over an input
 
 -- a text that is defined over the whole input, with this ending, was appended whole, and the sink is settled
-pub record PutsWhole {S : Type 0} (written : S → Option (List ℕ)) (count : S → Option ℕ) (settled : S → Bool)
-    (old new : S) (left : Option (List ℕ)) (Defined : List ℕ → List ℕ → Ending → Type 0) (ending : Ending) : Type 0 where
+pub record PutsWhole (old new : SinkSeen) (source : SourceSeen) (Defined : List ℕ → List ℕ → Ending → Type 0) (ending : Ending) : Type 0 where
   pub input : List ℕ
-  pub is_input : IsInput left input
+  pub is_input : IsInput source.left input
   pub text : List ℕ
   pub outcome : Defined input text ending
-  pub appended : Appends written count old new text
-  pub is_settled : settled new ≡ true
+  pub appended : Appends old new text
+  pub is_settled : new.settled ≡ true
 
 -- a prefix of a text that is defined over the first lines of the input was appended
-pub record PutsPrefix {S : Type 0} (written : S → Option (List ℕ)) (count : S → Option ℕ)
-    (old new : S) (left : Option (List ℕ)) (Defined : List ℕ → List ℕ → Ending → Type 0) : Type 0 where
+pub record PutsPrefix (old new : SinkSeen) (source : SourceSeen) (Defined : List ℕ → List ℕ → Ending → Type 0) : Type 0 where
   pub front : List ℕ
-  pub is_front : IsFrontOf left front
+  pub is_front : IsFrontOf source.left front
   pub text : List ℕ
   pub ending : Ending
   pub outcome : Defined front text ending
-  pub appended : AppendsPrefix written count old new text
+  pub appended : AppendsPrefix old new text
 
--- A text that is defined over the first lines of the input was appended whole. Those lines and a piece behind them were read,
+-- A text that is defined over the first lines of the input was appended whole. Those lines and a piece after them were read,
 -- and each of them ends in what was read: at a line feed, or where the source tells that nothing is left.
-pub record PutsFront {S : Type 0} (written : S → Option (List ℕ)) (count : S → Option ℕ)
-    (old new : S) (left now_left : Option (List ℕ)) (Defined : List ℕ → List ℕ → Ending → Type 0) : Type 0 where
+pub record PutsFront (old new : SinkSeen) (source now : SourceSeen) (Defined : List ℕ → List ℕ → Ending → Type 0) : Type 0 where
   pub front : List ℕ
   pub piece : List ℕ
-  pub took : Took left now_left (front ++ piece)
-  pub is_ended : IsWholeLines front ⊎ (now_left ≡ Some [])
-  pub is_front : IsFrontOf left front
+  pub took : Took source.left now.left (front ++ piece)
+  pub is_ended : IsWholeLines front ⊎ (now.left ≡ Some [])
+  pub is_front : IsFrontOf source.left front
   pub text : List ℕ
   pub ending : Ending
   pub outcome : Defined front text ending
-  pub appended : Appends written count old new text
+  pub appended : Appends old new text
 
--- The text of the lines that were wholly read was appended whole, and the sink is settled. Behind those lines no line ends in
+-- The text of the lines that were wholly read was appended whole, and the sink is settled. After those lines no line ends in
 -- what was read.
-pub record PutsRead {S : Type 0} (written : S → Option (List ℕ)) (count : S → Option ℕ) (settled : S → Bool)
-    (old new : S) (left now_left : Option (List ℕ)) (Defined : List ℕ → List ℕ → Ending → Type 0) : Type 0 where
+pub record PutsRead (old new : SinkSeen) (source now : SourceSeen) (Defined : List ℕ → List ℕ → Ending → Type 0) : Type 0 where
   pub front : List ℕ
   pub piece : List ℕ
-  pub took : Took left now_left (front ++ piece)
+  pub took : Took source.left now.left (front ++ piece)
   pub no_feed : HasNoFeed piece
   pub is_whole : IsWholeLines front
-  pub is_front : IsFrontOf left front
+  pub is_front : IsFrontOf source.left front
   pub text : List ℕ
   pub ending : Ending
   pub outcome : Defined front text ending
-  pub appended : Appends written count old new text
-  pub is_settled : settled new ≡ true
+  pub appended : Appends old new text
+  pub is_settled : new.settled ≡ true
 
 -- What a command leaves in the sink, by its status: the whole text, settled; after a fault of the sink a prefix of the text of
 -- the first lines; after a fault of the source the text of the lines wholly read, settled; without memory nothing, or, where
--- lines are run, the text of the first ones. `Runs` says that lines are run: without that two of the statuses never come.
-abbrev pub Leaves : {S : Type 0} → (S → Option (List ℕ)) → (S → Option ℕ) → (S → Bool) → (old new : S)
-    → (left now_left : Option (List ℕ)) → Type 0 → (List ℕ → List ℕ → Ending → Type 0) → Status → Type 0
-Leaves written count settled old new left now_left Runs Defined Done = PutsWhole written count settled old new left Defined done
-Leaves written count settled old new left now_left Runs Defined SomeRefused =
-    Runs × PutsWhole written count settled old new left Defined some_refused
-Leaves written count settled old new left now_left Runs Defined Syntax = PutsWhole written count settled old new left Defined syntax
-Leaves written count settled old new left now_left Runs Defined Range = PutsWhole written count settled old new left Defined range
-Leaves written count settled old new left now_left Runs Defined Past = PutsWhole written count settled old new left Defined past
-Leaves written count settled old new left now_left Runs Defined SinkFault = PutsPrefix written count old new left Defined
-Leaves written count settled old new left now_left Runs Defined SourceFault =
-    Runs × PutsRead written count settled old new left now_left Defined
-Leaves written count settled old new left now_left Runs Defined NoMemory =
-    (new ≡ old) ⊎ (Runs × PutsFront written count old new left now_left Defined)
+-- lines are run, the text of the first ones. `Untouched` says that no call of the sink was made, and `Runs` that lines are run:
+-- without that two of the statuses never come.
+abbrev pub Leaves : (old new : SinkSeen) (source now : SourceSeen) (Untouched Runs : Type 0) → (List ℕ → List ℕ → Ending → Type 0) → Status → Type 0
+Leaves old new source now Untouched Runs Defined Done = PutsWhole old new source Defined done
+Leaves old new source now Untouched Runs Defined SomeRefused = Runs × PutsWhole old new source Defined some_refused
+Leaves old new source now Untouched Runs Defined Syntax = PutsWhole old new source Defined syntax
+Leaves old new source now Untouched Runs Defined Range = PutsWhole old new source Defined range
+Leaves old new source now Untouched Runs Defined Past = PutsWhole old new source Defined past
+Leaves old new source now Untouched Runs Defined SinkFault = PutsPrefix old new source Defined
+Leaves old new source now Untouched Runs Defined SourceFault = Runs × PutsRead old new source now Defined
+Leaves old new source now Untouched Runs Defined NoMemory = Untouched ⊎ (Runs × PutsFront old new source now Defined)
+
+-- No fault is hidden: with `SinkFault` the sink's count of faults rose by exactly one, or stands at 2^64 - 1, and with every
+-- other status it is as it was. The same of the source with `SourceFault`, but that a fault of the sink can follow one of the
+-- source. No count falls.
+pub record HidesNoFault (old new : SinkSeen) (source now : SourceSeen) (status : Status) : Type 0 where
+  pub sink_fault : status ≡ SinkFault → Rose old.faults new.faults
+  pub no_fault : status ≢ SinkFault → new.faults ≡ old.faults
+  pub later : old.faults ≤ new.faults
+  pub source_fault : status ≡ SourceFault → Rose source.faults now.faults
+  pub no_source_fault : status ≢ SourceFault → status ≢ SinkFault → now.faults ≡ source.faults
+  pub source_later : source.faults ≤ now.faults
 
 -- ---- the headline
 
@@ -178,8 +187,8 @@ pub record PrintsLines (before : List ℕ) (left now : Option (List ℕ)) : Type
 
 -- ---- a batch whose sink failed
 
--- the blocks of the earlier lines were put whole, and of the block of the line behind them, with what parts two blocks, a prefix
-pub record CutsBlock {S : Type 0} (written : S → Option (List ℕ)) (count : S → Option ℕ) (old new : S) (lines : List BatchLine) : Type 0 where
+-- the blocks of the earlier lines were put whole, and of the block of the line after them, with what parts two blocks, a prefix
+pub record CutsBlock (old new : SinkSeen) (lines : List BatchLine) : Type 0 where
   pub earlier : List BatchLine
   pub line : BatchLine
   pub lines_are : lines ≡ earlier ++ line ∷ []
@@ -189,24 +198,24 @@ pub record CutsBlock {S : Type 0} (written : S → Option (List ℕ)) (count : S
   pub is_last : AreBlocks batch_entries (line ∷ []) (last ∷ [])
   pub shown : List ℕ
   pub is_shown : IsPrefix (batch_text blocks ++ shown) (batch_text (blocks ++ last ∷ []))
-  pub appended : Appends written count old new (batch_text blocks ++ shown)
+  pub appended : Appends old new (batch_text blocks ++ shown)
 
 -- the blocks of all lines were put whole
-pub record PutsBlocks {S : Type 0} (written : S → Option (List ℕ)) (count : S → Option ℕ) (old new : S) (lines : List BatchLine) : Type 0 where
+pub record PutsBlocks (old new : SinkSeen) (lines : List BatchLine) : Type 0 where
   pub blocks : List Block
   pub are_blocks : AreBlocks batch_entries lines blocks
-  pub appended : Appends written count old new (batch_text blocks)
+  pub appended : Appends old new (batch_text blocks)
 
 -- What a fault of the sink leaves of a batch. These lines were read and no unfinished one. The blocks of all lines but the last
--- were put whole, and of its own a prefix, and at most 4,096 bytes were taken behind them; or those of all, where the sink failed
--- at the end, and then no line ends in what was taken behind them.
-pub record CutsLines {S : Type 0} (written : S → Option (List ℕ)) (count : S → Option ℕ) (old new : S) (left now_left : Option (List ℕ)) : Type 0 where
+-- were put whole, and of its own a prefix, and at most 4,096 bytes were taken after them; or those of all, where the sink failed
+-- at the end, and then no line ends in what was taken after them.
+pub record CutsLines (old new : SinkSeen) (source now : SourceSeen) : Type 0 where
   pub front : List ℕ
   pub piece : List ℕ
-  pub took : Took left now_left (front ++ piece)
-  pub is_ended : IsWholeLines front ⊎ (now_left ≡ Some [])
-  pub puts : (CutsBlock written count old new (map batch_line (lines_of front)) × (length piece ≤ most_pending))
-      ⊎ (PutsBlocks written count old new (map batch_line (lines_of front)) × HasNoFeed piece)
+  pub took : Took source.left now.left (front ++ piece)
+  pub is_ended : IsWholeLines front ⊎ (now.left ≡ Some [])
+  pub puts : (CutsBlock old new (map batch_line (lines_of front)) × (length piece ≤ most_pending))
+      ⊎ (PutsBlocks old new (map batch_line (lines_of front)) × HasNoFeed piece)
 
 -- ---- what comes of words
 
@@ -226,20 +235,27 @@ IsAccepted command status =
     (status ≡ Done) ⊎ ((status ≡ Past) × MayBeLarge command) ⊎ WasCutOff status
     ⊎ ((command ≡ batch) × ((status ≡ SomeRefused) ⊎ (status ≡ SourceFault)))
 
--- words that are refused with this ending and line are refused so, but for want of memory and faults of the sink
-pub record IsRefused {S : Type 0} (written : S → Option (List ℕ)) (count : S → Option ℕ) (old new : S)
-    (ending : Ending) (line : List ℕ) (status : Status) : Type 0 where
+-- words that are refused with this ending are refused so, and then their line was put, but for want of memory and faults of the sink
+pub record IsRefused (ending : Ending) (IsPut : Type 0) (status : Status) : Type 0 where
   pub ends : (status ≡ status_of ending) ⊎ WasCutOff status
-  pub puts : status ≡ status_of ending → Appends written count old new line
+  pub puts : status ≡ status_of ending → IsPut
+
+-- How words are answered, where `IsPut` says that a line was put. Words that spell a command without an offence are answered.
+-- Words with a first offence, and words that are no command, are refused by their own line.
+pub record AnswersWords (words : List (List ℕ)) (IsPut : List ℕ → Type 0) (status : Status) : Type 0 where
+  pub accepted : (command : Command) → SpellsWithoutOffence command_entries words command → IsAccepted command status
+  pub offended : (offence : Offence) → HasFirstOffence command_entries words (Some offence)
+      → IsRefused (ending_of offence.2) (IsPut (offence_line offence)) status
+  pub no_command : (word byte : ℕ) → IsSyntaxPlace command_entries words word byte
+      → IsRefused syntax (IsPut (refusal_line (codes "Syntax") word byte)) status
 
 -- ---- an outcome was put
 
 -- The text of the outcome was put and the sink finished, with the status that goes with it; or the sink failed. The block of an
 -- answer is one that can be read back.
-pub record PutsOutcome {K : Type 0} (written : K → Option (List ℕ)) (count : K → Option ℕ) (faults : K → ℕ) (settled : K → Bool)
-    (old new : K) (outcome : Outcome) (result : Status) : Type 0 where
+pub record PutsOutcome (old new : SinkSeen) (outcome : Outcome) (result : Status) : Type 0 where
   pub well : Bool
-  pub puts : Puts written count faults true old well new (text_of outcome)
-  pub settles : well ≡ true → settled new ≡ true
+  pub puts : Puts true old well new (text_of outcome)
+  pub settles : well ≡ true → new.settled ≡ true
   pub printable : HasBlock outcome
   pub is : result ≡ status_where well (status_for outcome)

@@ -1,8 +1,9 @@
 -- What comes of the generated lines, one after another (this project's own).
-use Rattle.std.specs.Prelude.{◌≡◌, ◌⊎◌, ℕ, ◌+◌, ◌≤◌, List, [], ◌∷◌, Bool, true, map, Option}
+use Rattle.std.specs.Prelude.{◌≡◌, ◌⊎◌, ℕ, ◌+◌, ◌≤◌, List, [], ◌∷◌, Bool, true, map}
 use Rattle.calc_base.specs.declared.status.Status.{Status}
 use Rattle.calc_base.specs.declared.status.Status.TheVariants as status
 use Rattle.calc_base.specs.Puts.{Puts}
+use Rattle.calc_base.specs.Sink.{SinkSeen}
 use Rattle.batch_lines.specs.Ends.{status_where}
 use Rattle.calc_language.specs.BuiltCommands.{batch_entries}
 use Rattle.sym_model.specs.BatchLine.{BatchLine, batch_line}
@@ -35,21 +36,19 @@ pub record AreSumsOf (lines seed : ℕ) (sums : Sums) : Type 0 where
   pub sum_up : sums ≡ sums_over (texts_of blocks)
 
 -- The text of the sums was put and the sink finished; or the sink failed.
-pub record PutsSums {K : Type 0} (written : K → Option (List ℕ)) (count : K → Option ℕ) (faults : K → ℕ) (settled : K → Bool)
-    (old new : K) (sums : Sums) (result : Status) : Type 0 where
+pub record PutsSums (old new : SinkSeen) (sums : Sums) (result : Status) : Type 0 where
   pub well : Bool
-  pub puts : Puts written count faults true old well new (sums_text sums)
-  pub settles : well ≡ true → settled new ≡ true
+  pub puts : Puts true old well new (sums_text sums)
+  pub settles : well ≡ true → new.settled ≡ true
   pub is : result ≡ status_where well status.Done
 
 -- the sums over the blocks of the lines, put
-pub record PutsWork {K : Type 0} (written : K → Option (List ℕ)) (count : K → Option ℕ) (faults : K → ℕ) (settled : K → Bool)
-    (old new : K) (lines seed : ℕ) (result : Status) : Type 0 where
+pub record PutsWork (old new : SinkSeen) (lines seed : ℕ) (result : Status) : Type 0 where
   pub sums : Sums
   pub are : AreSumsOf lines seed sums
-  pub put : PutsSums written count faults settled old new sums result
+  pub put : PutsSums old new sums result
 
--- how `work` ends: the sums were put, or memory was refused and nothing was
-abbrev pub EndsWork : {K : Type 0} → (K → Option (List ℕ)) → (K → Option ℕ) → (K → ℕ) → (K → Bool) → (old new : K) → (lines seed : ℕ) → Status → Type 0
-EndsWork written count faults settled old new lines seed result =
-    ((result ≡ status.NoMemory) × (new ≡ old)) ⊎ PutsWork written count faults settled old new lines seed result
+-- how `work` ends: the sums were put, or memory was refused and the sink was not called
+abbrev pub EndsWork : (old new : SinkSeen) → (Untouched : Type 0) → (lines seed : ℕ) → Status → Type 0
+EndsWork old new Untouched lines seed result =
+    ((result ≡ status.NoMemory) × Untouched) ⊎ PutsWork old new lines seed result

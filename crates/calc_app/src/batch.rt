@@ -42,8 +42,7 @@ enum Turn {
 /// is there whole, the sink hands on what was put before the source is called. A fault of the source ends the run after the lines
 /// that were wholly read, and the sink is finished. Want of memory ends the run.
 pub(crate) fn batch<S: Source, K: Sink>(alloc: Global, source: &mut S, sink: &mut K) -> Status
-    ensures { EndsBatch K.written K.length K.faults K.settled sink.old sink.new (S.left source.old) (S.left source.new)
-        (S.faults source.old) (S.faults source.new) result }
+    ensures { EndsBatch (K.seen sink.old) (K.seen sink.new) (S.seen source.old) (S.seen source.new) (sink.new ≡ sink.old) result }
 {
     let Ok(mut reader) = LineReader::new(alloc) else {
         return Status::NoMemory;
@@ -87,13 +86,13 @@ fn next_turn<S: Source>(
     reader: &mut LineReader,
     source: &mut S,
 ) -> Result<Turn, LineFault>
-    requires { IsAtEnd reader.old.has_ended (S.left source.old) }
-    ensures takes { IfOk result (TakesTurn (S.left source.old) (S.left source.new) (S.allowance source.old) (S.allowance source.new)
+    requires { IsAtEnd reader.old.has_ended (S.seen source.old).left }
+    ensures takes { IfOk result (TakesTurn (S.seen source.old) (S.seen source.new)
         reader.old.pending reader.new.pending reader.new.has_ended) }
-    ensures cuts { CutsTurn (S.left source.old) (S.left source.new) reader.old.pending reader.old.has_ended result }
-    ensures counts { CountsTurn (S.faults source.old) (S.faults source.new) result }
-    ensures later { S.faults source.old ≤ S.faults source.new }
-    ensures took { (taken : List ℕ) × Took (S.left source.old) (S.left source.new) taken }
+    ensures cuts { CutsTurn (S.seen source.old).left (S.seen source.new).left reader.old.pending reader.old.has_ended result }
+    ensures counts { CountsTurn (S.seen source.old).faults (S.seen source.new).faults result }
+    ensures later { (S.seen source.old).faults ≤ (S.seen source.new).faults }
+    ensures took { (taken : List ℕ) × Took (S.seen source.old).left (S.seen source.new).left taken }
     ensures short { IfOk result (λ _. length reader.new.pending ≤ most_pending) }
 {
     match reader.next(source)? {
@@ -157,7 +156,7 @@ fn refused_long() -> Outcome
 /// Puts the block of a line, behind the line `--` where it is not the first one, and answers whether all went well.
 fn put_block<K: Sink>(progress: &mut Progress, outcome: Outcome, sink: &mut K) -> bool
     requires { HasText outcome }
-    ensures goes { Puts K.written K.length K.faults true sink.old result sink.new (separator progress.old.is_first ++ text_of outcome) }
+    ensures goes { Puts true (K.seen sink.old) result (K.seen sink.new) (separator progress.old.is_first ++ text_of outcome) }
     ensures printable { HasBlock outcome }
     ensures counts { progress.new ≡ progress_after progress.old (status_for outcome) }
 {
@@ -170,7 +169,7 @@ fn put_block<K: Sink>(progress: &mut Progress, outcome: Outcome, sink: &mut K) -
 /// Hands on what was put, where no further line is there whole: who sends a line and waits for its block gets it. It answers
 /// whether all went well.
 fn hand_on<K: Sink>(reader: &LineReader, sink: &mut K) -> bool
-    ensures goes { Puts K.written K.length K.faults true sink.old result sink.new [] }
+    ensures goes { Puts true (K.seen sink.old) result (K.seen sink.new) [] }
     ensures none { result ≡ false → HasNoFeed reader.now.pending }
 {
     reader.has_line() || sink.finish().is_ok()
@@ -179,7 +178,7 @@ fn hand_on<K: Sink>(reader: &LineReader, sink: &mut K) -> bool
 /// Puts the line `--`, but not in front of the first block, and then the block, and answers whether all went well.
 fn put_behind<K: Sink>(is_first: bool, outcome: &mut Outcome, sink: &mut K) -> bool
     requires { HasText outcome.old }
-    ensures goes { Puts K.written K.length K.faults true sink.old result sink.new (separator is_first ++ text_of outcome.old) }
+    ensures goes { Puts true (K.seen sink.old) result (K.seen sink.new) (separator is_first ++ text_of outcome.old) }
     ensures printable { HasBlock outcome.old }
 {
     if !put_separator(is_first, sink) {

@@ -1,17 +1,9 @@
 //! The top call.
 
-ghost use Rattle.std.specs.Prelude.{◌≡◌, ◌≢◌, ◌≤◌, ℕ, List, Some, codes, map, string_bytes};
-ghost use Rattle.calc_base.specs.Fault.{Rose};
-ghost use Rattle.sym_model.specs.Command.{Command};
-ghost use Rattle.sym_model.specs.CommandOffence.{Offence};
-ghost use Rattle.sym_model.specs.Ending.{syntax};
-ghost use Rattle.sym_model.specs.Entry.{SpellsWithoutOffence, HasFirstOffence};
-ghost use Rattle.calc_language.specs.BuiltCommands.{command_entries};
-ghost use Rattle.sym_model.specs.Outcome.{ending_of};
-ghost use Rattle.sym_model.specs.RefusalText.{refusal_line, offence_line};
-ghost use Rattle.sym_model.specs.SyntaxPlace.{IsSyntaxPlace};
+ghost use Rattle.std.specs.Prelude.{◌≡◌, ℕ, List, Some, map, string_bytes};
+ghost use Rattle.calc_base.specs.Sink.{Appends};
 ghost use Rattle.calc_replies.specs.Computed.{HasText};
-ghost use Rattle.calc_app.specs.Top.{Leaves, IsEmptied, IsOutcome, RunsLines, PrintsAnswerTo, PrintsLines, CutsLines, IsThrough, IsAccepted, IsRefused, PutsOutcome};
+ghost use Rattle.calc_app.specs.Top.{AnswersWords, CutsLines, HidesNoFault, IsEmptied, IsOutcome, IsThrough, Leaves, PrintsAnswerTo, PrintsLines, PutsOutcome, RunsLines};
 
 use crate::batch::batch;
 use crate::workload::work;
@@ -45,50 +37,35 @@ pub fn run<S: Source, K: Sink>(
 ) -> Status
     // Where the answer is `Done`, the text read back is a canonical list of terms, and that list is what the command that the
     // words spell names, by the defining polynomials; of commands on tableaux the text is what is defined for them.
-    ensures headline { result ≡ Status.Done → (before : List ℕ) → K.written sink.old ≡ Some before
-        → PrintsAnswerTo (map string_bytes words.now) before (S.left source.old) (K.written sink.new) }
+    ensures headline { result ≡ Status.Done → (before : List ℕ) → (K.seen sink.old).written ≡ Some before
+        → PrintsAnswerTo (map string_bytes words.now) before (S.seen source.old).left (K.seen sink.new).written }
 
     // Where a batch was read to its end, the blocks of all its lines were put, and that of each line that was not refused says
     // what the line's command names.
     ensures lines { RunsLines (map string_bytes words.now) → IsThrough result → (before : List ℕ)
-        → K.written sink.old ≡ Some before → PrintsLines before (S.left source.old) (K.written sink.new) }
+        → (K.seen sink.old).written ≡ Some before → PrintsLines before (S.seen source.old).left (K.seen sink.new).written }
 
-    // Where the sink failed in a batch, no line was read behind the one whose block was cut off: the blocks of the lines before
+    // Where the sink failed in a batch, no line was read after the one whose block was cut off: the blocks of the lines before
     // it were put whole.
     ensures cut { RunsLines (map string_bytes words.now) → result ≡ Status.SinkFault
-        → CutsLines K.written K.length sink.old sink.new (S.left source.old) (S.left source.new) }
+        → CutsLines (K.seen sink.old) (K.seen sink.new) (S.seen source.old) (S.seen source.new) }
 
     // By cases on the status: the whole text that is defined for the words, and the sink settled; after a fault of the sink a
     // prefix of it; after a fault of the source that of the lines wholly read, and the sink settled; without memory nothing,
     // or, of a batch, the text of its first lines.
-    ensures leaves { Leaves K.written K.length K.settled sink.old sink.new (S.left source.old) (S.left source.new)
+    ensures leaves { Leaves (K.seen sink.old) (K.seen sink.new) (S.seen source.old) (S.seen source.new) (sink.new ≡ sink.old)
         (RunsLines (map string_bytes words.now)) (IsOutcome (map string_bytes words.now)) result }
 
     // Words that spell a command without an offence are answered, and refused only where a coefficient that is defined for
-    // them is past 2^127 - 1, or their weight is 2^127 or more.
-    ensures accepted { (command : Command) → SpellsWithoutOffence command_entries (map string_bytes words.now) command
-        → IsAccepted command result }
+    // them is past 2^127 - 1, or their weight is 2^127 or more. Words with a first offence, and words that are no command, are
+    // refused by their own line.
+    ensures answers { AnswersWords (map string_bytes words.now) (Appends (K.seen sink.old) (K.seen sink.new)) result }
 
-    // Words with a first offence, and words that are no command, are refused by their own line.
-    ensures offended { (offence : Offence) → HasFirstOffence command_entries (map string_bytes words.now) (Some offence)
-        → IsRefused K.written K.length sink.old sink.new (ending_of offence.2) (offence_line offence) result }
-    ensures no_command { (word byte : ℕ) → IsSyntaxPlace command_entries (map string_bytes words.now) word byte
-        → IsRefused K.written K.length sink.old sink.new syntax (refusal_line (codes "Syntax") word byte) result }
-
-    // No fault is hidden: with `SinkFault` the sink's count of faults rose by exactly one, or stands
-    // at 2^64 - 1, and with every other status it is as it was. It never falls.
-    ensures sink_fault { result ≡ Status.SinkFault → Rose (K.faults sink.old) (K.faults sink.new) }
-    ensures no_fault { result ≢ Status.SinkFault → K.faults sink.new ≡ K.faults sink.old }
-    ensures later { K.faults sink.old ≤ K.faults sink.new }
-
-    // The same of the source, but that a fault of the sink can follow one of the source.
-    ensures source_fault { result ≡ Status.SourceFault → Rose (S.faults source.old) (S.faults source.new) }
-    ensures no_source_fault { result ≢ Status.SourceFault → result ≢ Status.SinkFault
-        → S.faults source.new ≡ S.faults source.old }
-    ensures source_later { S.faults source.old ≤ S.faults source.new }
+    // No fault of the sink or of the source is hidden.
+    ensures faults { HidesNoFault (K.seen sink.old) (K.seen sink.new) (S.seen source.old) (S.seen source.new) result }
 
     // A batch is read to its end, and other commands leave the source as it was.
-    ensures all_read { RunsLines (map string_bytes words.now) → IsThrough result → IsEmptied (S.left source.new) }
+    ensures all_read { RunsLines (map string_bytes words.now) → IsThrough result → IsEmptied (S.seen source.new).left }
     ensures untouched { (RunsLines (map string_bytes words.now) → ⊥) → source.new ≡ source.old }
 {
     match task_of(alloc, words) {
@@ -102,7 +79,7 @@ pub fn run<S: Source, K: Sink>(
 /// Puts what comes of the words of a command and finishes the sink, and answers the status, or that the sink failed.
 fn put_outcome<K: Sink>(outcome: Outcome, sink: &mut K) -> Status
     requires { HasText outcome }
-    ensures { PutsOutcome K.written K.length K.faults K.settled sink.old sink.new outcome result }
+    ensures { PutsOutcome (K.seen sink.old) (K.seen sink.new) outcome result }
 {
     let mut outcome = outcome;
     let status = status_if_put(&outcome);

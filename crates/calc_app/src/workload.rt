@@ -13,12 +13,12 @@ use calc_replies::{Outcome, put_text};
 use schubert_transition::Memo;
 use std::alloc::Global;
 
-/// Runs so many lines of the generator from the seed on, and puts the sums over their blocks.
+/// Runs that many lines of the generator from the seed on, and puts the sums over their blocks.
 ///
 /// One block is kept at a time. Where memory is refused the answer is `NoMemory`, and nothing was put.
 pub fn work<K: Sink>(alloc: Global, lines: u16, seed: u32, sink: &mut K) -> Status
     requires { seed ≤ 65536 }
-    ensures { EndsWork K.written K.length K.faults K.settled sink.old sink.new lines seed result }
+    ensures { EndsWork (K.seen sink.old) (K.seen sink.new) (sink.new ≡ sink.old) lines seed result }
 {
     match sums_of(alloc, lines, seed) {
         Ok(sums) => put_sums(&sums, sink),
@@ -28,7 +28,7 @@ pub fn work<K: Sink>(alloc: Global, lines: u16, seed: u32, sink: &mut K) -> Stat
 
 /// Puts the summary and finishes the sink.
 fn put_sums<K: Sink>(sums: &Sums, sink: &mut K) -> Status
-    ensures { PutsSums K.written K.length K.faults K.settled sink.old sink.new sums.now result }
+    ensures { PutsSums (K.seen sink.old) (K.seen sink.new) sums.now result }
 {
     if !put_summary(sums, sink) {
         return Status::SinkFault;

@@ -1,10 +1,10 @@
 -- What sources and sinks in memory do, over plain lists.
-use Rattle.std.proofs.Common.{◌≡◌, ℕ, zero, suc, ◌+◌, ◌<◌, ◌≤◌, min, max, List, [], ◌∷◌, ◌++◌, length, take, drop, Some, refl, sym, ◌∙◌, ap, arith, length-append}
+use Rattle.std.proofs.Common.{◌≡◌, ℕ, zero, suc, ◌+◌, ◌<◌, ◌≤◌, min, max, List, [], ◌∷◌, ◌++◌, length, take, drop, Some, refl, sym, ◌∙◌, ap, arith, length-append, Bool}
 use Rattle.std.proofs.lemmas.List.{take-append-drop}
 use Rattle.std.proofs.Math.Seq.{take-append_seam}
 use Rattle.std.proofs.lemmas.Grind.{common_steps}
 use Rattle.calc_base.specs.Source.{Takes}
-use Rattle.calc_base.specs.Sink.{greatest_length, AppendsPrefix}
+use Rattle.calc_base.specs.Sink.{greatest_length, seen_bytes, AppendsPrefix}
 
 -- the first bytes of what is left, moved to the front of a buffer
 pub Takes-front : (rest later filled behind buffer : List ℕ) (piece count : ℕ)
@@ -36,16 +36,15 @@ Takes-front rest later filled behind buffer piece count front back whole number 
     nothing (x ∷ xs) e = cc
 
 -- a sink that tells its bytes, which grew by some of the piece
-pub appends_some : {S : Type 0} (bytes : S → List ℕ) (old new : S) (piece : List ℕ) (count : ℕ)
-    → bytes new ≡ bytes old ++ take count piece
-    → AppendsPrefix (λ s. Some (bytes s)) (λ s. Some (min (length (bytes s)) greatest_length)) old new piece
-appends_some bytes old new piece count grew = record {
+pub appends_some : (old new piece : List ℕ) (count was failed : ℕ) (settled finished : Bool) → new ≡ old ++ take count piece
+    → AppendsPrefix (seen_bytes (Some old) was settled) (seen_bytes (Some new) failed finished) piece
+appends_some old new piece count was failed settled finished grew = record {
   front = take count piece;
   is_prefix = record { rest = drop count piece; joined = take-append-drop count piece };
   appends = record {
     bytes = grew;
-    number = ap Some (number (length (bytes old)) (length (take count piece)) (length (bytes new)) greatest_length
-        (ap length grew ∙ length-append (bytes old) (take count piece)));
+    number = ap Some (number (length old) (length (take count piece)) (length new) greatest_length
+        (ap length grew ∙ length-append old (take count piece)));
   };
 }
   where

@@ -6,7 +6,7 @@ use Rattle.std.specs.Prelude.{Result, Ok, Err, is_ok}
 use Rattle.std.specs.Io.KnownBytes.{Appends as Grows}
 use Rattle.std.proofs.KnownBytes.{Appends-trans as Grows-trans, Appends-nil as Grows-nil}
 use Rattle.calc_base.specs.Fault.{counted_up, Rose}
-use Rattle.calc_base.specs.Sink.{greatest_length, IsLonger, Appends, AppendsPrefix}
+use Rattle.calc_base.specs.Sink.{SinkSeen, greatest_length, IsLonger, Appends, AppendsPrefix}
 use Rattle.calc_base.specs.Puts.{Puts, Prints}
 
 -- appending two texts is appending them joined
@@ -29,21 +29,21 @@ longer-nothing (Some n) = ap Some (number-nothing n greatest_length)
 
 -- ---- what one call appended
 
-pub Appends-then : {S : Type 0} {written : S → Option (List ℕ)} {count : S → Option ℕ} {old mid new : S} {a b : List ℕ}
-    → Appends written count old mid a → Appends written count mid new b → Appends written count old new (a ++ b)
-Appends-then {written = written} {count = count} {old = old} {mid = mid} {new = new} {a = a} {b = b} first second = record {
-  bytes = Grows-trans (written old) (written mid) (written new) a b first.bytes second.bytes;
-  number = longer-longer (count old) (count mid) (count new) a b first.number second.number;
+pub Appends-then : {old mid new : SinkSeen} {a b : List ℕ}
+    → Appends old mid a → Appends mid new b → Appends old new (a ++ b)
+Appends-then {old = old} {mid = mid} {new = new} {a = a} {b = b} first second = record {
+  bytes = Grows-trans old.written mid.written new.written a b first.bytes second.bytes;
+  number = longer-longer old.length mid.length new.length a b first.number second.number;
 }
 
-pub Appends-nothing : {S : Type 0} (written : S → Option (List ℕ)) (count : S → Option ℕ) (s : S)
-    → Appends written count s s []
-Appends-nothing written count s = record { bytes = Grows-nil (written s); number = longer-nothing (count s) }
+pub Appends-nothing : (s : SinkSeen)
+    → Appends s s []
+Appends-nothing s = record { bytes = Grows-nil s.written; number = longer-nothing s.length }
 
--- a sink that tells its bytes tells them with the text behind
-pub Appends-told : {S : Type 0} {written : S → Option (List ℕ)} {count : S → Option ℕ} {old new : S} {text : List ℕ} (before : List ℕ)
-    → Appends written count old new text → written old ≡ Some before → written new ≡ Some (before ++ text)
-Appends-told {written = written} {old = old} {new = new} {text = text} before h told = by (written old) (written new) told h.bytes
+-- a sink that tells its bytes tells them with the text after them
+pub Appends-told : {old new : SinkSeen} {text : List ℕ} (before : List ℕ)
+    → Appends old new text → old.written ≡ Some before → new.written ≡ Some (before ++ text)
+Appends-told {old = old} {new = new} {text = text} before h told = by old.written new.written told h.bytes
   where
     by : (a b : Option (List ℕ)) → a ≡ Some before → Grows a b text → b ≡ Some (before ++ text)
     by None b e g = cc
@@ -51,8 +51,8 @@ Appends-told {written = written} {old = old} {new = new} {text = text} before h 
     by (Some x) (Some y) e g = let same : x ≡ before = cc in ap Some (g ∙ ap (λ t. t ++ text) same)
 
 -- a prefix of the first text is one of the two joined
-pub AppendsPrefix-more : {S : Type 0} {written : S → Option (List ℕ)} {count : S → Option ℕ} {old new : S} {a : List ℕ} (b : List ℕ)
-    → AppendsPrefix written count old new a → AppendsPrefix written count old new (a ++ b)
+pub AppendsPrefix-more : {old new : SinkSeen} {a : List ℕ} (b : List ℕ)
+    → AppendsPrefix old new a → AppendsPrefix old new (a ++ b)
 AppendsPrefix-more b cut = record {
   front = cut.front;
   is_prefix = record {
@@ -63,9 +63,9 @@ AppendsPrefix-more b cut = record {
 }
 
 -- the first text whole and a prefix of the second are a prefix of the two joined
-pub AppendsPrefix-then : {S : Type 0} {written : S → Option (List ℕ)} {count : S → Option ℕ} {old mid new : S} {a b : List ℕ}
-    → Appends written count old mid a → AppendsPrefix written count mid new b
-    → AppendsPrefix written count old new (a ++ b)
+pub AppendsPrefix-then : {old mid new : SinkSeen} {a b : List ℕ}
+    → Appends old mid a → AppendsPrefix mid new b
+    → AppendsPrefix old new (a ++ b)
 AppendsPrefix-then {a = a} first cut = record {
   front = a ++ cut.front;
   is_prefix = record {
@@ -75,18 +75,17 @@ AppendsPrefix-then {a = a} first cut = record {
   appends = Appends-then first cut.appends;
 }
 
-pub AppendsPrefix-whole : {S : Type 0} {written : S → Option (List ℕ)} {count : S → Option ℕ} {old new : S} {a : List ℕ}
-    → Appends written count old new a → AppendsPrefix written count old new a
+pub AppendsPrefix-whole : {old new : SinkSeen} {a : List ℕ}
+    → Appends old new a → AppendsPrefix old new a
 AppendsPrefix-whole {a = a} all = record { front = a; is_prefix = record { rest = []; joined = append-nil a }; appends = all }
 
 -- ---- what several calls appended
 
 -- two texts, one after the other
-pub Puts-then : {S : Type 0} {written : S → Option (List ℕ)} {count : S → Option ℕ} {faults : S → ℕ}
-    {before mid now : Bool} {old between new : S} {a b : List ℕ}
-    → Puts written count faults before old mid between a → Puts written count faults mid between now new b
-    → Puts written count faults before old now new (a ++ b)
-Puts-then {S = S} {written = written} {count = count} {faults = faults} {before = before} {mid = mid} {now = now}
+pub Puts-then : {before mid now : Bool} {old between new : SinkSeen} {a b : List ℕ}
+    → Puts before old mid between a → Puts mid between now new b
+    → Puts before old now new (a ++ b)
+Puts-then {before = before} {mid = mid} {now = now}
     {old = old} {between = between} {new = new} {a = a} {b = b} first second = record {
       whole = λ well. let went : mid ≡ true = goes_on mid now second.ill well in
           Appends-then (first.whole went) (second.whole well);
@@ -103,32 +102,31 @@ Puts-then {S = S} {written = written} {count = count} {faults = faults} {before 
     goes_on true n h well = refl
     goes_on false n h well = let stopped : n ≡ false = h refl in cc
 
-    by_cut : (m : Bool) → mid ≡ m → before ≡ true → now ≡ false → AppendsPrefix written count old new (a ++ b)
+    by_cut : (m : Bool) → mid ≡ m → before ≡ true → now ≡ false → AppendsPrefix old new (a ++ b)
     by_cut true went began ended = AppendsPrefix-then (first.whole went) (second.cut went ended)
     by_cut false went began ended =
-        let P : S → Type 0 = λ s. AppendsPrefix written count old s (a ++ b) in
+        let P : SinkSeen → Type 0 = λ s. AppendsPrefix old s (a ++ b) in
         subst P (sym (second.untouched went)) (AppendsPrefix-more b (first.cut began went))
 
-    by_rose : (m : Bool) → mid ≡ m → before ≡ true → now ≡ false → Rose (faults old) (faults new)
+    by_rose : (m : Bool) → mid ≡ m → before ≡ true → now ≡ false → Rose old.faults new.faults
     by_rose true went began ended =
         second.rose went ended ∙ ap counted_up (first.still went)
     by_rose false went began ended =
-        ap faults (second.untouched went) ∙ first.rose began went
+        ap (λ (s : SinkSeen). s.faults) (second.untouched went) ∙ first.rose began went
 
 -- the same text, written otherwise
-pub Puts-as : {S : Type 0} {written : S → Option (List ℕ)} {count : S → Option ℕ} {faults : S → ℕ}
-    {before now : Bool} {old new : S} {a b : List ℕ} → a ≡ b
-    → Puts written count faults before old now new a → Puts written count faults before old now new b
-Puts-as {written = written} {count = count} {faults = faults} {before = before} {now = now} {old = old} {new = new} same goes =
-    let P : List ℕ → Type 0 = λ t. Puts written count faults before old now new t in subst P same goes
+pub Puts-as : {before now : Bool} {old new : SinkSeen} {a b : List ℕ} → a ≡ b
+    → Puts before old now new a → Puts before old now new b
+Puts-as {before = before} {now = now} {old = old} {new = new} same goes =
+    let P : List ℕ → Type 0 = λ t. Puts before old now new t in subst P same goes
 
 -- nothing was put
-pub Puts-nothing : {S : Type 0} (written : S → Option (List ℕ)) (count : S → Option ℕ) (faults : S → ℕ) (before : Bool) (s : S)
-    → Puts written count faults before s before s []
-Puts-nothing written count faults before s = record {
-  whole = λ well. Appends-nothing written count s;
+pub Puts-nothing : (before : Bool) (s : SinkSeen)
+    → Puts before s before s []
+Puts-nothing before s = record {
+  whole = λ well. Appends-nothing s;
   still = λ well. refl;
-  cut = λ began ended. AppendsPrefix-whole (Appends-nothing written count s);
+  cut = λ began ended. AppendsPrefix-whole (Appends-nothing s);
   rose = λ began ended. let clash : true ≡ false = sym began ∙ ended in cc;
   later = omega arith;
   untouched = λ ill. refl;
@@ -136,10 +134,9 @@ Puts-nothing written count faults before s = record {
 }
 
 -- a printer that began well, and answers whether it ended so
-pub Puts-prints : {S E : Type 0} {written : S → Option (List ℕ)} {count : S → Option ℕ} {faults : S → ℕ}
-    {now : Bool} {old new : S} {text : List ℕ} (result : Result (Unit {0}) E)
-    → Puts written count faults true old now new text → is_ok result ≡ now
-    → Prints written count faults old new text result
+pub Puts-prints : {E : Type 0} {now : Bool} {old new : SinkSeen} {text : List ℕ} (result : Result (Unit {0}) E)
+    → Puts true old now new text → is_ok result ≡ now
+    → Prints old new text result
 Puts-prints {now = now} (Ok x) goes answer =
     let well : now ≡ true = sym answer in
     record { whole = goes.whole well; cut = tt; counted = record { still = goes.still well; rose = tt; later = goes.later } }
@@ -148,16 +145,15 @@ Puts-prints {now = now} (Err e) goes answer =
     record { whole = tt; cut = goes.cut refl ended; counted = record { still = tt; rose = goes.rose refl ended; later = goes.later } }
 
 -- a text and then the finish of the sink
-pub Puts-finished : {S : Type 0} {written : S → Option (List ℕ)} {count : S → Option ℕ} {faults : S → ℕ}
-    {before mid now : Bool} {old between new : S} {text : List ℕ}
-    → Puts written count faults before old mid between text → Puts written count faults mid between now new []
-    → Puts written count faults before old now new text
+pub Puts-finished : {before mid now : Bool} {old between new : SinkSeen} {text : List ℕ}
+    → Puts before old mid between text → Puts mid between now new []
+    → Puts before old now new text
 Puts-finished {text = text} first finish = Puts-as (append-nil text) (Puts-then first finish)
 
 -- after a fault nothing more is put, whatever the text
-pub Puts-stopped : {S : Type 0} (written : S → Option (List ℕ)) (count : S → Option ℕ) (faults : S → ℕ) (s : S) (text : List ℕ)
-    → Puts written count faults false s false s text
-Puts-stopped written count faults s text = record {
+pub Puts-stopped : (s : SinkSeen) (text : List ℕ)
+    → Puts false s false s text
+Puts-stopped s text = record {
   whole = λ well. let clash : false ≡ true = well in cc;
   still = λ well. refl;
   cut = λ began ended. let clash : false ≡ true = began in cc;

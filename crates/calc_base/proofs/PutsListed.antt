@@ -3,30 +3,30 @@ use Rattle.std.proofs.Common.{◌≡◌, ℕ, List, [], ◌++◌, Option, Some, 
 use Rattle.std.specs.List.{flat_map}
 use Rattle.std.specs.Option.{option_to_list}
 use Rattle.calc_base.specs.Puts.{Puts}
+use Rattle.calc_base.specs.Sink.{SinkSeen}
 use Rattle.calc_base.proofs.PutsLaws.{Puts-then, Puts-as, Puts-nothing, Puts-stopped}
 
 -- The first of all items went to the sink, and those left are still to go.
-pub record PutsUpTo {S X : Type 0} (written : S → Option (List ℕ)) (count : S → Option ℕ) (faults : S → ℕ)
-    (before : Bool) (old : S) (now : Bool) (new : S) (text : X → List ℕ) (all left : List X) : Type 0 where
+pub record PutsUpTo {X : Type 0} (before : Bool) (old : SinkSeen) (now : Bool) (new : SinkSeen)
+    (text : X → List ℕ) (all left : List X) : Type 0 where
   pub front : List ℕ
-  pub goes : Puts written count faults before old now new front
+  pub goes : Puts before old now new front
   pub joined : front ++ flat_map text left ≡ flat_map text all
 
-pub PutsUpTo-start : {S X : Type 0} (written : S → Option (List ℕ)) (count : S → Option ℕ) (faults : S → ℕ) (before : Bool) (s : S)
-    (text : X → List ℕ) (all : List X) → PutsUpTo written count faults before s before s text all all
-PutsUpTo-start written count faults before s text all = record {
+pub PutsUpTo-start : {X : Type 0} (before : Bool) (s : SinkSeen)
+    (text : X → List ℕ) (all : List X) → PutsUpTo before s before s text all all
+PutsUpTo-start before s text all = record {
   front = [];
-  goes = Puts-nothing written count faults before s;
+  goes = Puts-nothing before s;
   joined = refl;
 }
 
 -- an item was listed, and went to the sink
-pub PutsUpTo-more : {S X : Type 0} {written : S → Option (List ℕ)} {count : S → Option ℕ} {faults : S → ℕ}
-    {before mid now : Bool} {old between new : S} (text : X → List ℕ) (all listed left : List X) (item : Option X) (x : X)
-    → PutsUpTo written count faults before old mid between text all listed
+pub PutsUpTo-more : {X : Type 0} {before mid now : Bool} {old between new : SinkSeen} (text : X → List ℕ) (all listed left : List X) (item : Option X) (x : X)
+    → PutsUpTo before old mid between text all listed
     → listed ≡ option_to_list item ++ left → item ≡ Some x
-    → Puts written count faults mid between now new (text x)
-    → PutsUpTo written count faults before old now new text all left
+    → Puts mid between now new (text x)
+    → PutsUpTo before old now new text all left
 PutsUpTo-more text all listed left item x so_far next current goes = record {
   front = so_far.front ++ text x;
   goes = Puts-then so_far.goes goes;
@@ -36,19 +36,17 @@ PutsUpTo-more text all listed left item x so_far next current goes = record {
 }
 
 -- nothing is left
-pub PutsUpTo-all : {S X : Type 0} {written : S → Option (List ℕ)} {count : S → Option ℕ} {faults : S → ℕ}
-    {before now : Bool} {old new : S} (text : X → List ℕ) (all left : List X)
-    → PutsUpTo written count faults before old now new text all left → left ≡ []
-    → Puts written count faults before old now new (flat_map text all)
+pub PutsUpTo-all : {X : Type 0} {before now : Bool} {old new : SinkSeen} (text : X → List ℕ) (all left : List X)
+    → PutsUpTo before old now new text all left → left ≡ []
+    → Puts before old now new (flat_map text all)
 PutsUpTo-all text all left so_far none =
     Puts-as (sym (append-nil so_far.front) ∙ ap (λ items. so_far.front ++ flat_map text items) (sym none) ∙ so_far.joined)
     so_far.goes
 
 -- a fault came
-pub PutsUpTo-stopped : {S X : Type 0} {written : S → Option (List ℕ)} {count : S → Option ℕ} {faults : S → ℕ}
-    {before now : Bool} {old new : S} (text : X → List ℕ) (all left : List X)
-    → PutsUpTo written count faults before old now new text all left → now ≡ false
-    → Puts written count faults before old now new (flat_map text all)
-PutsUpTo-stopped {written = written} {count = count} {faults = faults} {before = before} {now = now} {old = old} {new = new} text all left so_far ill =
+pub PutsUpTo-stopped : {X : Type 0} {before now : Bool} {old new : SinkSeen} (text : X → List ℕ) (all left : List X)
+    → PutsUpTo before old now new text all left → now ≡ false
+    → Puts before old now new (flat_map text all)
+PutsUpTo-stopped {before = before} {now = now} {old = old} {new = new} text all left so_far ill =
     Puts-as so_far.joined (Puts-then so_far.goes
-    (subst (λ b. Puts written count faults b new b new (flat_map text left)) (sym ill) (Puts-stopped written count faults new (flat_map text left))))
+    (subst (λ b. Puts b new b new (flat_map text left)) (sym ill) (Puts-stopped new (flat_map text left))))

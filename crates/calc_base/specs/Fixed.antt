@@ -1,7 +1,7 @@
 -- A sink into a lent buffer, as its contracts see it (this project's own).
-use Rattle.std.specs.Prelude.{ℕ, ◌-◌, List, ◌++◌, length, take, min, Option, Some, Bool, false, nat_lt}
+use Rattle.std.specs.Prelude.{ℕ, ◌-◌, List, ◌++◌, length, take, Some, Bool, false, nat_lt}
 use Rattle.calc_base.specs.Fault.{faults_after}
-use Rattle.calc_base.specs.Sink.{greatest_length}
+use Rattle.calc_base.specs.Sink.{SinkSeen, seen_bytes}
 
 -- the bytes so far, for how many there is room in all, how often a put failed, and whether the last call finished the sink
 pub record Fixed : Type 0 where
@@ -22,6 +22,6 @@ fixed_after_put s piece = record s {
   finished = false;
 }
 
--- the number of bytes, which a fixed sink tells
-abbrev pub fixed_length : Fixed → Option ℕ
-fixed_length s = Some (min (length s.bytes) greatest_length)
+-- it tells its bytes
+abbrev pub fixed_seen : Fixed → SinkSeen
+fixed_seen s = seen_bytes (Some s.bytes) s.failed s.finished

@@ -1,7 +1,15 @@
--- What a sink has taken so far, and what it is for a call to append a text. Each is said where the sink tells it.
-use Rattle.std.specs.Prelude.{◌≡◌, ℕ, ◌+◌, ◌-◌, ◌^◌, min, max, List, ◌++◌, length, Option, IfSome, Some, None, refl}
+-- What a sink shows of itself, and what it is for a call to append a text. What is shown of the bytes is said where the sink tells it.
+use Rattle.std.specs.Prelude.{◌≡◌, ℕ, ◌+◌, ◌-◌, ◌^◌, min, max, List, ◌++◌, length, Bool, Option, IfSome, Some, None, refl}
 use Rattle.std.specs.Option.{option_map}
 use Rattle.std.specs.Io.KnownBytes.{Appends as Grows}
+
+-- What a sink shows: the bytes so far, where it tells them; their number, or 2^128 - 1 where there are more, told wherever the
+-- bytes are; how often a call failed; and whether the last call was a finish that went well, so that nothing waits in the sink.
+pub record SinkSeen : Type 0 where
+  pub written : Option (List ℕ)
+  pub length : Option ℕ
+  pub faults : ℕ
+  pub settled : Bool
 
 -- the greatest number of bytes that a sink tells
 abbrev pub greatest_length : ℕ
@@ -16,10 +24,14 @@ IsLonger (Some n) now text = now ≡ Some (max n (min (n + length text) greatest
 abbrev pub number_told : Option (List ℕ) → Option ℕ
 number_told told = option_map (λ bytes. min (length bytes) greatest_length) told
 
+-- what a sink shows that tells these bytes, where they are known, and their number
+abbrev pub seen_bytes : Option (List ℕ) → (faults : ℕ) → (settled : Bool) → SinkSeen
+seen_bytes told faults settled = record { written = told; length = number_told told; faults = faults; settled = settled }
+
 -- a call appended the text: what the sink tells grew by it
-pub record Appends {S : Type 0} (written : S → Option (List ℕ)) (count : S → Option ℕ) (old new : S) (text : List ℕ) : Type 0 where
-  pub bytes : Grows (written old) (written new) text
-  pub number : IsLonger (count old) (count new) text
+pub record Appends (old new : SinkSeen) (text : List ℕ) : Type 0 where
+  pub bytes : Grows old.written new.written text
+  pub number : IsLonger old.length new.length text
 
 -- a text begins with another
 pub record IsPrefix (front text : List ℕ) : Type 0 where
@@ -27,10 +39,10 @@ pub record IsPrefix (front text : List ℕ) : Type 0 where
   pub joined : front ++ rest ≡ text
 
 -- a call appended a prefix of the text
-pub record AppendsPrefix {S : Type 0} (written : S → Option (List ℕ)) (count : S → Option ℕ) (old new : S) (text : List ℕ) : Type 0 where
+pub record AppendsPrefix (old new : SinkSeen) (text : List ℕ) : Type 0 where
   pub front : List ℕ
   pub is_prefix : IsPrefix front text
-  pub appends : Appends written count old new front
+  pub appends : Appends old new front
 
 -- where the bytes are told, so is their number
 abbrev pub IsCounted : Option (List ℕ) → Option ℕ → Type 0

@@ -1,5 +1,5 @@
 -- The exit codes.
-use Rattle.std.specs.Prelude.{ℕ}
+use Rattle.std.specs.Prelude.{◌≡◌, ℕ}
 use Rattle.calc_base.specs.declared.status.Status.{Status}
 use Rattle.calc_base.specs.declared.status.Status.TheVariants.{Done, SomeRefused, Syntax, Range, Past, SinkFault, SourceFault, NoMemory}
 
@@ -13,3 +13,9 @@ code_of Past = 4
 code_of SinkFault = 5
 code_of SourceFault = 6
 code_of NoMemory = 7
+
+-- the code is that of such a status
+pub record IsCodeOf (P : Status → Type 0) (code : ℕ) : Type 0 where
+  pub status : Status
+  pub is : code ≡ code_of status
+  pub holds : P status

@@ -1,7 +1,7 @@
 -- A sink in memory, as its contracts see it.
-use Rattle.std.specs.Prelude.{ℕ, ◌-◌, List, [], ◌++◌, length, take, min, Option, Some, cond, Bool, false, not, ◌||◌, nat_lt}
+use Rattle.std.specs.Prelude.{ℕ, ◌-◌, List, [], ◌++◌, length, take, Some, cond, Bool, false, not, ◌||◌, nat_lt}
 use Rattle.calc_base.specs.Fault.{counted_up, faults_after}
-use Rattle.calc_base.specs.Sink.{greatest_length}
+use Rattle.calc_base.specs.Sink.{SinkSeen, seen_bytes}
 use Rattle.calc_base.specs.Supply.{is_listed}
 
 -- the bytes so far, for how many there is room in all, the calls that fail, how many calls and faults there were, and
@@ -14,9 +14,9 @@ pub record Store : Type 0 where
   pub failed : ℕ
   pub finished : Bool
 
--- the number of bytes, which a store tells
-abbrev pub told_length : Store → Option ℕ
-told_length s = Some (min (length s.bytes) greatest_length)
+-- it tells its bytes
+abbrev pub store_seen : Store → SinkSeen
+store_seen s = seen_bytes (Some s.bytes) s.failed s.finished
 
 -- whether the next call fails whatever it is
 abbrev pub fails_now : Store → Bool

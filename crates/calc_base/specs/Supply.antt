@@ -1,7 +1,8 @@
 -- A source in memory, as its contracts see it.
-use Rattle.std.specs.Prelude.{ℕ, List, ◌++◌, length, take, drop, min, Bool, Result, Ok, Err, ◌==◌}
+use Rattle.std.specs.Prelude.{ℕ, List, ◌++◌, length, take, drop, min, Bool, Some, Result, Ok, Err, ◌==◌}
 use Rattle.std.specs.List.{list_any}
 use Rattle.calc_base.specs.Fault.{counted_up}
+use Rattle.calc_base.specs.Source.{SourceSeen}
 
 -- the bytes that are left, how many one call gives at most, the calls that fail, and how many calls and faults there were
 pub record Supply : Type 0 where
@@ -10,6 +11,10 @@ pub record Supply : Type 0 where
   pub fails : List ℕ
   pub calls : ℕ
   pub failed : ℕ
+
+-- it tells the bytes that are left, and their number is its allowance
+abbrev pub supply_seen : Supply → SourceSeen
+supply_seen s = record { left = Some s.rest; allowance = length s.rest; faults = s.failed }
 
 -- whether a call is one of those that fail
 abbrev pub is_listed : List ℕ → ℕ → Bool

@@ -1,8 +1,8 @@
 //! A sink that counts the bytes and keeps none.
-ghost use Rattle.std.specs.Prelude.{◌≡◌, [], None, Some, false, true, OnOk, OnErr, IsOk, is_ok};
+ghost use Rattle.std.specs.Prelude.{◌≡◌, [], false, true, OnOk, OnErr, IsOk, is_ok};
 ghost use Rattle.calc_base.specs.Fault.{CountsFaults};
 ghost use Rattle.calc_base.specs.Sink.{Appends, AppendsPrefix};
-ghost use Rattle.calc_base.specs.Tally.{Tally, tally_after_put};
+ghost use Rattle.calc_base.specs.Tally.{Tally, tally_seen, tally_after_put};
 
 use crate::{Sink, SinkFault};
 use std::marker::Model;
@@ -40,20 +40,12 @@ impl CountSink {
 }
 
 impl Sink for CountSink {
-    ghost written = { λ _. None };
-
-    ghost length = { λ s. Some s.count };
-
-    ghost faults = { λ _. 0 };
-
-    ghost settled = { λ s. s.finished };
+    ghost seen = { tally_seen };
 
     fn put(&mut self, bytes: &[u8]) -> Result<(), SinkFault>
         // What each sink owes.
-        ensures ok { OnOk result
-            (Appends (λ _. None) (λ s. Some s.count) self.old self.new bytes.now) }
-        ensures err { OnErr result
-            (AppendsPrefix (λ _. None) (λ s. Some s.count) self.old self.new bytes.now) }
+        ensures ok { OnOk result (Appends (tally_seen self.old) (tally_seen self.new) bytes.now) }
+        ensures err { OnErr result (AppendsPrefix (tally_seen self.old) (tally_seen self.new) bytes.now) }
         ensures counts { CountsFaults 0 0 result }
         ensures settled { self.new.finished ≡ false }
 
@@ -68,7 +60,7 @@ impl Sink for CountSink {
 
     fn finish(&mut self) -> Result<(), SinkFault>
         // What each sink owes.
-        ensures same { Appends (λ _. None) (λ s. Some s.count) self.old self.new [] }
+        ensures same { Appends (tally_seen self.old) (tally_seen self.new) [] }
         ensures counts { CountsFaults 0 0 result }
         ensures settled { self.new.finished ≡ is_ok result }
 

@@ -1,8 +1,8 @@
 //! A sink into a lent buffer.
-ghost use Rattle.std.specs.Prelude.{◌≡◌, ◌≤◌, ◌+◌, ◌-◌, ◌++◌, min, [], Some, false, true, OnOk, OnErr, IsOk, is_ok, is_err, take, length as list_length, refl};
+ghost use Rattle.std.specs.Prelude.{◌≡◌, ◌≤◌, ◌+◌, ◌-◌, ◌++◌, min, [], false, true, OnOk, OnErr, IsOk, is_ok, is_err, take, length as list_length, refl};
 ghost use Rattle.calc_base.specs.Fault.{CountsFaults};
 ghost use Rattle.calc_base.specs.Sink.{Appends, AppendsPrefix};
-ghost use Rattle.calc_base.specs.Fixed.{Fixed, is_too_long, fixed_after_put, fixed_length};
+ghost use Rattle.calc_base.specs.Fixed.{Fixed, fixed_seen, is_too_long, fixed_after_put};
 
 use crate::{Sink, SinkFault};
 use std::marker::Model;
@@ -63,20 +63,12 @@ impl<'a> FixedSink<'a> {
 }
 
 impl<'a> Sink for FixedSink<'a> {
-    ghost written = { λ s. Some s.bytes };
-
-    ghost length = { fixed_length };
-
-    ghost faults = { λ s. s.failed };
-
-    ghost settled = { λ s. s.finished };
+    ghost seen = { fixed_seen };
 
     fn put(&mut self, bytes: &[u8]) -> Result<(), SinkFault>
         // What each sink owes.
-        ensures ok { OnOk result
-            (Appends (λ s. Some s.bytes) fixed_length self.old self.new bytes.now) }
-        ensures err { OnErr result
-            (AppendsPrefix (λ s. Some s.bytes) fixed_length self.old self.new bytes.now) }
+        ensures ok { OnOk result (Appends (fixed_seen self.old) (fixed_seen self.new) bytes.now) }
+        ensures err { OnErr result (AppendsPrefix (fixed_seen self.old) (fixed_seen self.new) bytes.now) }
         ensures counts { CountsFaults self.old.failed self.new.failed result }
         ensures settled { self.new.finished ≡ false }
 
@@ -96,7 +88,7 @@ impl<'a> Sink for FixedSink<'a> {
 
     fn finish(&mut self) -> Result<(), SinkFault>
         // What each sink owes.
-        ensures same { Appends (λ s. Some s.bytes) fixed_length self.old self.new [] }
+        ensures same { Appends (fixed_seen self.old) (fixed_seen self.new) [] }
         ensures counts { CountsFaults self.old.failed self.new.failed result }
         ensures settled { self.new.finished ≡ is_ok result }
 
@@ -111,7 +103,7 @@ impl<'a> Sink for FixedSink<'a> {
     ghost counted = { λ s. refl };
 }
 
-/// Copies the bytes behind those that are filled, as many as there is room for, and answers how many.
+/// Copies the bytes after those that are filled, as many as there is room for, and answers how many.
 fn copy_what_fits(buffer: &mut [u8], filled: usize, bytes: &[u8]) -> usize
     requires { filled ≤ list_length buffer.old }
     ensures count { result ≡ min (list_length buffer.old - filled) (list_length bytes.now) }

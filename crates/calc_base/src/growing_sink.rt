@@ -2,7 +2,7 @@
 ghost use Rattle.std.specs.Prelude.{◌≡◌, [], false, OnOk, OnErr, is_ok, refl};
 ghost use Rattle.calc_base.specs.Fault.{CountsFaults};
 ghost use Rattle.calc_base.specs.Sink.{Appends, AppendsPrefix};
-ghost use Rattle.calc_base.specs.Growing.{growing_bytes, growing_length};
+ghost use Rattle.calc_base.specs.Growing.{growing_seen};
 
 use crate::{Sink, SinkFault};
 use std::alloc::Global;
@@ -56,17 +56,11 @@ impl GrowingSink {
 }
 
 impl Sink for GrowingSink {
-    ghost written = { growing_bytes };
-
-    ghost length = { growing_length };
-
-    ghost faults = { λ t. t.failed };
-
-    ghost settled = { λ t. t.finished };
+    ghost seen = { growing_seen };
 
     fn put(&mut self, bytes: &[u8]) -> Result<(), SinkFault>
-        ensures ok { OnOk result (Appends growing_bytes growing_length self.old self.new bytes.now) }
-        ensures err { OnErr result (AppendsPrefix growing_bytes growing_length self.old self.new bytes.now) }
+        ensures ok { OnOk result (Appends (growing_seen self.old) (growing_seen self.new) bytes.now) }
+        ensures err { OnErr result (AppendsPrefix (growing_seen self.old) (growing_seen self.new) bytes.now) }
         ensures counts { CountsFaults self.old.failed self.new.failed result }
         ensures settled { self.new.finished ≡ false }
     {
@@ -79,7 +73,7 @@ impl Sink for GrowingSink {
     }
 
     fn finish(&mut self) -> Result<(), SinkFault>
-        ensures same { Appends growing_bytes growing_length self.old self.new [] }
+        ensures same { Appends (growing_seen self.old) (growing_seen self.new) [] }
         ensures counts { CountsFaults self.old.failed self.new.failed result }
         ensures settled { self.new.finished ≡ is_ok result }
     {

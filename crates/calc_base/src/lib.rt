@@ -1,5 +1,13 @@
 //! What the calculator stands on outside of itself: where bytes come from and go, how a list is given item by item,
 //! and the plain types that its crates share.
+//!
+//! What is proved:
+//!
+//! The traits `Source`, `Sink`, `Lister`; sources and sinks in memory do exactly what their records
+//! say, and fail at exactly the calls that were chosen; `StdIn` and `StdOut` meet the traits, and
+//! where `StdOut` is settled nothing waits in its buffer; every call that succeeds leaves the count
+//! of faults as it was, and one that fails counts one; the writing tool puts a text whole or a
+//! prefix of it.
 #![tactic(auto)]
 
 mod calls;

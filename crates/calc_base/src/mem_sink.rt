@@ -1,8 +1,8 @@
 //! A sink into memory, which fails at chosen calls and where its room ends.
-ghost use Rattle.std.specs.Prelude.{◌≡◌, ◌≤◌, [], Some, false, IfOk, OnOk, OnErr, is_ok, is_err, refl, length as list_length, vec_capacity};
+ghost use Rattle.std.specs.Prelude.{◌≡◌, ◌≤◌, [], false, IfOk, OnOk, OnErr, is_ok, is_err, refl, length as list_length, vec_capacity};
 ghost use Rattle.calc_base.specs.Fault.{CountsFaults};
 ghost use Rattle.calc_base.specs.Sink.{Appends, AppendsPrefix};
-ghost use Rattle.calc_base.specs.Store.{Store, told_length, fails_now, put_fails, after_put, after_finish};
+ghost use Rattle.calc_base.specs.Store.{Store, store_seen, fails_now, put_fails, after_put, after_finish};
 
 use crate::calls::Calls;
 use crate::{NoMemory, Sink, SinkFault};
@@ -34,7 +34,7 @@ impl Model for MemSink {
 }
 
 impl MemSink {
-    /// An empty sink with room for so many bytes, which it takes now. A call of `put` or `finish` fails where its
+    /// An empty sink with this room, which it takes now. A call of `put` or `finish` fails where its
     /// number, from 0, is in `fails`, and a `put` also where its piece is longer than the room left.
     pub fn new(alloc: Global, room: usize, fails: &[u64]) -> Result<MemSink, NoMemory>
         ensures { IfOk result (λ sink. sink ≡ record {
@@ -70,20 +70,12 @@ impl MemSink {
 }
 
 impl Sink for MemSink {
-    ghost written = { λ s. Some s.bytes };
-
-    ghost length = { told_length };
-
-    ghost faults = { λ s. s.failed };
-
-    ghost settled = { λ s. s.finished };
+    ghost seen = { store_seen };
 
     fn put(&mut self, bytes: &[u8]) -> Result<(), SinkFault>
         // What each sink owes.
-        ensures ok { OnOk result
-            (Appends (λ s. Some s.bytes) told_length self.old self.new bytes.now) }
-        ensures err { OnErr result
-            (AppendsPrefix (λ s. Some s.bytes) told_length self.old self.new bytes.now) }
+        ensures ok { OnOk result (Appends (store_seen self.old) (store_seen self.new) bytes.now) }
+        ensures err { OnErr result (AppendsPrefix (store_seen self.old) (store_seen self.new) bytes.now) }
         ensures counts { CountsFaults self.old.failed self.new.failed result }
         ensures settled { self.new.finished ≡ false }
 
@@ -109,7 +101,7 @@ impl Sink for MemSink {
 
     fn finish(&mut self) -> Result<(), SinkFault>
         // What each sink owes.
-        ensures same { Appends (λ s. Some s.bytes) told_length self.old self.new [] }
+        ensures same { Appends (store_seen self.old) (store_seen self.new) [] }
         ensures counts { CountsFaults self.old.failed self.new.failed result }
         ensures settled { self.new.finished ≡ is_ok result }
 

@@ -3,7 +3,7 @@ ghost use Rattle.std.specs.Prelude.{◌≡◌, ◌<◌, ◌≤◌, Some, length,
 ghost use Rattle.std.specs.Io.KnownBytes.{Keeps};
 ghost use Rattle.calc_base.specs.Fault.{CountsFaults};
 ghost use Rattle.calc_base.specs.Source.{Takes, Spends};
-ghost use Rattle.calc_base.specs.Supply.{Supply, is_listed, given_count, after_take, filled_buffer};
+ghost use Rattle.calc_base.specs.Supply.{Supply, supply_seen, is_listed, given_count, after_take, filled_buffer};
 
 use crate::calls::Calls;
 use crate::{NoMemory, Source, SourceFault};
@@ -67,11 +67,7 @@ impl MemSource {
 }
 
 impl Source for MemSource {
-    ghost left = { λ s. Some s.rest };
-
-    ghost allowance = { λ s. length s.rest };
-
-    ghost faults = { λ s. s.failed };
+    ghost seen = { supply_seen };
 
     fn take(&mut self, buf: &mut [u8]) -> Result<usize, SourceFault>
         requires { 0 < length buf.old }

@@ -3,7 +3,7 @@ ghost use Rattle.std.specs.Prelude.{◌≡◌, ◌+◌, ◌^◌, ◌<◌, length
 ghost use Rattle.std.specs.Io.KnownBytes.{Keeps};
 ghost use Rattle.calc_base.specs.Fault.{CountsFaults};
 ghost use Rattle.calc_base.specs.Source.{Takes, Spends};
-ghost use Rattle.calc_base.specs.Edge.{Intake};
+ghost use Rattle.calc_base.specs.Edge.{Intake, intake_seen};
 
 use crate::{Source, SourceFault};
 use std::io::Read;
@@ -40,11 +40,7 @@ impl<R> StdIn<R> {
 }
 
 impl<R: Read> Source for StdIn<R> {
-    ghost left = { λ s. R.remaining s.reader };
-
-    ghost allowance = { λ s. s.allowance };
-
-    ghost faults = { λ s. s.failed };
+    ghost seen = { intake_seen R.remaining };
 
     /// Reads once. A read that fails is the fault, and so is a call with no allowance left.
     fn take(&mut self, buf: &mut [u8]) -> Result<usize, SourceFault>

@@ -4,8 +4,8 @@ ghost use Rattle.std.specs.Bool.{OnTrue};
 ghost use Rattle.std.specs.Io.KnownBytes.{Appends as WriterAppends};
 ghost use Rattle.std.specs.Io.Buffered.{writer_inner, writer_buffer};
 ghost use Rattle.calc_base.specs.Fault.{CountsFaults};
-ghost use Rattle.calc_base.specs.Sink.{Appends, AppendsPrefix, IsPrefix, number_told, counts_told};
-ghost use Rattle.calc_base.specs.Edge.{Outlet, told_bytes, is_handed_on};
+ghost use Rattle.calc_base.specs.Sink.{Appends, AppendsPrefix, IsPrefix, counts_told};
+ghost use Rattle.calc_base.specs.Edge.{Outlet, outlet_seen, told_bytes, is_handed_on};
 
 use crate::{Sink, SinkFault};
 use std::io::{BufWriter, Write};
@@ -45,22 +45,14 @@ impl<W: Write + Drop> StdOut<W> {
 }
 
 impl<W: Write + Drop> Sink for StdOut<W> {
-    ghost written = { λ s. told_bytes W.contents s };
-
-    ghost length = { λ s. number_told (told_bytes W.contents s) };
-
-    ghost faults = { λ s. s.failed };
-
     /// Where it is settled, nothing waits in the buffer.
-    ghost settled = { λ s. is_handed_on s };
+    ghost seen = { outlet_seen W.contents };
 
     /// Writes until all is written. A write that fails, or takes nothing of what is left, is the fault.
     fn put(&mut self, bytes: &[u8]) -> Result<(), SinkFault>
         // What each sink owes.
-        ensures ok { OnOk result
-            (Appends (λ s. told_bytes W.contents s) (λ s. number_told (told_bytes W.contents s)) self.old self.new bytes.now) }
-        ensures err { OnErr result
-            (AppendsPrefix (λ s. told_bytes W.contents s) (λ s. number_told (told_bytes W.contents s)) self.old self.new bytes.now) }
+        ensures ok { OnOk result (Appends (outlet_seen W.contents self.old) (outlet_seen W.contents self.new) bytes.now) }
+        ensures err { OnErr result (AppendsPrefix (outlet_seen W.contents self.old) (outlet_seen W.contents self.new) bytes.now) }
         ensures counts { CountsFaults self.old.failed self.new.failed result }
         ensures settled { is_handed_on self.new ≡ false }
     {
@@ -75,7 +67,7 @@ impl<W: Write + Drop> Sink for StdOut<W> {
     /// Flushes, so that nothing waits in the buffer. A flush that fails is the fault.
     fn finish(&mut self) -> Result<(), SinkFault>
         // What each sink owes.
-        ensures same { Appends (λ s. told_bytes W.contents s) (λ s. number_told (told_bytes W.contents s)) self.old self.new [] }
+        ensures same { Appends (outlet_seen W.contents self.old) (outlet_seen W.contents self.new) [] }
         ensures counts { CountsFaults self.old.failed self.new.failed result }
         ensures settled { is_handed_on self.new ≡ is_ok result }
     {

@@ -1,13 +1,16 @@
 -- What a run says, carried over to the caller's buffer.
-use Rattle.std.proofs.Common.{◌≡◌, ◌≤◌, ◌⊎◌, Option, [], Some, ℕ, List, length, take, subst, ◌∙◌, ap, inl, inr, refl, arith}
-use Rattle.calc_app.specs.Top.{PrintsLines, IsRefused, IsThrough, WasCutOff, status_of}
+use Rattle.std.proofs.Common.{◌≡◌, ◌≤◌, Option, [], Some, ℕ, List, length, take, subst, sym, ◌∙◌, ap, inl, inr, refl, arith}
+use Rattle.calc_app.proofs.Outcomes.{answers_as}
+use Rattle.calc_app.specs.Top.{PrintsLines, PutsWhole, Leaves, IsOutcome, RunsLines, AnswersWords, IsThrough}
 use Rattle.calc_base.proofs.PutsLaws.{Appends-told}
-use Rattle.calc_base.specs.Growing.{Growing, growing_bytes, growing_length}
+use Rattle.calc_base.specs.Growing.{Growing, growing_seen}
+use Rattle.calc_base.specs.Sink.{Appends, IsPrefix}
+use Rattle.calc_base.specs.Source.{SourceSeen}
 use Rattle.calc_base.specs.Status.{code_of}
 use Rattle.calc_base.specs.declared.status.Status.{Status}
 use Rattle.calc_base.specs.declared.status.Status.TheVariants as statuses
-use Rattle.calc_c.specs.Calls.{IsRefusedIn}
-use Rattle.sym_model.specs.Ending.{Ending}
+use Rattle.calc_c.specs.Calls.{slice_seen, IsLeft, IsTextOfFirst, StandsIn}
+use Rattle.sym_model.specs.Ending.{Ending, done, some_refused, syntax, range, past}
 
 pub lines_carried : (rest input before now text : List ℕ) → rest ≡ input → before ≡ [] → now ≡ text
     → PrintsLines before (Some rest) (Some now) → PrintsLines [] (Some input) (Some text)
@@ -16,21 +19,49 @@ lines_carried rest input before now text is_input is_empty is_text prints =
     (subst (λ (it : List ℕ). PrintsLines it (Some input) (Some now)) is_empty
     (subst (λ (it : List ℕ). PrintsLines before (Some it) (Some now)) is_input prints))
 
--- a refusal into an empty sink, whose bytes stand in the buffer where it has room
-pub refusal_carried : (old new : Growing) (ending : Ending) (line out : List ℕ) (needed : ℕ) (status : Status) → old.bytes ≡ []
-    → (needed ≤ length out → take needed out ≡ new.bytes) → IsRefused growing_bytes growing_length old new ending line status
-    → IsRefusedIn ending line needed out status
-refusal_carried old new ending line out needed status empty front r = by r.ends
+-- what was appended to an empty sink are its bytes
+appended_bytes : (old new : Growing) (text : List ℕ) → old.bytes ≡ [] → Appends (growing_seen old) (growing_seen new) text → new.bytes ≡ text
+appended_bytes old new text empty a = some_is (Appends-told {old = growing_seen old} {new = growing_seen new} [] a (ap Some empty))
   where
-    bytes : status ≡ status_of ending → new.bytes ≡ line
-    bytes e = some_is (Appends-told {old = old} {new = new} [] (r.puts e) (ap Some empty))
-      where
-        some_is : ◌≡◌ {A = Option (List ℕ)} (Some new.bytes) (Some line) → new.bytes ≡ line
-        some_is h = cc
+    some_is : ◌≡◌ {A = Option (List ℕ)} (Some new.bytes) (Some text) → new.bytes ≡ text
+    some_is h = cc
 
-    by : (status ≡ status_of ending) ⊎ WasCutOff status → IsRefusedIn ending line needed out status
-    by (inl e) = inl (e, λ room. front room ∙ bytes e)
-    by (inr cut) = inr cut
+-- the line of a refusal stands in the buffer where that has room
+pub answers_carried : (words : List (List ℕ)) (old new : Growing) (out : List ℕ) (needed : ℕ) (status : Status) → old.bytes ≡ []
+    → (needed ≤ length out → take needed out ≡ new.bytes) → AnswersWords words (Appends (growing_seen old) (growing_seen new)) status
+    → AnswersWords words (StandsIn needed out) status
+answers_carried words old new out needed status empty front a =
+    answers_as (Appends (growing_seen old) (growing_seen new)) (StandsIn needed out)
+    (λ line put room. front room ∙ appended_bytes old new line empty put) a
+
+whole_left : (words : List (List ℕ)) (input : List ℕ) (old new : Growing) (ending : Ending) → old.bytes ≡ []
+    → PutsWhole (growing_seen old) (growing_seen new) (slice_seen input) (IsOutcome words) ending → IsOutcome words input new.bytes ending
+whole_left words input old new ending empty l =
+    subst (λ (text : List ℕ). IsOutcome words input text ending) (sym (appended_bytes old new l.text empty l.appended))
+    (subst (λ (all : List ℕ). IsOutcome words all l.text ending) (sym l.is_input) l.outcome)
+
+-- which text is left, where the sink was empty before
+pub left_text : (words : List (List ℕ)) (input : List ℕ) (old new : Growing) (now : SourceSeen) (Untouched : Type 0) (status : Status)
+    → old.bytes ≡ [] → (Untouched → new.bytes ≡ []) → (status ≡ statuses.SourceFault → ⊥)
+    → Leaves (growing_seen old) (growing_seen new) (slice_seen input) now Untouched (RunsLines words) (IsOutcome words) status
+    → IsLeft words input new.bytes status
+left_text words input old new now Untouched statuses.Done empty none ends l = whole_left words input old new done empty l
+left_text words input old new now Untouched statuses.SomeRefused empty none ends l = (l.0, whole_left words input old new some_refused empty l.1)
+left_text words input old new now Untouched statuses.Syntax empty none ends l = whole_left words input old new syntax empty l
+left_text words input old new now Untouched statuses.Range empty none ends l = whole_left words input old new range empty l
+left_text words input old new now Untouched statuses.Past empty none ends l = whole_left words input old new past empty l
+left_text words input old new now Untouched statuses.SinkFault empty none ends l = (
+  l.text,
+  subst (λ (text : List ℕ). IsPrefix text l.text) (sym (appended_bytes old new l.appended.front empty l.appended.appends)) l.appended.is_prefix,
+  record { front = l.front; is_front = l.is_front; ending = l.ending; outcome = l.outcome },
+)
+left_text words input old new now Untouched statuses.SourceFault empty none ends l = absurd (ends refl)
+left_text words input old new now Untouched statuses.NoMemory empty none ends (inl same) = inl (none same)
+left_text words input old new now Untouched statuses.NoMemory empty none ends (inr l) = inr (
+  l.0,
+  subst (IsTextOfFirst words input) (sym (appended_bytes old new l.1.text empty l.1.appended))
+      (record { front = l.1.front; is_front = l.1.is_front; ending = l.1.ending; outcome = l.1.outcome }),
+)
 
 -- a code of at most 1 is that of a run that went through
 pub went_through : (status : Status) → code_of status ≤ code_of statuses.SomeRefused → IsThrough status

@@ -1,20 +1,22 @@
 //! The calculator for C: one call that runs the line of a command and leaves its text in the caller's buffer.
+//!
+//! What is proved:
+//!
+//! `calc_run`, the call of the C library, over the words of a line and the caller's buffer.
+//! `leaves`: with 0 to 4 the text is the whole one that is defined for the words, with 5 a prefix
+//! of it, with 7 nothing or of a batch the text of its first lines; `needed` is its length; where
+//! it has room the buffer begins with it and is otherwise as it was, and where it has not the
+//! buffer is as it was. `headline` and `lines` of `run`, of the bytes in the buffer; `answers`,
+//! where the line that refuses the words stands in the buffer; the code is that of a status, and
+//! never that of a source that failed (`ends`).
 #![tactic(auto)]
 
-ghost use Rattle.std.specs.Prelude.{◌≡◌, ◌≢◌, ◌<◌, ◌≤◌, ℕ, [], Some, codes, length, take, map, string_bytes};
-ghost use Rattle.calc_app.specs.Top.{PrintsAnswerTo, PrintsLines, RunsLines, IsThrough, IsAccepted};
-ghost use Rattle.calc_base.specs.Status.{code_of};
-ghost use Rattle.calc_c.specs.Calls.{IsRefusedIn, IsCodeOf};
-ghost use Rattle.calc_language.specs.BuiltCommands.{command_entries};
+ghost use Rattle.std.specs.Prelude.{◌≡◌, ◌≢◌, ◌++◌, ◌<◌, ◌≤◌, [], Some, drop, length, take, map, string_bytes};
+ghost use Rattle.calc_app.specs.Top.{AnswersWords, IsThrough, PrintsAnswerTo, PrintsLines, RunsLines};
+ghost use Rattle.calc_base.specs.Status.{IsCodeOf, code_of};
+ghost use Rattle.calc_c.specs.Calls.{LeavesText, StandsIn};
 ghost use Rattle.calc_words.specs.LineBytes.{seen};
 ghost use Rattle.sym_model.specs.BatchLine.{words_of_line};
-ghost use Rattle.sym_model.specs.Command.{Command};
-ghost use Rattle.sym_model.specs.CommandOffence.{Offence};
-ghost use Rattle.sym_model.specs.Ending.{syntax};
-ghost use Rattle.sym_model.specs.Entry.{SpellsWithoutOffence, HasFirstOffence};
-ghost use Rattle.sym_model.specs.Outcome.{ending_of};
-ghost use Rattle.sym_model.specs.RefusalText.{refusal_line, offence_line};
-ghost use Rattle.sym_model.specs.SyntaxPlace.{IsSyntaxPlace};
 
 mod slice_source;
 
@@ -28,8 +30,10 @@ use std::alloc::Global;
 /// program ends with it.
 ///
 /// The words stand between spaces and tabs. `needed` becomes the length of the text. Where the buffer has room for it, the text
-/// is at its front; where it has not, the buffer is as it was, and the call is to be made again with more room. Code 5 says that
-/// memory was refused for the text, and 7 that it was refused for the answer; the others are those of the words, and 6 never comes.
+/// is at its front, and the bytes after it are as they were; where it has not, the buffer is as it was, and the call is to be made
+/// again with more room. Code 5 says that memory was refused for the text, of which a front is left, and 7 that it was refused for
+/// the answer: then no text is left, or, of a batch, that of its first lines. The other codes are those of the words, and 6 never
+/// comes.
 #[unsafe(no_mangle)]
 pub extern "C" fn calc_run(
     alloc: Global,
@@ -44,17 +48,15 @@ pub extern "C" fn calc_run(
     ensures lines { RunsLines (map seen (words_of_line line.now)) → result ≤ code_of Status.SomeRefused
         → needed.new ≤ length out.new → PrintsLines [] (Some input.now) (Some (take needed.new out.new)) }
 
-    // Words that spell a command without an offence are answered, and refused only where a coefficient that is defined for
-    // them is past 2^127 - 1, or their weight is 2^127 or more.
-    ensures accepted { (command : Command)
-        → SpellsWithoutOffence command_entries (map seen (words_of_line line.now)) command
-        → IsCodeOf (IsAccepted command) result }
+    // By cases on the status: the whole text that is defined for the words; where memory was refused for the text a prefix of it;
+    // where it was refused for the answer nothing, or, of a batch, the text of its first lines. `needed` is its length. Where it
+    // has room the buffer begins with it, and its other bytes are as they were.
+    ensures leaves { IsCodeOf (LeavesText (map seen (words_of_line line.now)) input.now needed.new out.old out.new) result }
 
-    // Words with a first offence, and words that are no command, are refused by their own line.
-    ensures offended { (offence : Offence) → HasFirstOffence command_entries (map seen (words_of_line line.now)) (Some offence)
-        → IsCodeOf (IsRefusedIn (ending_of offence.2) (offence_line offence) needed.new out.new) result }
-    ensures no_command { (word byte : ℕ) → IsSyntaxPlace command_entries (map seen (words_of_line line.now)) word byte
-        → IsCodeOf (IsRefusedIn syntax (refusal_line (codes "Syntax") word byte) needed.new out.new) result }
+    // Words that spell a command without an offence are answered, and refused only where a coefficient that is defined for
+    // them is past 2^127 - 1, or their weight is 2^127 or more. Words with a first offence, and words that are no command, are
+    // refused by their own line.
+    ensures answers { IsCodeOf (AnswersWords (map seen (words_of_line line.now)) (StandsIn needed.new out.new)) result }
 
     // The code is that of a status, and never that of a source that failed.
     ensures ends { IsCodeOf (λ status. status ≢ Status.SourceFault) result }
@@ -81,12 +83,8 @@ fn run_words(
         → PrintsAnswerTo (map string_bytes words.now) [] (Some input.now) (Some (take needed.new out.new)) }
     ensures lines { RunsLines (map string_bytes words.now) → IsThrough result → needed.new ≤ length out.new
         → PrintsLines [] (Some input.now) (Some (take needed.new out.new)) }
-    ensures accepted { (command : Command)
-        → SpellsWithoutOffence command_entries (map string_bytes words.now) command → IsAccepted command result }
-    ensures offended { (offence : Offence) → HasFirstOffence command_entries (map string_bytes words.now) (Some offence)
-        → IsRefusedIn (ending_of offence.2) (offence_line offence) needed.new out.new result }
-    ensures no_command { (word byte : ℕ) → IsSyntaxPlace command_entries (map string_bytes words.now) word byte
-        → IsRefusedIn syntax (refusal_line (codes "Syntax") word byte) needed.new out.new result }
+    ensures leaves { LeavesText (map string_bytes words.now) input.now needed.new out.old out.new result }
+    ensures answers { AnswersWords (map string_bytes words.now) (StandsIn needed.new out.new) result }
     ensures ends { result ≢ Status.SourceFault }
     ensures untouched { length out.new < needed.new → out.new ≡ out.old }
 {
@@ -102,6 +100,7 @@ fn put_front(out: &mut [u8], text: &[u8]) -> usize
     ensures needed { result ≡ length text.now }
     ensures same { length out.new ≡ length out.old }
     ensures front { result ≤ length out.new → take result out.new ≡ text.now }
+    ensures whole { result ≤ length out.new → out.new ≡ text.now ++ drop result out.old }
     ensures untouched { length out.new < result → out.new ≡ out.old }
 {
     if text.len() <= out.len() {

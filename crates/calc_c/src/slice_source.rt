@@ -1,8 +1,9 @@
 //! A source over the caller's bytes.
-ghost use Rattle.std.specs.Prelude.{◌≡◌, ◌<◌, Some, length, IfOk, OnErr};
+ghost use Rattle.std.specs.Prelude.{◌≡◌, ◌<◌, Some, length, min, IfOk, OnErr};
 ghost use Rattle.std.specs.Io.KnownBytes.{Keeps};
 ghost use Rattle.calc_base.specs.Fault.{CountsFaults};
 ghost use Rattle.calc_base.specs.Source.{Takes, Spends};
+ghost use Rattle.calc_c.specs.Calls.{slice_seen};
 
 use calc_base::{Source, SourceFault};
 
@@ -13,18 +14,19 @@ pub(crate) struct SliceSource<'a> {
 }
 
 impl Source for SliceSource<'_> {
-    ghost left = { λ s. Some s.rest.now };
-
-    ghost allowance = { λ s. length s.rest.now };
-
-    ghost faults = { λ _. 0 };
+    ghost seen = { λ s. slice_seen s.rest.now };
 
     fn take(&mut self, buf: &mut [u8]) -> Result<usize, SourceFault>
         requires { 0 < length buf.old }
+
+        // What each source owes.
         ensures ok { IfOk result (Takes (Some self.old.rest.now) (Some self.new.rest.now) buf.new) }
         ensures err { OnErr result (Keeps (Some self.old.rest.now) (Some self.new.rest.now)) }
         ensures spends { Spends (length self.old.rest.now) (length self.new.rest.now) result }
         ensures counts { CountsFaults 0 0 result }
+
+        // What this one does.
+        ensures given { IfOk result (λ count. count ≡ min (length buf.new) (length self.old.rest.now)) }
     {
         let count = buf.len().min(self.rest.len());
         let (front, rest) = self.rest.split_at(count);

@@ -1,5 +1,5 @@
 -- The nodes of an expression in postorder: how they are found one by one, and that the expression is evaluated by them.
-use Rattle.std.proofs.Common.{◌≡◌, ℕ, ◌<◌, ◌≤◌, List, [], ◌∷◌, ◌++◌, length, reverse, map, take, drop, suc, append_assoc, append-nil, sym, ◌∙◌, ap, ap₂, subst, refl, arith}
+use Rattle.std.proofs.Common.{◌≡◌, ℕ, ◌<◌, List, [], ◌∷◌, ◌++◌, length, reverse, map, take, drop, suc, append_assoc, append-nil, sym, ◌∙◌, ap, ap₂, subst, refl, arith}
 use Rattle.std.specs.List.{All}
 use Rattle.std.specs.Prelude.{flat_map}
 use Rattle.std.proofs.lemmas.Grind.{flat_map-append}

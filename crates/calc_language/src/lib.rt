@@ -1,5 +1,11 @@
 //! The words of a command, and how they are read. The expressions in them are those of `calc_expressions`, which are
 //! passed on.
+//!
+//! What is proved:
+//!
+//! `read_words` answers a command, which is sound, exactly where the grammar takes the words to it
+//! without an offence, and otherwise the first offence with its word and byte; what it answers is
+//! within the limits of words. `read_line` does the same for a line of a batch.
 #![tactic(auto)]
 
 mod by_name;

@@ -1,12 +1,12 @@
 -- A printer's answer as the truth value that a text goes on with.
-use Rattle.std.proofs.Common.{◌≡◌, ℕ, List, Bool, true, false, Option, sym, ◌∙◌}
+use Rattle.std.proofs.Common.{◌≡◌, ℕ, List, Bool, true, false, sym, ◌∙◌}
 use Rattle.std.specs.Prelude.{Result, Ok, Err, is_ok}
 use Rattle.calc_base.specs.Puts.{Puts, Prints}
+use Rattle.calc_base.specs.Sink.{SinkSeen}
 
-pub Puts-from_prints : {S E : Type 0} {written : S → Option (List ℕ)} {count : S → Option ℕ} {faults : S → ℕ}
-    {now : Bool} {old new : S} {text : List ℕ} (result : Result (Unit {0}) E)
-    → Prints written count faults old new text result → now ≡ is_ok result
-    → Puts written count faults true old now new text
+pub Puts-from_prints : {E : Type 0} {now : Bool} {old new : SinkSeen} {text : List ℕ} (result : Result (Unit {0}) E)
+    → Prints old new text result → now ≡ is_ok result
+    → Puts true old now new text
 Puts-from_prints (Ok x) prints is = record {
   whole = λ well. prints.whole;
   still = λ well. prints.counted.still;

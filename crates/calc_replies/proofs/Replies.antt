@@ -1,6 +1,6 @@
 -- What comes of a command that was read is what comes of its words.
-use Rattle.std.proofs.Common.{◌≡◌, ◌⊎◌, ◌≢◌, ℕ, List, [], ◌∷◌, sym, ◌∙◌, subst, inl, inr}
-use Rattle.std.specs.Prelude.{Result, Ok, Err, Some}
+use Rattle.std.proofs.Common.{◌≡◌, ◌⊎◌, ◌≢◌, ℕ, List, sym, ◌∙◌, subst, inl, inr}
+use Rattle.std.specs.Prelude.{Result, Ok, Err}
 use Rattle.calc_base.specs.declared.faults.NoMemory.{NoMemory}
 use Rattle.calc_base.specs.declared.words.WordsFault.{WordsFault}
 use Rattle.calc_base.specs.declared.words.WordsFault.TheVariants as fault
@@ -9,12 +9,12 @@ use Rattle.sym_model.specs.CommandOffence.{Offence}
 use Rattle.sym_model.specs.Entry.{Entry, SpellsWithoutOffence}
 use Rattle.calc_language.specs.BuiltCommands.{command_entries}
 use Rattle.sym_model.specs.Outcome.{MayBeLarge}
-use Rattle.calc_language.specs.Reading.{IsFaultOf, command_of}
+use Rattle.calc_language.specs.Reading.{IsFaultOf}
 use Rattle.calc_replies.specs.declared.outcome.Outcome.{Outcome}
 use Rattle.calc_replies.specs.declared.outcome.Outcome.TheVariants.{Answered, Refused, Large, Told}
 use Rattle.calc_replies.specs.declared.outcome.Task.{Task}
 use Rattle.calc_replies.specs.declared.outcome.Task.TheVariants.{Lines, Workload, Put}
-use Rattle.calc_replies.specs.Computed.{IsReplyTo, Computes, Accepts, RunsNoOther, IsTaskOf, IsTaskFor, AcceptsTask}
+use Rattle.calc_replies.specs.Computed.{IsReplyTo, Computes, Accepts, IsTaskOf, IsTaskFor, AcceptsTask}
 
 pub computes_reply : (entries : List Entry) (words : List (List ℕ)) (command : Command) (result : Result Outcome NoMemory)
     → SpellsWithoutOffence entries words command → IsReplyTo command result → Computes entries words result

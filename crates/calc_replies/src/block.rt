@@ -13,7 +13,7 @@ use expansion_printer::{print_large, print_refusal, tell_printable};
 /// Puts the block of the answer, or the line of the refusal, and answers whether all went well.
 pub fn put_text<K: Sink>(outcome: &mut Outcome, sink: &mut K) -> bool
     requires { HasText outcome.old }
-    ensures goes { Puts K.written K.length K.faults true sink.old result sink.new (text_of outcome.old) }
+    ensures goes { Puts true (K.seen sink.old) result (K.seen sink.new) (text_of outcome.old) }
     ensures printable { HasBlock outcome.old }
 {
     match outcome {

@@ -23,7 +23,7 @@ pub(crate) fn growth(alloc: Global, perm: &Perm) -> Result<Outcome, NoMemory>
 
 /// Puts the lines of a growth grid, as long as all goes well.
 pub(crate) fn put_grid<K: Sink>(grid: &Grid, sink: &mut K) -> bool
-    ensures { Puts K.written K.length K.faults true sink.old result sink.new (grid_text grid.now) }
+    ensures { Puts true (K.seen sink.old) result (K.seen sink.new) (grid_text grid.now) }
 {
     for at in 0..grid.side() + 1 {
         let well = print_shapes(grid.line(at), sink).is_ok();

@@ -1,5 +1,12 @@
 //! What comes of the words of a command: `task_of` reads the words and computes the whole answer, before anything is put, and
 //! `put_text` puts its text.
+//!
+//! What is proved:
+//!
+//! `task_of`: what is to be done for words, with the whole answer of their command, that it is too
+//! large, or their refusal. `reply_to` and `reply_by`: the outcome of a command, without and with a
+//! store of Schubert polynomials. `put_text` puts the text that is defined for an outcome, and a
+//! block that can be read back; `status_if_put` is its status.
 #![tactic(auto)]
 
 mod block;

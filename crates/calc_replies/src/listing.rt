@@ -72,7 +72,7 @@ pub(crate) fn tab(
 
 /// Puts what is listed: a line for each tableau, and the line `0` where there is none.
 pub(crate) fn put_listed<K: Sink>(list: &mut Option<Listing>, sink: &mut K) -> bool
-    ensures { Puts K.written K.length K.faults true sink.old result sink.new (listing_text list.old) }
+    ensures { Puts true (K.seen sink.old) result (K.seen sink.new) (listing_text list.old) }
 {
     match list {
         None => put_if(true, sink, b"0\n"),
@@ -82,7 +82,7 @@ pub(crate) fn put_listed<K: Sink>(list: &mut Option<Listing>, sink: &mut K) -> b
 
 /// Puts the lines of the tableaux, or the line `0` where there is none.
 fn put_listing<K: Sink>(list: &mut Listing, sink: &mut K) -> bool
-    ensures { Puts K.written K.length K.faults true sink.old result sink.new
+    ensures { Puts true (K.seen sink.old) result (K.seen sink.new)
         (readings_text list.old.order.0 list.old.order.1 list.old.lattice.rest) }
 {
     if !list.lattice.advance() {
@@ -94,7 +94,7 @@ fn put_listing<K: Sink>(list: &mut Listing, sink: &mut K) -> bool
 
 /// Puts a line for each tableau that is still to come, as long as all goes well.
 fn put_lines<K: Sink>(well: bool, order: &ReadingOrder, lattice: &mut Lattice, sink: &mut K) -> bool
-    ensures { Puts K.written K.length K.faults well sink.old result sink.new
+    ensures { Puts well (K.seen sink.old) result (K.seen sink.new)
         (flat_map (λ w. tableau_line (filling_of order.now.0 order.now.1 w)) lattice.old.rest) }
 {
     let mut well = well;

@@ -9,6 +9,7 @@ use calc_base::{NoMemory, SumFault};
 use expansion_printer::Answer;
 use perm_codes::Perm;
 use schubert_transition::{Memo, schubert_terms};
+use sparse_polys::Terms;
 use std::alloc::Global;
 
 /// The Schubert polynomial of a permutation.
@@ -39,7 +40,9 @@ pub(crate) fn schubmult(alloc: Global, left: &Perm, right: &Perm) -> Result<Outc
     ensures { IsReplyTo (commands.schubmult left.now right.now) result }
 {
     match monk_product::schubmult(alloc, left, right) {
-        Ok(terms) => Ok(as_block(Answer::Permutations { terms })),
+        Ok(list) => Ok(as_block(Answer::Permutations {
+            terms: Terms::from_list(list),
+        })),
         Err(SumFault::Large) => Ok(Outcome::Large),
         Err(SumFault::NoMemory) => Err(NoMemory),
     }
@@ -51,7 +54,9 @@ pub(crate) fn dschubmult(alloc: Global, left: &Perm, right: &Perm) -> Result<Out
     ensures { IsReplyTo (commands.dschubmult left.now right.now) result }
 {
     match double_schubert::dschubmult(alloc, left, right) {
-        Ok(terms) => Ok(as_block(Answer::Shifts { terms })),
+        Ok(list) => Ok(as_block(Answer::Shifts {
+            terms: Terms::from_list(list),
+        })),
         Err(SumFault::Large) => Ok(Outcome::Large),
         Err(SumFault::NoMemory) => Err(NoMemory),
     }

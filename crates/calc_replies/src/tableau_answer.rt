@@ -36,7 +36,7 @@ pub(crate) fn told(lines: TableauAnswer) -> Outcome
 
 /// Puts the lines.
 pub(crate) fn put_told<K: Sink>(lines: &mut TableauAnswer, sink: &mut K) -> bool
-    ensures { Puts K.written K.length K.faults true sink.old result sink.new (lines_text lines.old) }
+    ensures { Puts true (K.seen sink.old) result (K.seen sink.new) (lines_text lines.old) }
 {
     match lines {
         TableauAnswer::Listed { list } => put_listed(list, sink),
@@ -49,7 +49,7 @@ pub(crate) fn put_told<K: Sink>(lines: &mut TableauAnswer, sink: &mut K) -> bool
 
 /// Puts the lines of two tableaux, with their names in front.
 fn put_pair<K: Sink>(p: &Tableau, q: &Tableau, sink: &mut K) -> bool
-    ensures { Puts K.written K.length K.faults true sink.old result sink.new (pair_text p.now.rows q.now.rows) }
+    ensures { Puts true (K.seen sink.old) result (K.seen sink.new) (pair_text p.now.rows q.now.rows) }
 {
     let first = put_if(true, sink, b"P ");
     let upper = put_tableau(first, p, sink);
@@ -59,7 +59,7 @@ fn put_pair<K: Sink>(p: &Tableau, q: &Tableau, sink: &mut K) -> bool
 
 /// Puts the line of a tableau, where all went well so far.
 fn put_tableau<K: Sink>(well: bool, tableau: &Tableau, sink: &mut K) -> bool
-    ensures { Puts K.written K.length K.faults well sink.old result sink.new (tableau_line tableau.now.rows) }
+    ensures { Puts well (K.seen sink.old) result (K.seen sink.new) (tableau_line tableau.now.rows) }
 {
     if !well {
         return false;

@@ -1,14 +1,15 @@
 -- Words of factors, cut at each `-`.
 use Rattle.std.proofs.Common.{◌≡◌, ℕ, true, false, List, [], ◌∷◌, ◌++◌, map, refl, sym, ap, ◌∙◌, subst, inl, inr}
 use Rattle.std.specs.Prelude.{codes}
+use Rattle.std.proofs.lemmas.Bool.{and_parts}
 use Rattle.sym_model.specs.Sum.{each}
 use Rattle.sym_model.specs.Partition.{without_last_zeros}
-use Rattle.sym_model.specs.Form.{Written, words_of, May, EachOf}
-use Rattle.sym_model.specs.WordForms.{next_words, factors_words, numbers, partition, factors, factor_numbers}
+use Rattle.sym_model.specs.Form.{Written, words_of, May, EachOf, is_digit, are_digits}
+use Rattle.sym_model.specs.WordForms.{next_words, factors_words, numbers, partition}
 use Rattle.word_laws.specs.Words.{Words}
 use Rattle.calc_words.specs.NumberRuns.{IsNumber, BeginsOtherwise}
 use Rattle.calc_words.proofs.Commands.{may_be, singles}
-use Rattle.calc_words.specs.FactorWords.{IsPiece, next_text}
+use Rattle.calc_words.specs.FactorWords.{IsPieceWord, next_text, BeginsWithDigit}
 
 -- numbers, and further factors behind them
 pub record Cut (words : Words) : Type 0 where
@@ -18,11 +19,11 @@ pub record Cut (words : Words) : Type 0 where
   pub second_numbers : EachOf IsNumber second
   pub other_numbers : EachOf (EachOf IsNumber) others
 
-pub cut : (words : Words) → EachOf IsPiece words → Cut words
+pub cut : (words : Words) → EachOf IsPieceWord words → Cut words
 cut [] e = record { second = []; others = []; words_are = refl; second_numbers = tt; other_numbers = tt }
 cut (t ∷ words) e = by e.0 (cut words e.1)
   where
-    by : IsPiece t → Cut words → Cut (t ∷ words)
+    by : IsPieceWord t → Cut words → Cut (t ∷ words)
     by (inl n) k =
         record {
           second = t ∷ k.second;
@@ -40,8 +41,16 @@ cut (t ∷ words) e = by e.0 (cut words e.1)
           other_numbers = (k.second_numbers, k.other_numbers);
         }
 
--- no number stands behind a factor
-next_begins : (others : List Words) → BeginsOtherwise IsNumber (next_text others)
+-- numbers begin with a digit, and what stands behind a factor with none
+number_begins : (t : List ℕ) → IsNumber t → BeginsWithDigit t
+number_begins [] h = cc
+number_begins (byte ∷ text) h = (and_parts (is_digit byte) (are_digits text) h).0
+
+pub all_begin : (ns : Words) → EachOf IsNumber ns → EachOf BeginsWithDigit ns
+all_begin [] e = tt
+all_begin (t ∷ ns) e = (number_begins t e.0, all_begin ns e.1)
+
+pub next_begins : (others : List Words) → BeginsOtherwise BeginsWithDigit (next_text others)
 next_begins [] = tt
 next_begins (list ∷ others) = λ h. let z : false ≡ true = h in cc
 
@@ -53,21 +62,21 @@ abbrev behind_first : Words → Words
 behind_first [] = []
 behind_first (t ∷ words) = words
 
--- words begin with one run of numbers
-one_run : (ps qs us vs : Words) → EachOf IsNumber ps → EachOf IsNumber qs → BeginsOtherwise IsNumber us → BeginsOtherwise IsNumber vs
+-- words begin with one run of words that begin with a digit
+pub one_run : (ps qs us vs : Words) → EachOf BeginsWithDigit ps → EachOf BeginsWithDigit qs → BeginsOtherwise BeginsWithDigit us → BeginsOtherwise BeginsWithDigit vs
     → ps ++ us ≡ qs ++ vs → (ps ≡ qs) × (us ≡ vs)
 one_run [] [] us vs m n b d e = (refl, e)
-one_run [] (q ∷ qs) us vs m n b d e = absurd (subst (BeginsOtherwise IsNumber) e b n.0)
-one_run (p ∷ ps) [] us vs m n b d e = absurd (subst (BeginsOtherwise IsNumber) (sym e) d m.0)
+one_run [] (q ∷ qs) us vs m n b d e = absurd (subst (BeginsOtherwise BeginsWithDigit) e b n.0)
+one_run (p ∷ ps) [] us vs m n b d e = absurd (subst (BeginsOtherwise BeginsWithDigit) (sym e) d m.0)
 one_run (p ∷ ps) (q ∷ qs) us vs m n b d e =
     let r = one_run ps qs us vs m.1 n.1 b d (ap behind_first e) in
     (ap (λ t. t ∷ ps) (ap (first_of []) e) ∙ ap (λ ws. q ∷ ws) r.0, r.1)
 
 -- the second factor is the numbers at the front
 pub run_cut : (words second list rest : Words) (others : List Words) → words ≡ second ++ next_text others → EachOf IsNumber second
-    → words ≡ list ++ rest → EachOf IsNumber list → BeginsOtherwise IsNumber rest → (second ≡ list) × (rest ≡ next_text others)
+    → words ≡ list ++ rest → EachOf BeginsWithDigit list → BeginsOtherwise BeginsWithDigit rest → (second ≡ list) × (rest ≡ next_text others)
 run_cut words second list rest others e n f m b =
-    let r = one_run second list (next_text others) rest n m (next_begins others) b (sym e ∙ f) in (r.0, sym r.1)
+    let r = one_run second list (next_text others) rest (all_begin second n) m (next_begins others) b (sym e ∙ f) in (r.0, sym r.1)
 
 -- the numbers behind a `-` are the next factor
 pub record NextCut (others : List Words) (list rest : Words) : Type 0 where
@@ -77,7 +86,7 @@ pub record NextCut (others : List Words) (list rest : Words) : Type 0 where
   pub more_numbers : EachOf (EachOf IsNumber) more
 
 pub next_cut : (words later list rest : Words) (others : List Words) → words ≡ next_text others → EachOf (EachOf IsNumber) others
-    → words ≡ codes "-" ∷ later → later ≡ list ++ rest → EachOf IsNumber list → BeginsOtherwise IsNumber rest → NextCut others list rest
+    → words ≡ codes "-" ∷ later → later ≡ list ++ rest → EachOf BeginsWithDigit list → BeginsOtherwise BeginsWithDigit rest → NextCut others list rest
 next_cut words later list rest [] e n f g m b = let z = sym e ∙ f in cc
 next_cut words later list rest (l ∷ more) e n f g m b =
     let r = run_cut later l list rest more (ap behind_first (sym f ∙ e)) n.0 g m b in
@@ -103,11 +112,7 @@ next_spelled (list ∷ others) =
     ap (λ ws. codes "-" ∷ (ws ++ each (words_of next_words) (as_next others))) (singles list)
     ∙ ap (λ ws. codes "-" ∷ (list ++ ws)) (next_spelled others)
 
-next_numbers : (others : List Words) → map (λ (next : Written next_words). numbers next.1) (as_next others) ≡ map numbers others
-next_numbers [] = refl
-next_numbers (list ∷ others) = ap (λ ns. numbers list ∷ ns) (next_numbers others)
-
-all_partitions : (others : List Words) → map without_last_zeros (map numbers others) ≡ map partition others
+pub all_partitions : (others : List Words) → map without_last_zeros (map numbers others) ≡ map partition others
 all_partitions [] = refl
 all_partitions (list ∷ others) = ap (λ ps. partition list ∷ ps) (all_partitions others)
 
@@ -116,13 +121,10 @@ pub record AreWritten (words first second : Words) (others : List Words) : Type 
   pub written : Written factors_words
   pub allowed : May factors_words written
   pub spelled : words ≡ words_of factors_words written
-  pub numbers_are : factor_numbers written ≡ numbers first ∷ numbers second ∷ map numbers others
-  pub factors_are : factors written ≡ partition first ∷ partition second ∷ map partition others
 
 pub are_written : (words first second : Words) (others : List Words) → words ≡ first ++ codes "-" ∷ (second ++ next_text others)
     → EachOf IsNumber first → EachOf IsNumber second → EachOf (EachOf IsNumber) others → AreWritten words first second others
 are_written words first second others e f s o =
-    let ns = ap (λ xs. numbers first ∷ numbers second ∷ xs) (next_numbers others) in
     record {
       written = (first, ((tt, second), as_next others));
       allowed = (may_be first f, ((tt, may_be second s), next_allowed others o));
@@ -131,7 +133,4 @@ are_written words first second others e f s o =
           ∙ ap (λ ws. ws ++ codes "-" ∷ (second ++ next_text others)) (sym (singles first))
           ∙ ap (λ ws. each (λ t. t ∷ []) first ++ codes "-" ∷ (ws ++ next_text others)) (sym (singles second))
           ∙ ap (λ ws. each (λ t. t ∷ []) first ++ codes "-" ∷ (each (λ t. t ∷ []) second ++ ws)) (sym (next_spelled others));
-      numbers_are = ns;
-      factors_are =
-          ap (map without_last_zeros) ns ∙ ap (λ ps. partition first ∷ partition second ∷ ps) (all_partitions others);
     }

@@ -9,17 +9,15 @@ pub mod WrittenExpressions
 pub mod WrittenCommands
 pub mod WrittenLetters
 pub mod LetterJudging
-pub mod LetterStanding
-pub mod PermutationCommands
-pub mod LastStanding
 pub mod PlainBytes
 pub mod ForeignBytes
 pub mod LineWords
 pub mod WordJudging
-pub mod OptionWords
-pub mod FactorStanding
 pub mod FactorCuts
 pub mod FactorJudging
 pub mod FactorLimits
-pub mod FactorCommands
-mod RowsStanding
+pub mod CutWords
+pub mod CutCommands
+pub mod TakenFactors
+pub mod PartOffences
+pub mod PartValues

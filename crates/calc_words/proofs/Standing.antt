@@ -1,21 +1,18 @@
 -- Where words go wrong that are read piece by piece: a word, a number, a list of numbers, a number of rows.
-use Rattle.std.proofs.Common.{◌≡◌, ℕ, ◌-◌, ◌<◌, Bool, true, false, ◌||◌, cond, List, [], ◌∷◌, ◌++◌, map, length, length-append, refl, sym, ap, ◌∙◌, subst, arith}
-use Rattle.std.specs.Prelude.{codes}
+use Rattle.std.proofs.Common.{◌≡◌, ℕ, ◌-◌, ◌<◌, ◌==◌, Bool, true, false, ◌||◌, cond, List, [], ◌∷◌, ◌++◌, map, length, length-append, refl, sym, ap, ◌∙◌, subst, arith}
 use Rattle.std.proofs.lemmas.List.{append-nil, length-map}
+use Rattle.std.proofs.lemmas.Bool.{eqb-true, eqb-false}
 use Rattle.sym_model.specs.Polynomial.{same}
 use Rattle.sym_model.proofs.Exponents.{same_true, same_refl}
-use Rattle.sym_model.specs.Form.{Form, empty, word, sequence, number, EachOf, is_number_word, is_skippable, derivatives, awaits_next, can_be}
+use Rattle.sym_model.specs.Form.{Form, empty, sequence, EachOf, is_number_word, is_skippable, derivatives, awaits_next, can_be}
 use Rattle.sym_model.specs.Entry.{Entry}
 use Rattle.sym_model.specs.SyntaxPlace.{IsSyntaxPlace}
-use Rattle.sym_model.specs.WordForms.{the, optional, partition_words, rows_words, form_words}
+use Rattle.sym_model.specs.WordForms.{the, partition_words}
 use Rattle.word_laws.specs.Words.{Words}
 use Rattle.word_laws.specs.Reading.{is_expression}
 use Rattle.word_laws.proofs.Stands.{stands_next, wrong_word, ends_early}
 use Rattle.word_laws.proofs.NumberLists.{behind_numbers, IsListed, after_number, after_numbers}
 use Rattle.calc_words.specs.NumberRuns.{IsNumber, BeginsOtherwise}
-use Rattle.calc_words.specs.declared.splitting.RowsWord.{RowsWord}
-use Rattle.calc_words.specs.declared.splitting.RowsWord.TheVariants.{Absent, Given}
-use Rattle.calc_words.specs.Rows.{RowsAre, FormIs, behind_options}
 use Rattle.calc_words.specs.Standing.{GoesAs, At, WrongAt}
 
 -- neither the next word nor the end goes on as the form
@@ -80,30 +77,12 @@ wrong_the text g words b = wrong_here (sequence (the text) g) words (refused wor
     refused [] b = refl
     refused (t ∷ ws) b = ap (λ x. map (λ h. sequence h g) (cond x (empty ∷ []) []) ++ []) (not_same text t b)
 
--- a number that is awaited
-number_next : (text : List ℕ) (g : Form) (b : Bool) → is_number_word text ≡ b
-    → derivatives is_expression (sequence (word number) g) text ≡ map (λ h. sequence h g) (cond b (empty ∷ []) []) ++ []
-number_next text g b h = ap (λ x. map (λ h. sequence h g) (cond x (empty ∷ []) []) ++ []) h
-
-pub behind_number : (text : List ℕ) (g : Form) (words : Words) (left : ℕ) → IsNumber text → WrongAt g words left
-    → WrongAt (sequence (word number) g) (text ∷ words) left
-behind_number text g words left t w entries all before c n s =
-    w entries all (before ++ text ∷ []) c n
-    (step entries all before text words (sequence (word number) g) (sequence empty g) g s (number_next text g true t) (behind_empty g words) refl)
-
 pub not_number : (text : List ℕ) → (IsNumber text → ⊥) → is_number_word text ≡ false
 not_number text n = by (is_number_word text) refl
   where
     by : (b : Bool) → is_number_word text ≡ b → b ≡ false
     by true e = absurd (n e)
     by false e = refl
-
-pub wrong_number : (g : Form) (words : Words) → BeginsOtherwise IsNumber words → WrongAt (sequence (word number) g) words (length words)
-wrong_number g words b = wrong_here (sequence (word number) g) words (refused words b) refl
-  where
-    refused : (ws : Words) → BeginsOtherwise IsNumber ws → Refuses (sequence (word number) g) ws
-    refused [] b = refl
-    refused (t ∷ ws) b = number_next t g false (not_number t b)
 
 -- words of the form begin with no number
 abbrev pub NoNumber : Form → Type 0
@@ -132,98 +111,6 @@ behind_list (t ∷ ns) g words left f e b w entries all before c n s =
     (derivative_listed g t (record { number = e.0; not_next = f t e.0 }))
     (listed_goes t g (ns ++ words)) refl)
 
--- a list of numbers that stands last
-last_goes : (h : Form) (words : Words) → BeginsOtherwise IsNumber words → GoesAs h partition_words words → GoesAs h empty words
-last_goes h [] b s = s
-last_goes h (t ∷ rest) b s = s ∙ ap (λ x. map (λ h. sequence h partition_words) (cond x (empty ∷ []) [])) (not_number t b)
-
-last_next : (text : List ℕ) → IsNumber text → derivatives is_expression partition_words text ≡ sequence empty partition_words ∷ []
-last_next text t = ap (λ x. map (λ h. sequence h partition_words) (cond x (empty ∷ []) [])) t
-
-pub last_list : (ns words : Words) → EachOf IsNumber ns → BeginsOtherwise IsNumber words → 0 < length words
-    → WrongAt partition_words (ns ++ words) (length words)
-last_list [] [] e b l entries all before c n s = absurd (omega (arith, l))
-last_list [] (t ∷ words) e b l entries all before c n s =
-    wrong_here empty (t ∷ words) refl refl entries all before c n
-    (record { h = s.h; stands = s.stands; goes = last_goes s.h (t ∷ words) b s.goes; awaits = s.awaits })
-last_list (t ∷ ns) words e b l entries all before c n s =
-    last_list ns words e.1 b l entries all (before ++ t ∷ []) c n
-    (step entries all before t (ns ++ words) partition_words (sequence empty partition_words) partition_words s
-    (last_next t e.0) (behind_empty partition_words (ns ++ words)) refl)
-
--- a number of rows, where it is there
-no_rows : (g : Form) (t : List ℕ) → (t ≡ codes "-r" → ⊥)
-    → derivatives is_expression (sequence (optional rows_words) g) t ≡ derivatives is_expression g t
-no_rows g t b =
-    ap (λ x. map (λ h. sequence h g) (map (λ h. sequence h (word number)) (cond x (empty ∷ []) []) ++ []) ++ derivatives is_expression g t)
-    (not_same (codes "-r") t b)
-
-rows_goes : (h g : Form) (words : Words) → BeginsOtherwise (λ t. t ≡ codes "-r") words → GoesAs h (sequence (optional rows_words) g) words → GoesAs h g words
-rows_goes h g [] b s = s
-rows_goes h g (t ∷ rest) b s = s ∙ no_rows g t b
-
-pub without_rows : (g : Form) (words : Words) (left : ℕ) → BeginsOtherwise (λ t. t ≡ codes "-r") words → WrongAt g words left
-    → WrongAt (sequence (optional rows_words) g) words left
-without_rows g words left b w entries all before c n s =
-    w entries all before c n (record { h = s.h; stands = s.stands; goes = rows_goes s.h g words b s.goes; awaits = s.awaits })
-
-rows_next : (g : Form) → derivatives is_expression g (codes "-r") ≡ []
-    → derivatives is_expression (sequence (optional rows_words) g) (codes "-r") ≡ sequence (sequence empty (word number)) g ∷ []
-rows_next g e = ap (λ fs. sequence (sequence empty (word number)) g ∷ fs) e
-
-pub number_goes : (g : Form) (rest : Words) → GoesAs (sequence (sequence empty (word number)) g) (sequence (word number) g) rest
-number_goes g [] = refl
-number_goes g (t ∷ rest) = refl
-
-pub with_rows : (g : Form) (words : Words) (left : ℕ) → derivatives is_expression g (codes "-r") ≡ [] → WrongAt (sequence (word number) g) words left
-    → WrongAt (sequence (optional rows_words) g) (codes "-r" ∷ words) left
-with_rows g words left e w entries all before c n s =
-    w entries all (before ++ codes "-r" ∷ []) c n
-    (step entries all before (codes "-r") words (sequence (optional rows_words) g) (sequence (sequence empty (word number)) g) (sequence (word number) g) s
-    (rows_next g e) (number_goes g words) refl)
-
--- a number of rows as it is written, and what stands behind it
-pub rows_then : (rows : RowsWord) (words rest : Words) (g : Form) (left : ℕ) → RowsAre rows words rest → derivatives is_expression g (codes "-r") ≡ []
-    → WrongAt g rest left → WrongAt (sequence (optional rows_words) g) words left
-rows_then Absent words rest g left r e w =
-    without_rows g words left r.1 (subst (λ ws. WrongAt g ws left) (sym r.0) w)
-rows_then (Given value) words rest g left r e w =
-    subst (λ ws. WrongAt (sequence (optional rows_words) g) ws left) (sym r.1)
-    (with_rows g (r.0 ∷ rest) left e (behind_number r.0 g rest left r.2 w))
-
--- the word for the one-line form, where it is there
-no_form : (g : Form) (t : List ℕ) → (t ≡ codes "-m" → ⊥)
-    → derivatives is_expression (sequence (optional form_words) g) t ≡ derivatives is_expression g t
-no_form g t b =
-    ap (λ x. map (λ h. sequence h g) (cond x (empty ∷ []) []) ++ derivatives is_expression g t) (not_same (codes "-m") t b)
-
-form_goes : (h g : Form) (words : Words) → BeginsOtherwise (λ t. t ≡ codes "-m") words → GoesAs h (sequence (optional form_words) g) words → GoesAs h g words
-form_goes h g [] b s = s
-form_goes h g (t ∷ rest) b s = s ∙ no_form g t b
-
-form_next : (g : Form) → derivatives is_expression g (codes "-m") ≡ []
-    → derivatives is_expression (sequence (optional form_words) g) (codes "-m") ≡ sequence empty g ∷ []
-form_next g e = ap (λ fs. sequence empty g ∷ fs) e
-
-pub form_then : (one_line : Bool) (words rest : Words) (g : Form) (left : ℕ) → FormIs one_line words rest → derivatives is_expression g (codes "-m") ≡ []
-    → WrongAt g rest left → WrongAt (sequence (optional form_words) g) words left
-form_then true words rest g left f e w =
-    subst (λ ws. WrongAt (sequence (optional form_words) g) ws left) (sym f)
-    (λ entries all before c n s.
-    w entries all (before ++ codes "-m" ∷ []) c n
-    (step entries all before (codes "-m") rest (sequence (optional form_words) g) (sequence empty g) g s (form_next g e) (behind_empty g rest) refl))
-form_then false words rest g left f e w =
-    λ entries all before c n s.
-    subst (λ ws. WrongAt g ws left) (sym f.0) w entries all before c n
-    (record { h = s.h; stands = s.stands; goes = form_goes s.h g words f.1 s.goes; awaits = s.awaits })
-
--- the options in front of the shapes
-pub options_then : (rows : RowsWord) (one_line : Bool) (words between rest : Words) (g : Form) (left : ℕ) → RowsAre rows words between → FormIs one_line between rest
-    → derivatives is_expression g (codes "-r") ≡ [] → derivatives is_expression g (codes "-m") ≡ [] → WrongAt g rest left
-    → WrongAt (behind_options g) words left
-options_then rows one_line words between rest g left r f d e w =
-    rows_then rows words between (sequence (optional form_words) g) left r d (form_then one_line between rest g left f e w)
-
 -- words of one command alone
 own_goes : (f : Form) (words : Words) → GoesAs f f words
 own_goes f [] = refl
@@ -234,14 +121,6 @@ pub wrong_place : (e : Entry) (words : Words) (left : ℕ) → can_be e.form ≡
 wrong_place e words left c w =
     w (e ∷ []) words [] (c, tt) (omega arith)
     (record { h = e.form; stands = record { words_are = refl; still = refl }; goes = own_goes e.form words; awaits = refl })
-
--- words that are kept in another form
-pub list_wrong : {A : Type 0} (f : A → List ℕ) (words ns : Words) (rest : List A) → words ≡ ns ++ map f rest → EachOf IsNumber ns
-    → BeginsOtherwise IsNumber (map f rest) → 0 < length rest → WrongAt partition_words words (length rest)
-list_wrong f words ns rest e n b l =
-    subst (λ ws. WrongAt partition_words ws (length rest)) (sym e)
-    (subst (λ m. WrongAt partition_words (ns ++ map f rest) m) (length-map rest f)
-    (last_list ns (map f rest) n b (let k = length-map rest f in omega (arith, k, l))))
 
 pub no_number_before : (text : List ℕ) (g : Form) → is_number_word text ≡ false → NoNumber (sequence (the text) g)
 no_number_before text g h t k =
@@ -264,18 +143,11 @@ behind_separator text g words ns rest more left h e n b d w =
     (behind_list ns (sequence (the text) g) rest left (no_number_before text g h) n b
     (subst (λ ws. WrongAt (sequence (the text) g) ws left) (sym d) (behind_the text g more left w)))
 
--- two lists with a word between them begin with no other word
-pub lists_begin_otherwise : (text other : List ℕ) → same text other ≡ false → is_number_word other ≡ false
-    → derivatives is_expression (sequence partition_words (sequence (the text) partition_words)) other ≡ []
-lists_begin_otherwise text other h n =
-    ap (λ x. map (λ h. sequence h (sequence (the text) partition_words)) (map (λ h. sequence h partition_words) (cond x (empty ∷ []) []))
-    ++ (map (λ h. sequence h partition_words) (cond (same text other) (empty ∷ []) []) ++ [])) n
-    ∙ ap (λ x. map (λ h. sequence h partition_words) (cond x (empty ∷ []) []) ++ []) h
+-- whether words are left
+pub some_more : {A : Type 0} (f : A → List ℕ) (xs : List A) → (length xs == 0) ≡ false → 0 < length (map f xs)
+some_more f [] h = absurd (let e = eqb-false 0 0 h in omega (arith, e))
+some_more f (x ∷ xs) h = omega arith
 
--- the word of the rows with no number behind it
-pub rows_wrong : {A : Type 0} (f : A → List ℕ) (words : Words) (rest : List A) (g : Form) → words ≡ codes "-r" ∷ map f rest → BeginsOtherwise IsNumber (map f rest)
-    → derivatives is_expression g (codes "-r") ≡ [] → WrongAt (sequence (optional rows_words) g) words (length rest)
-rows_wrong f words rest g e b d =
-    subst (λ ws. WrongAt (sequence (optional rows_words) g) ws (length rest)) (sym e)
-    (with_rows g (map f rest) (length rest) d
-    (subst (λ m. WrongAt (sequence (word number) g) (map f rest) m) (length-map rest f) (wrong_number g (map f rest) b)))
+pub no_more : {A : Type 0} (f : A → List ℕ) (xs : List A) → (length xs == 0) ≡ true → map f xs ≡ []
+no_more f [] h = refl
+no_more f (x ∷ xs) h = absurd (let e = eqb-true (length (x ∷ xs)) 0 h in omega (arith, e))

@@ -3,11 +3,11 @@ pub mod Reading
 pub mod Faults
 pub mod PartRules
 pub mod Standing
-pub mod Rows
 pub mod Joined
 pub mod WrittenLimits
 pub mod LetterRules
-pub mod PermutationWords
 pub mod LineBytes
 pub mod FactorWords
 pub mod ReadProducts
+pub mod Cutting
+pub mod Parts

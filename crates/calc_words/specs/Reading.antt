@@ -23,11 +23,6 @@ abbrev pub IsRead : List Entry → List (List ℕ) → Result Command WordsFault
 IsRead entries words (Ok command) = SpellsWithoutOffence entries words (command_of command) × IsSound command
 IsRead entries words (Err fault) = IsRefusal entries words fault
 
--- the same of what several commands read in one way, by the command that is made of it
-abbrev pub IsPartRead : {A : Type 0} → List Entry → (A → PlainCommand) → List (List ℕ) → Result A WordsFault → Type 0
-IsPartRead entries says words (Ok answer) = SpellsWithoutOffence entries words (says answer)
-IsPartRead entries says words (Err fault) = IsRefusal entries words fault
-
 -- the refusal is that of the first offence; want of memory says nothing
 abbrev pub IsFirst : Option Offence → WordsFault → Type 0
 IsFirst first (Syntax at) = ⊥

@@ -1,69 +1,20 @@
 //! The words of `batch` and `work`.
-ghost use Rattle.std.specs.Prelude.{◌≡◌, ℕ, [], ◌∷◌, ◌++◌, Some, map, string_bytes};
-ghost use Rattle.sym_model.specs.CommandOffence.{first_offence, offences_by, lines_rule, seed_rule};
+ghost use Rattle.std.specs.Prelude.{[], ◌∷◌, map, string_bytes};
 ghost use Rattle.sym_model.specs.Grammar.{batch_entry, work_entry};
-ghost use Rattle.calc_words.specs.NumberRuns.{narrow};
-ghost use Rattle.calc_words.specs.Reading.{IsRead, IsJudged};
+ghost use Rattle.calc_words.specs.Reading.{IsRead};
 
-use crate::numbers::value_of;
-use crate::offence::{Kind, offence, syntax};
-use crate::splitting::{behind, first_number};
+use crate::command_cuts::{cut, piece_at};
+use crate::part_values::{lines_of, seed_of};
+use crate::word_parts::Part;
 use calc_base::WordsFault;
 use calc_commands::Command;
-
-/// The most lines.
-const MOST_LINES: u128 = 10_000;
-
-/// The greatest seed.
-const GREATEST_SEED: u128 = 65_536;
 
 /// Reads the words of `batch`, which is that word alone. Other words are refused as `Syntax`, at the word where they go wrong.
 pub fn read_batch(words: &[String]) -> Result<Command, WordsFault>
     ensures { IsRead (batch_entry ∷ []) (map string_bytes words.now) result }
 {
-    let Some(rest) = behind(words, "batch") else {
-        return Err(syntax(0));
-    };
-    if !rest.is_empty() {
-        return Err(syntax(1));
-    }
+    cut(words, "batch", &[])?;
     Ok(Command::Batch)
-}
-
-/// A number of lines that is this word, or its offence.
-fn lines_number(word: u64, number: Option<u128>) -> Result<u16, WordsFault>
-    ensures { (a : ℕ) → number ≡ narrow a → IsJudged (λ n. n ≡ a) (first_offence (offences_by lines_rule word (a ∷ []))) result }
-{
-    let Some(value) = number else {
-        return Err(offence(word, Kind::Literal));
-    };
-    if value == 0 || value > MOST_LINES {
-        return Err(offence(word, Kind::Range));
-    }
-    Ok(value as u16)
-}
-
-/// A seed that is this word, or its offence.
-fn seed_number(word: u64, number: Option<u128>) -> Result<u32, WordsFault>
-    ensures { (a : ℕ) → number ≡ narrow a → IsJudged (λ n. n ≡ a) (first_offence (offences_by seed_rule word (a ∷ []))) result }
-{
-    let Some(value) = number else {
-        return Err(offence(word, Kind::Literal));
-    };
-    if value > GREATEST_SEED {
-        return Err(offence(word, Kind::Range));
-    }
-    Ok(value as u32)
-}
-
-/// The workload of two numbers, or the first offence.
-fn read_numbers(lines: Option<u128>, seed: Option<u128>) -> Result<Command, WordsFault>
-    ensures { (a b : ℕ) → lines ≡ narrow a → seed ≡ narrow b → IsJudged (λ c. c ≡ Command.Work a b)
-        (first_offence (offences_by lines_rule 1 (a ∷ []) ++ offences_by seed_rule 2 (b ∷ []))) result }
-{
-    let lines = lines_number(1, lines)?;
-    let seed = seed_number(2, seed)?;
-    Ok(Command::Work { lines, seed })
 }
 
 /// Reads the words of `work`: that word, a number of lines and a seed.
@@ -74,17 +25,10 @@ fn read_numbers(lines: Option<u128>, seed: Option<u128>) -> Result<Command, Word
 pub fn read_work(words: &[String]) -> Result<Command, WordsFault>
     ensures { IsRead (work_entry ∷ []) (map string_bytes words.now) result }
 {
-    let Some(rest) = behind(words, "work") else {
-        return Err(syntax(0));
-    };
-    let Some((lines, rest)) = first_number(rest) else {
-        return Err(syntax(1));
-    };
-    let Some((seed, rest)) = first_number(rest) else {
-        return Err(syntax(2));
-    };
-    if !rest.is_empty() {
-        return Err(syntax(3));
-    }
-    read_numbers(value_of(lines.as_bytes()), value_of(seed.as_bytes()))
+    let places = cut(words, "work", &[Part::Lines, Part::Seed])?;
+    let first = piece_at(words, &places, 0);
+    let lines = lines_of(first.at, first.words)?;
+    let second = piece_at(words, &places, 1);
+    let seed = seed_of(second.at, second.words)?;
+    Ok(Command::Work { lines, seed })
 }

@@ -9,7 +9,9 @@ ghost use Rattle.calc_words.specs.WrittenLimits.{IsWritten};
 ghost use Rattle.calc_words.specs.FactorWords.{next_text};
 ghost use Rattle.calc_words.specs.ReadProducts.{ninth_offences};
 
-use crate::{behind, numbers_first, read_partition, read_two};
+use crate::partition_list::read_partition;
+use crate::splitting::{behind, list_first};
+use crate::two_shapes::read_two;
 use calc_base::{Place, WordsFault};
 use partitions::{Factors, FactorsFault, Partition};
 use std::alloc::Global;
@@ -70,7 +72,7 @@ fn read_later(
     let Some(later) = behind(words, "-") else {
         return Ok(factors);
     };
-    let (list, rest) = numbers_first(later);
+    let (list, rest) = list_first(later);
     let after = at + 1 + list.len() as u64;
     let factors = next_factor(alloc, at, factors, list)?;
     read_later(alloc, after, factors, rest)
@@ -103,7 +105,7 @@ pub(crate) fn read_factors(
         → IsJudged (λ f. f ≡ partition (map string_bytes first.now) ∷ partition second ∷ map partition others)
         (first_offence (factor_offences 0 at (numbers_of (map string_bytes first.now) ∷ numbers_of second ∷ map numbers_of others))) result }
 {
-    let (second, rest) = numbers_first(later);
+    let (second, rest) = list_first(later);
     let after = at + first.len() as u64 + 1 + second.len() as u64;
     let (first, second) = read_two(alloc, at, first, second)?;
     let factors = paired(alloc, first, second)?;

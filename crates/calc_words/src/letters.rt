@@ -1,15 +1,12 @@
-//! The words of `rsk`.
-ghost use Rattle.std.specs.Prelude.{◌≡◌, ◌<◌, ◌+◌, ◌^◌, ◌==◌, ◌||◌, IfOk, IfErr, [], ◌∷◌, Some, length, map, string_bytes};
+//! Words of letters as they are written.
+ghost use Rattle.std.specs.Prelude.{◌≡◌, ◌<◌, ◌+◌, ◌^◌, ◌==◌, ◌||◌, IfOk, IfErr, length, map, string_bytes};
 ghost use Rattle.sym_model.specs.CommandOffence.{first_offence, offences_by, letter_rule, is_outside, greatest_letter, most_letters};
-ghost use Rattle.sym_model.specs.Grammar.{rsk_entry};
 ghost use Rattle.sym_model.specs.WordForms.{numbers as numbers_of};
-ghost use Rattle.calc_words.specs.Reading.{IsRead, IsJudged};
+ghost use Rattle.calc_words.specs.Reading.{IsJudged};
 
 use crate::numbers::value_of;
-use crate::offence::{Kind, offence, syntax};
-use crate::splitting::{behind, last_list};
+use crate::offence::{Kind, offence};
 use calc_base::{Word, WordsFault};
-use calc_commands::Command;
 use std::alloc::Global;
 
 /// The most letters, and the greatest of them.
@@ -33,7 +30,7 @@ fn word_of(alloc: Global, letters: &[u16]) -> Result<Word, WordsFault>
 }
 
 /// The letters that are these words, the first of which is the word `at`, or their first offence.
-fn read_letters(alloc: Global, at: u64, words: &[String]) -> Result<Word, WordsFault>
+pub(crate) fn read_letters(alloc: Global, at: u64, words: &[String]) -> Result<Word, WordsFault>
     requires { at + length words.now < 2 ^ 64 }
     ensures { IsJudged (λ w. w ≡ numbers_of (map string_bytes words.now))
         (first_offence (offences_by letter_rule at (numbers_of (map string_bytes words.now)))) result }
@@ -50,23 +47,4 @@ fn read_letters(alloc: Global, at: u64, words: &[String]) -> Result<Word, WordsF
         letters[i] = value as u16;
     }
     word_of(alloc, &letters[..words.len()])
-}
-
-/// Reads the words of `rsk`: that word and the letters of a word.
-///
-/// Words that are no such command are refused as `Syntax`, at the word where they go wrong. Otherwise the first offence is
-/// refused: a letter past 2^127 - 1 as `Literal`; one that is 0 or past 65,535, and the 257th, as `Range`.
-pub fn read_rsk(alloc: Global, words: &[String]) -> Result<Command, WordsFault>
-    ensures { IsRead (rsk_entry ∷ []) (map string_bytes words.now) result }
-{
-    let Some(rest) = behind(words, "rsk") else {
-        return Err(syntax(0));
-    };
-    match last_list(rest) {
-        Ok(letters) => {
-            let letters = read_letters(alloc, 1, letters)?;
-            Ok(Command::Rsk { letters })
-        }
-        Err(left) => Err(syntax((words.len() - left) as u64)),
-    }
 }

@@ -1,43 +1,47 @@
 //! The words of the commands on partitions, permutations and words of letters, of batches and workloads, and how they are read.
+//!
+//! What is proved:
+//!
+//! The words of each command that names partitions, factors, permutations, letters or lines: each
+//! reader answers a `Command` exactly where the entry of the grammar takes the words to it without
+//! an offence, and otherwise refuses the place where they first fail or the first offence.
+//! `joined_commands_law`: so it is among all commands. `written_limits_law`: what words without an
+//! offence name is within the limits.
 #![tactic(auto)]
 
 mod batches;
-mod coef;
-mod coprod;
+mod command_cuts;
 mod factors;
 mod joined;
 mod letters;
 mod limits;
 mod line;
-mod lists;
+mod number_values;
 mod numbers;
 mod offence;
-mod options;
+mod part_values;
 mod partition_list;
 mod permutation_list;
 mod permutations;
 mod products;
 mod reductions;
-mod skew_command;
 mod splitting;
-mod stanley_command;
 mod two_shapes;
+mod word_parts;
 
 pub use batches::{read_batch, read_work};
-pub use coef::read_coef;
-pub use coprod::read_coprod;
+pub use command_cuts::{Places, cut};
 pub use joined::joined_commands_law;
-pub use letters::read_rsk;
 pub use limits::written_limits_law;
 pub use line::{are_passed_over, line_words, without_return};
 pub use numbers::{is_number, value_of};
 pub use offence::{Kind, offence as refused, syntax};
-pub use options::{Options, options_first, row_limit};
 pub use partition_list::read_partition;
-pub use permutations::{read_dschubmult, read_growth, read_schubert, read_schubmult};
-pub use products::read_mult;
+pub use permutations::{
+    read_dschubmult, read_growth, read_rsk, read_schubert, read_schubmult, read_stanley,
+};
+pub use products::{read_coef, read_coprod, read_mult, read_skew};
 pub use reductions::{read_fusion, read_quantum};
-pub use skew_command::read_skew;
-pub use splitting::{RowsWord, behind, first_number, numbers as numbers_first};
-pub use stanley_command::read_stanley;
-pub use two_shapes::{read_two, rows_number};
+pub use splitting::{behind, first_number, numbers as numbers_first};
+pub use two_shapes::read_two;
+pub use word_parts::Part;

@@ -8,7 +8,7 @@ ghost use Rattle.calc_words.specs.NumberRuns.{narrow};
 const WIDE: u128 = 1 << 127;
 
 /// Whether the byte is an ASCII digit.
-fn is_digit_byte(byte: u8) -> bool
+pub(crate) fn is_digit_byte(byte: u8) -> bool
     ensures { result ≡ is_digit byte }
 {
     byte >= b'0' && byte <= b'9'

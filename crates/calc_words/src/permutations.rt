@@ -1,34 +1,14 @@
-//! The words of the commands on permutations: `schubert`, `growth`, `schubmult` and `dschubmult`.
-ghost use Rattle.std.specs.Prelude.{◌≡◌, ◌≤◌, ◌<◌, ◌+◌, ◌^◌, ℕ, List, [], ◌∷◌, Some, length, map, string_bytes};
-ghost use Rattle.sym_model.specs.Command.{Command as PlainCommand};
-ghost use Rattle.sym_model.specs.CommandOffence.{first_offence};
-ghost use Rattle.sym_model.specs.Grammar.{schubert_entry, growth_entry, schubmult_entry, dschubmult_entry};
-ghost use Rattle.sym_model.specs.Permutation.{kept};
-ghost use Rattle.sym_model.specs.WordForms.{numbers as numbers_of};
-ghost use Rattle.calc_words.specs.PermutationWords.{permutation_entry, two_permutations, pair_entry};
-ghost use Rattle.calc_words.specs.Reading.{IsRead, IsPartRead, IsJudged};
+//! The words of the commands on permutations and words of letters: `schubert`, `growth`, `schubmult`, `dschubmult`, `stanley` and `rsk`.
+ghost use Rattle.std.specs.Prelude.{[], ◌∷◌, map, string_bytes};
+ghost use Rattle.sym_model.specs.Grammar.{schubert_entry, growth_entry, schubmult_entry, dschubmult_entry, stanley_entry, rsk_entry};
+ghost use Rattle.calc_words.specs.Reading.{IsRead};
 
-use crate::offence::syntax;
-use crate::permutation_list::{MOST_DOUBLED, MOST_PERMUTED, read_permutation};
-use crate::splitting::{behind, last_letters, two_letter_lists};
+use crate::command_cuts::{cut, piece_at};
+use crate::part_values::{doubled_of, letters_of, rows_of, word_of};
+use crate::word_parts::Part;
 use calc_base::WordsFault;
 use calc_commands::Command;
-use perm_codes::Perm;
 use std::alloc::Global;
-
-/// The words of the command of this name on one permutation.
-fn read_one(alloc: Global, words: &[String], name: &str) -> Result<Perm, WordsFault>
-    ensures { (says : List ℕ → PlainCommand)
-        → IsPartRead (permutation_entry name.now says ∷ []) says (map string_bytes words.now) result }
-{
-    let Some(rest) = behind(words, name) else {
-        return Err(syntax(0));
-    };
-    match last_letters(rest) {
-        Ok(letters) => read_permutation(alloc, MOST_PERMUTED, 1, letters),
-        Err(left) => Err(syntax((words.len() - left) as u64)),
-    }
-}
 
 /// Reads the words of `schubert`: that word and the letters of a permutation.
 ///
@@ -38,7 +18,9 @@ fn read_one(alloc: Global, words: &[String], name: &str) -> Result<Perm, WordsFa
 pub fn read_schubert(alloc: Global, words: &[String]) -> Result<Command, WordsFault>
     ensures { IsRead (schubert_entry ∷ []) (map string_bytes words.now) result }
 {
-    let perm = read_one(alloc, words, "schubert")?;
+    let places = cut(words, "schubert", &[Part::Letters])?;
+    let list = piece_at(words, &places, 0);
+    let perm = letters_of(alloc, list.at, list.words)?;
     Ok(Command::Schubert { perm })
 }
 
@@ -46,49 +28,10 @@ pub fn read_schubert(alloc: Global, words: &[String]) -> Result<Command, WordsFa
 pub fn read_growth(alloc: Global, words: &[String]) -> Result<Command, WordsFault>
     ensures { IsRead (growth_entry ∷ []) (map string_bytes words.now) result }
 {
-    let perm = read_one(alloc, words, "growth")?;
+    let places = cut(words, "growth", &[Part::Letters])?;
+    let list = piece_at(words, &places, 0);
+    let perm = letters_of(alloc, list.at, list.words)?;
     Ok(Command::Growth { perm })
-}
-
-/// The permutations of two lists with a word between them, the first of which begins at the second word, or the first offence;
-/// at most so many letters of each may be written.
-fn read_two_permutations(
-    alloc: Global,
-    most: usize,
-    left: &[String],
-    right: &[String],
-) -> Result<(Perm, Perm), WordsFault>
-    requires most { most ≤ 16 }
-    requires left { 0 < length left.now }
-    requires right { 0 < length right.now }
-    requires room { 2 + length left.now + length right.now < 2 ^ 64 }
-    ensures { IsJudged (λ p. p ≡ (kept (numbers_of (map string_bytes left.now)), kept (numbers_of (map string_bytes right.now))))
-        (first_offence (two_permutations most (map string_bytes left.now) (map string_bytes right.now))) result }
-{
-    let behind = 2 + left.len() as u64;
-    let left = read_permutation(alloc, most, 1, left)?;
-    let right = read_permutation(alloc, most, behind, right)?;
-    Ok((left, right))
-}
-
-/// The words of the command of this name on two permutations of at most so many letters.
-fn read_pair(
-    alloc: Global,
-    words: &[String],
-    name: &str,
-    most: usize,
-) -> Result<(Perm, Perm), WordsFault>
-    requires { most ≤ 16 }
-    ensures { (says : List ℕ → List ℕ → PlainCommand)
-        → IsPartRead (pair_entry name.now most says ∷ []) (λ p. says p.0 p.1) (map string_bytes words.now) result }
-{
-    let Some(lists) = behind(words, name) else {
-        return Err(syntax(0));
-    };
-    match two_letter_lists(lists, "-") {
-        Err(left) => Err(syntax((words.len() - left) as u64)),
-        Ok((left, right)) => read_two_permutations(alloc, most, left, right),
-    }
 }
 
 /// Reads the words of `schubmult`: that word and two permutations with `-` between them. Words are refused as
@@ -96,7 +39,12 @@ fn read_pair(
 pub fn read_schubmult(alloc: Global, words: &[String]) -> Result<Command, WordsFault>
     ensures { IsRead (schubmult_entry ∷ []) (map string_bytes words.now) result }
 {
-    let (left, right) = read_pair(alloc, words, "schubmult", MOST_PERMUTED)?;
+    let parts = &[Part::Letters, Part::Minus, Part::Letters];
+    let places = cut(words, "schubmult", parts)?;
+    let first = piece_at(words, &places, 0);
+    let left = letters_of(alloc, first.at, first.words)?;
+    let second = piece_at(words, &places, 2);
+    let right = letters_of(alloc, second.at, second.words)?;
     Ok(Command::Schubmult { left, right })
 }
 
@@ -105,6 +53,37 @@ pub fn read_schubmult(alloc: Global, words: &[String]) -> Result<Command, WordsF
 pub fn read_dschubmult(alloc: Global, words: &[String]) -> Result<Command, WordsFault>
     ensures { IsRead (dschubmult_entry ∷ []) (map string_bytes words.now) result }
 {
-    let (left, right) = read_pair(alloc, words, "dschubmult", MOST_DOUBLED)?;
+    let parts = &[Part::Doubled, Part::Minus, Part::Doubled];
+    let places = cut(words, "dschubmult", parts)?;
+    let first = piece_at(words, &places, 0);
+    let left = doubled_of(alloc, first.at, first.words)?;
+    let second = piece_at(words, &places, 2);
+    let right = doubled_of(alloc, second.at, second.words)?;
     Ok(Command::Dschubmult { left, right })
+}
+
+/// Reads the words of `stanley`: that word, `-r` and a number of variables, and the letters of a permutation. Words are refused
+/// as `read_schubert` says, and a number of variables that is not from 1 to 64 as `Range`.
+pub fn read_stanley(alloc: Global, words: &[String]) -> Result<Command, WordsFault>
+    ensures { IsRead (stanley_entry ∷ []) (map string_bytes words.now) result }
+{
+    let places = cut(words, "stanley", &[Part::Rows, Part::Letters])?;
+    let limit = piece_at(words, &places, 0);
+    let rows = rows_of(limit.at, limit.words)?;
+    let list = piece_at(words, &places, 1);
+    let perm = letters_of(alloc, list.at, list.words)?;
+    Ok(Command::Stanley { rows, perm })
+}
+
+/// Reads the words of `rsk`: that word and the letters of a word.
+///
+/// Words that are no such command are refused as `Syntax`, at the word where they go wrong. Otherwise the first offence is
+/// refused: a letter past 2^127 - 1 as `Literal`; one that is 0 or past 65,535, and the 257th, as `Range`.
+pub fn read_rsk(alloc: Global, words: &[String]) -> Result<Command, WordsFault>
+    ensures { IsRead (rsk_entry ∷ []) (map string_bytes words.now) result }
+{
+    let places = cut(words, "rsk", &[Part::Word])?;
+    let list = piece_at(words, &places, 0);
+    let letters = word_of(alloc, list.at, list.words)?;
+    Ok(Command::Rsk { letters })
 }

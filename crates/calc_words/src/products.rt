@@ -1,45 +1,14 @@
-//! The words of `mult`.
-ghost use Rattle.std.specs.Prelude.{◌≡◌, ◌≤◌, ◌<◌, ◌+◌, ◌^◌, ℕ, List, [], ◌∷◌, ◌++◌, Some, length, map, string_bytes};
-ghost use Rattle.sym_model.specs.CommandOffence.{first_offence, factor_offences};
-ghost use Rattle.sym_model.specs.Form.{EachOf, Written, words_of};
-ghost use Rattle.sym_model.specs.Grammar.{mult_entry};
-ghost use Rattle.sym_model.specs.WordForms.{optional, rows_words, row_limit as limit_of, row_limit_offences, numbers as numbers_of, partition};
-ghost use Rattle.calc_words.specs.NumberRuns.{IsNumber};
-ghost use Rattle.calc_words.specs.Reading.{IsRead, IsJudged};
-ghost use Rattle.calc_words.specs.Rows.{IsLimitWord};
-ghost use Rattle.calc_words.specs.FactorWords.{next_text};
+//! The words of `mult`, `skew`, `coef` and `coprod`.
+ghost use Rattle.std.specs.Prelude.{[], ◌∷◌, map, string_bytes};
+ghost use Rattle.sym_model.specs.Grammar.{mult_entry, skew_entry, coef_entry, coprod_entry};
+ghost use Rattle.calc_words.specs.Reading.{IsRead};
 
-use crate::factors::read_factors;
-use crate::lists::factor_lists;
-use crate::{Options, behind, options_first, row_limit, syntax};
+use crate::command_cuts::{cut, piece_at};
+use crate::part_values::{factors_of, maybe_form_of, maybe_rows_of, shape_of};
+use crate::word_parts::Part;
 use calc_base::WordsFault;
 use calc_commands::Command;
 use std::alloc::Global;
-
-/// The factors that begin at the word `at`, behind these options, or the first offence.
-fn read_optioned(
-    alloc: Global,
-    at: u64,
-    options: Options,
-    first: &[String],
-    later: &[String],
-) -> Result<Command, WordsFault>
-    requires { at + length first.now + 1 + length later.now < 2 ^ 64 }
-    ensures { (limit : Written (optional rows_words)) → IsLimitWord options.rows limit → 1 + length (words_of (optional rows_words) limit) ≤ at
-        → (second : List (List ℕ)) (others : List (List (List ℕ))) → map string_bytes later.now ≡ second ++ next_text others
-        → EachOf IsNumber second → EachOf (EachOf IsNumber) others
-        → IsJudged (λ c. c ≡ Command.Mult (limit_of limit) options.one_line (partition (map string_bytes first.now) ∷ partition second ∷ map partition others))
-        (first_offence (row_limit_offences 1 limit
-        ++ factor_offences 0 at (numbers_of (map string_bytes first.now) ∷ numbers_of second ∷ map numbers_of others))) result }
-{
-    let rows = row_limit(options.rows)?;
-    let factors = read_factors(alloc, at, first, later)?;
-    Ok(Command::Mult {
-        rows,
-        one_line: options.one_line,
-        factors,
-    })
-}
 
 /// Reads the words of `mult`: that word, `-r` and a number of rows where a bound is wanted, `-m` where the answer is wanted
 /// on one line, and two to eight partitions with `-` between them.
@@ -51,17 +20,81 @@ fn read_optioned(
 pub fn read_mult(alloc: Global, words: &[String]) -> Result<Command, WordsFault>
     ensures { IsRead (mult_entry ∷ []) (map string_bytes words.now) result }
 {
-    let Some(optioned) = behind(words, "mult") else {
-        return Err(syntax(0));
-    };
-    match options_first(optioned) {
-        Err(left) => Err(syntax((words.len() - left) as u64)),
-        Ok((options, rest)) => match factor_lists(rest) {
-            Err(left) => Err(syntax((words.len() - left) as u64)),
-            Ok((first, later)) => {
-                let at = (words.len() - rest.len()) as u64;
-                read_optioned(alloc, at, options, first, later)
-            }
-        },
-    }
+    let parts = &[Part::MaybeRows, Part::MaybeForm, Part::Factors];
+    let places = cut(words, "mult", parts)?;
+    let limit = piece_at(words, &places, 0);
+    let rows = maybe_rows_of(limit.at, limit.words)?;
+    let form = piece_at(words, &places, 1);
+    let one_line = maybe_form_of(form.words);
+    let list = piece_at(words, &places, 2);
+    let factors = factors_of(alloc, list.at, list.words)?;
+    Ok(Command::Mult {
+        rows,
+        one_line,
+        factors,
+    })
+}
+
+/// Reads the words of `skew`: that word, `-r` and a number of rows where a bound is wanted, `-m` where the answer is wanted
+/// on one line, and two partitions with `/` between them.
+///
+/// Words that are no such command are refused as `Syntax`, at the word where they go wrong. Otherwise the first offence is
+/// refused: a number past 2^127 - 1 as `Literal`; a number of rows that is not from 1 to 64, the 65th number of a partition,
+/// and the one at which its sum passes 512, as `Range`; a number of a partition greater than the one before it as `Shape`.
+pub fn read_skew(alloc: Global, words: &[String]) -> Result<Command, WordsFault>
+    ensures { IsRead (skew_entry ∷ []) (map string_bytes words.now) result }
+{
+    let parts = &[
+        Part::MaybeRows,
+        Part::MaybeForm,
+        Part::Shape,
+        Part::Slash,
+        Part::Shape,
+    ];
+    let places = cut(words, "skew", parts)?;
+    let limit = piece_at(words, &places, 0);
+    let rows = maybe_rows_of(limit.at, limit.words)?;
+    let form = piece_at(words, &places, 1);
+    let one_line = maybe_form_of(form.words);
+    let first = piece_at(words, &places, 2);
+    let outer = shape_of(alloc, first.at, first.words)?;
+    let second = piece_at(words, &places, 4);
+    let inner = shape_of(alloc, second.at, second.words)?;
+    Ok(Command::Skew {
+        rows,
+        one_line,
+        outer,
+        inner,
+    })
+}
+
+/// Reads the words of `coef`: that word and three partitions with `-` between them. Words are refused as `read_skew` says.
+pub fn read_coef(alloc: Global, words: &[String]) -> Result<Command, WordsFault>
+    ensures { IsRead (coef_entry ∷ []) (map string_bytes words.now) result }
+{
+    let parts = &[
+        Part::Shape,
+        Part::Minus,
+        Part::Shape,
+        Part::Minus,
+        Part::Shape,
+    ];
+    let places = cut(words, "coef", parts)?;
+    let first = piece_at(words, &places, 0);
+    let outer = shape_of(alloc, first.at, first.words)?;
+    let second = piece_at(words, &places, 2);
+    let left = shape_of(alloc, second.at, second.words)?;
+    let third = piece_at(words, &places, 4);
+    let right = shape_of(alloc, third.at, third.words)?;
+    Ok(Command::Coef { outer, left, right })
+}
+
+/// Reads the words of `coprod`: that word and the numbers of a partition. Words are refused as `read_skew` says.
+pub fn read_coprod(alloc: Global, words: &[String]) -> Result<Command, WordsFault>
+    ensures { IsRead (coprod_entry ∷ []) (map string_bytes words.now) result }
+{
+    let places = cut(words, "coprod", &[Part::Shape])?;
+    let list = piece_at(words, &places, 0);
+    let shape = shape_of(alloc, list.at, list.words)?;
+    Ok(Command::Coprod { shape })
 }

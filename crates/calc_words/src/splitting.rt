@@ -1,14 +1,10 @@
-//! The words of a command, cut into its parts.
-ghost use Rattle.std.specs.Prelude.{◌≡◌, ◌++◌, ◌∷◌, ◌≤◌, ◌<◌, false, map, length, string_bytes, MatchOption, IfOk, IfErr, [], codes};
+//! Words at the front of others: one that is told, a number, numbers.
+ghost use Rattle.std.specs.Prelude.{◌≡◌, ◌++◌, ◌∷◌, map, string_bytes, MatchOption};
 ghost use Rattle.sym_model.specs.Form.{EachOf};
-ghost use Rattle.calc_words.specs.NumberRuns.{IsNumber, BeginsOtherwise, AreTwoLists};
-ghost use Rattle.sym_model.specs.Form.{Form, sequence, is_number_word, derivatives};
-ghost use Rattle.sym_model.specs.WordForms.{the, optional, rows_words, partition_words, permutation_words};
-ghost use Rattle.word_laws.specs.Reading.{is_expression};
-ghost use Rattle.calc_words.specs.Standing.{WrongAt};
-ghost use Rattle.calc_words.specs.Rows.{RowsAre};
+ghost use Rattle.calc_words.specs.FactorWords.{BeginsWithDigit, begins_with_digit as begins_with_digit_of};
+ghost use Rattle.calc_words.specs.NumberRuns.{IsNumber, BeginsOtherwise};
 
-use crate::numbers::{is_number, value_of};
+use crate::numbers::{is_digit_byte, is_number};
 
 /// The words behind the first, where that is this one.
 pub fn behind<'a>(words: &'a [String], text: &str) -> Option<&'a [String]>
@@ -52,100 +48,26 @@ pub fn numbers(words: &[String]) -> (&[String], &[String])
     words.split_at(words.len())
 }
 
-/// The words, where all of them are numbers; else how many are left from the wrong one on.
-pub(crate) fn last_list(words: &[String]) -> Result<&[String], usize>
-    ensures ok { IfOk result (λ list. (list.now ≡ words.now) × EachOf IsNumber (map string_bytes words.now)) }
-    ensures wrong { IfErr result (λ left. WrongAt partition_words (map string_bytes words.now) left) }
-    ensures left { IfErr result (λ left. left ≤ length words.now) }
+/// Whether the word begins with a digit, by which numbers are told from the `-` between them.
+fn begins_with_digit(word: &[u8]) -> bool
+    ensures { result ≡ begins_with_digit_of word.now }
 {
-    let (_, rest) = numbers(words);
-    if rest.is_empty() {
-        Ok(words)
-    } else {
-        Err(rest.len())
+    let Some((byte, _)) = word.split_first() else {
+        return false;
+    };
+    is_digit_byte(*byte)
+}
+
+/// The words at the front that begin with a digit, and those behind them.
+pub(crate) fn list_first(words: &[String]) -> (&[String], &[String])
+    ensures parts { map string_bytes words.now ≡ map string_bytes result.0.now ++ map string_bytes result.1.now }
+    ensures list { EachOf BeginsWithDigit (map string_bytes result.0.now) }
+    ensures rest { BeginsOtherwise BeginsWithDigit (map string_bytes result.1.now) }
+{
+    for (count, word) in words.iter().enumerate() {
+        if !begins_with_digit(word.as_bytes()) {
+            return words.split_at(count);
+        }
     }
-}
-
-/// Two lists of numbers with this word between them; else how many words are left from the wrong one on.
-pub(crate) fn two_lists<'a>(
-    words: &'a [String],
-    separator: &str,
-) -> Result<(&'a [String], &'a [String]), usize>
-    requires { is_number_word separator.now ≡ false }
-    ensures ok { IfOk result (λ p. AreTwoLists separator.now (map string_bytes p.0.now) (map string_bytes p.1.now) (map string_bytes words.now)) }
-    ensures wrong { IfErr result (λ left. WrongAt (sequence partition_words (sequence (the separator.now) partition_words)) (map string_bytes words.now) left) }
-    ensures left { IfErr result (λ left. left ≤ length words.now) }
-{
-    let (first, rest) = numbers(words);
-    let Some(second) = behind(rest, separator) else {
-        return Err(rest.len());
-    };
-    let second = last_list(second)?;
-    Ok((first, second))
-}
-
-/// The words, where all of them are numbers and there is one; else how many are left from the wrong one on.
-pub(crate) fn last_letters(words: &[String]) -> Result<&[String], usize>
-    ensures ok { IfOk result (λ list. (list.now ≡ words.now) × (0 < length words.now) × EachOf IsNumber (map string_bytes words.now)) }
-    ensures wrong { IfErr result (λ left. WrongAt permutation_words (map string_bytes words.now) left) }
-    ensures left { IfErr result (λ left. left ≤ length words.now) }
-{
-    let Some((_, rest)) = first_number(words) else {
-        return Err(words.len());
-    };
-    last_list(rest)?;
-    Ok(words)
-}
-
-/// Two lists of at least one number with this word between them; else how many words are left from the wrong one on.
-pub(crate) fn two_letter_lists<'a>(
-    words: &'a [String],
-    separator: &str,
-) -> Result<(&'a [String], &'a [String]), usize>
-    requires { is_number_word separator.now ≡ false }
-    ensures ok { IfOk result (λ p. AreTwoLists separator.now (map string_bytes p.0.now) (map string_bytes p.1.now) (map string_bytes words.now)) }
-    ensures some { IfOk result (λ p. (0 < length p.0.now) × (0 < length p.1.now)) }
-    ensures wrong { IfErr result (λ left. WrongAt (sequence permutation_words (sequence (the separator.now) permutation_words)) (map string_bytes words.now) left) }
-    ensures left { IfErr result (λ left. left ≤ length words.now) }
-{
-    let Some(_) = first_number(words) else {
-        return Err(words.len());
-    };
-    let (first, rest) = numbers(words);
-    let Some(second) = behind(rest, separator) else {
-        return Err(rest.len());
-    };
-    let second = last_letters(second)?;
-    Ok((first, second))
-}
-
-/// The number of rows as it is written, where it is there; its value is kept where it is no more than 2^127 - 1.
-#[derive(Clone, Copy, Debug)]
-pub enum RowsWord {
-    /// There is no number of rows.
-    Absent,
-    /// It is there, with a value that is kept up to 2^127 - 1.
-    Given { value: Option<u128> },
-}
-
-/// The number of rows, and the words behind it; else how many words are left from the wrong one on.
-pub(crate) fn rows_first(words: &[String]) -> Result<(RowsWord, &[String]), usize>
-    ensures ok { IfOk result (λ p. RowsAre p.0 (map string_bytes words.now) (map string_bytes p.1.now)) }
-    ensures shorter { IfOk result (λ p. length p.1.now ≤ length words.now) }
-    ensures wrong { (g : Form) → derivatives is_expression g (codes "-r") ≡ []
-        → IfErr result (λ left. WrongAt (sequence (optional rows_words) g) (map string_bytes words.now) left) }
-    ensures left { IfErr result (λ left. left ≤ length words.now) }
-{
-    let Some(rest) = behind(words, "-r") else {
-        return Ok((RowsWord::Absent, words));
-    };
-    match first_number(rest) {
-        Some((number, rest)) => Ok((
-            RowsWord::Given {
-                value: value_of(number.as_bytes()),
-            },
-            rest,
-        )),
-        None => Err(rest.len()),
-    }
+    words.split_at(words.len())
 }

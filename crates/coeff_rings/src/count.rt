@@ -1,9 +1,10 @@
 //! Natural numbers of 128 bits.
 ghost use Rattle.std.specs.Prelude.{refl, ◌≡◌, ℕ, ◌+◌, ◌*◌, ◌^◌, ◌<◌, pos};
+ghost use Rattle.std.proofs.Common.{sym};
 ghost use Rattle.coeff_rings.specs.Fractions.{whole_count};
 ghost use Rattle.coeff_rings.specs.Checked.{checked_u128};
 ghost use Rattle.coeff_rings.specs.Proved.Fractions.{InLowestTerms-whole};
-ghost use Rattle.coeff_rings.specs.Proved.Whole.{zero_fits_u128, one_fits_u128, same_count, checked_u128-held, sum_answers_u128, sum_laws_u128};
+ghost use Rattle.coeff_rings.specs.Proved.Whole.{sum-whole, count_fitted, zero_fits_u128, one_fits_u128, same_count, checked_u128-held, sum_answers_u128, sum_laws_u128};
 
 use crate::digits::Digits;
 use crate::scalar::Scalar;
@@ -56,6 +57,8 @@ impl Scalar for Count {
 
     ghost is_held = { λ n. n < 2 ^ 128 };
 
+    ghost sum = { ◌+◌ };
+
     ghost checked_sum = { λ a b. checked_u128 (a + b) };
 
     fn zero() -> Count {
@@ -86,6 +89,10 @@ impl Scalar for Count {
     ghost same_value = { same_count };
 
     ghost lowest = { λ a _. InLowestTerms-whole (pos a) };
+
+    ghost sum_is = { λ a b s. count_fitted (a + b) s };
+
+    ghost sum_value = { λ a b. sym (sum-whole (pos a) (pos b)) };
 
     ghost sum_answers = { sum_answers_u128 };
 

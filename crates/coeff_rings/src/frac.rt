@@ -2,10 +2,10 @@
 ghost use Rattle.std.specs.Prelude.{refl, ◌≡◌, ℕ, ℤ, pos, neg_ℤ, ◌+◌, ◌*◌, ◌<◌, ◌^◌, ◌*ℤ◌, Bool, unsigned_abs, FitsSigned, SomeIff, IfSome};
 ghost use Rattle.std.specs.Int.{w128, IsGcd, ◌∣◌};
 ghost use Rattle.sym_model.specs.Expansion.{Fraction};
-ghost use Rattle.coeff_rings.specs.Fractions.{whole, lowest_terms, greatest_common_divisor};
+ghost use Rattle.coeff_rings.specs.Fractions.{whole, lowest_terms, greatest_common_divisor, fraction_sum, fraction_product};
 ghost use Rattle.coeff_rings.specs.Signs.{signed, signs_differ};
 ghost use Rattle.coeff_rings.specs.Checked.{IsFraction, CommonFits, checked_i128, checked_fraction, checked_fraction_of, numerator_over_common, common_denominator, checked_fraction_sum, checked_fraction_difference, checked_fraction_product, checked_fraction_quotient, checked_fraction_negation};
-ghost use Rattle.coeff_rings.specs.Proved.FractionAnswers.{zero_is_fraction, one_is_fraction, sum_answers_fraction, sum_held_fraction, sum_laws_fraction, negation_answers_fraction, negation_held_fraction, difference_answers_fraction, difference_held_fraction, product_answers_fraction, product_held_fraction, ring_laws_fraction, quotient_answers_fraction, quotient_held_fraction, field_laws_fraction};
+ghost use Rattle.coeff_rings.specs.Proved.FractionAnswers.{fitted_sum, fitted_product, zero_is_fraction, one_is_fraction, sum_answers_fraction, sum_held_fraction, sum_laws_fraction, negation_answers_fraction, negation_held_fraction, difference_answers_fraction, difference_held_fraction, product_answers_fraction, product_held_fraction, ring_laws_fraction, quotient_answers_fraction, quotient_held_fraction, field_laws_fraction};
 
 use crate::digits::Digits;
 use crate::scalar::{Field, Ring, Scalar};
@@ -88,6 +88,8 @@ impl Scalar for Frac {
 
     ghost is_held = { IsFraction };
 
+    ghost sum = { fraction_sum };
+
     ghost checked_sum = { checked_fraction_sum };
 
     fn zero() -> Frac {
@@ -125,6 +127,10 @@ impl Scalar for Frac {
 
     ghost lowest = { λ a h. h.lowest };
 
+    ghost sum_is = { fitted_sum };
+
+    ghost sum_value = { λ a b. refl };
+
     ghost sum_answers = { sum_answers_fraction };
 
     ghost sum_held = { sum_held_fraction };
@@ -136,6 +142,8 @@ impl Ring for Frac {
     ghost checked_negation = { checked_fraction_negation };
 
     ghost checked_difference = { checked_fraction_difference };
+
+    ghost product = { fraction_product };
 
     ghost checked_product = { checked_fraction_product };
 
@@ -169,6 +177,10 @@ impl Ring for Frac {
     ghost difference_answers = { difference_answers_fraction };
 
     ghost difference_held = { difference_held_fraction };
+
+    ghost product_is = { fitted_product };
+
+    ghost product_value = { λ a b. refl };
 
     ghost product_answers = { λ a b _ _. product_answers_fraction a b };
 

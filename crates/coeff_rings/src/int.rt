@@ -1,10 +1,11 @@
 //! Whole numbers of 128 bits.
 ghost use Rattle.std.specs.Prelude.{refl, ◌≡◌, ℤ, pos, ◌+ℤ◌, ◌-ℤ◌, ◌*ℤ◌, neg_ℤ, FitsSigned};
 ghost use Rattle.std.specs.Int.{w128};
+ghost use Rattle.std.proofs.Common.{sym};
 ghost use Rattle.coeff_rings.specs.Fractions.{whole};
 ghost use Rattle.coeff_rings.specs.Checked.{checked_i128};
 ghost use Rattle.coeff_rings.specs.Proved.Fractions.{InLowestTerms-whole};
-ghost use Rattle.coeff_rings.specs.Proved.Whole.{zero_fits_128_bits, one_fits_128_bits, same_whole, checked_i128-held, sum_answers_i128, sum_laws_i128, negation_answers_i128, difference_answers_i128, product_answers_i128, ring_laws_i128};
+ghost use Rattle.coeff_rings.specs.Proved.Whole.{sum-whole, product-whole, whole_fitted, zero_fits_128_bits, one_fits_128_bits, same_whole, checked_i128-held, sum_answers_i128, sum_laws_i128, negation_answers_i128, difference_answers_i128, product_answers_i128, ring_laws_i128};
 
 use crate::digits::Digits;
 use crate::scalar::{Ring, Scalar};
@@ -50,6 +51,8 @@ impl Scalar for Int {
 
     ghost is_held = { FitsSigned w128 };
 
+    ghost sum = { ◌+ℤ◌ };
+
     ghost checked_sum = { λ a b. checked_i128 (a +ℤ b) };
 
     fn zero() -> Int {
@@ -81,6 +84,10 @@ impl Scalar for Int {
 
     ghost lowest = { λ a _. InLowestTerms-whole a };
 
+    ghost sum_is = { λ a b s. whole_fitted (a +ℤ b) s };
+
+    ghost sum_value = { λ a b. sym (sum-whole a b) };
+
     ghost sum_answers = { sum_answers_i128 };
 
     ghost sum_held = { λ a b _ _. checked_i128-held (a +ℤ b) };
@@ -92,6 +99,8 @@ impl Ring for Int {
     ghost checked_negation = { λ a. checked_i128 (neg_ℤ a) };
 
     ghost checked_difference = { λ a b. checked_i128 (a -ℤ b) };
+
+    ghost product = { ◌*ℤ◌ };
 
     ghost checked_product = { λ a b. checked_i128 (a *ℤ b) };
 
@@ -118,6 +127,10 @@ impl Ring for Int {
     ghost difference_answers = { difference_answers_i128 };
 
     ghost difference_held = { λ a b _ _. checked_i128-held (a -ℤ b) };
+
+    ghost product_is = { λ a b p. whole_fitted (a *ℤ b) p };
+
+    ghost product_value = { λ a b. sym (product-whole a b) };
 
     ghost product_answers = { product_answers_i128 };
 

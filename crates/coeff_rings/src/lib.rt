@@ -1,5 +1,11 @@
 //! Exact coefficients: integers, counts and fractions of 128 bits whose every operation gives the
 //! exact value or `None`. Nothing here takes memory.
+//!
+//! What is proved:
+//!
+//! `Int`, `Count` and `Frac`: each operation gives the sum, difference, product or quotient of the
+//! values, None comes exactly where its documentation says, and the laws of room say where an
+//! answer is sure.
 #![tactic(auto)]
 
 mod count;

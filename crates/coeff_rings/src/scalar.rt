@@ -1,12 +1,13 @@
 //! What every coefficient can do. A scalar has a value, a fraction in lowest terms, and each of its
 //! operations gives the exact value or `None`. A contract says which by a function of the scalars
-//! (as `checked_sum`), so that code over any scalar can say where its ring refuses.
+//! (as `checked_sum`), so that code over any scalar can say where its ring refuses. What is exact, whether
+//! it fits or not, has a name too (as `sum`).
 //!
 //! The laws under a trait's functions serve code over any scalar. Where they ask `is_held`, what is
 //! true of every scalar that a program meets, each function gives that of what it takes and answers.
-ghost use Rattle.std.specs.Prelude.{◌≡◌, ◌≢◌, ◌↔◌, ℕ, ℤ, pos, List, Option, IsTrue, IfSome};
+ghost use Rattle.std.specs.Prelude.{◌≡◌, ◌≢◌, ◌↔◌, ℕ, ℤ, pos, List, Option, Some, IsTrue, IfSome};
 ghost use Rattle.sym_model.specs.Expansion.{Fraction};
-ghost use Rattle.coeff_rings.specs.Fractions.{whole, InLowestTerms};
+ghost use Rattle.coeff_rings.specs.Fractions.{whole, InLowestTerms, fraction_sum, fraction_product};
 ghost use Rattle.coeff_rings.specs.Answers.{AnswersSum, AnswersDifference, AnswersProduct, AnswersNegation, AnswersQuotient};
 ghost use Rattle.coeff_rings.specs.Laws.{SumLaws, RingLaws, FieldLaws};
 ghost use Rattle.coeff_rings.specs.Text.{decimal_text};
@@ -25,6 +26,9 @@ pub trait Scalar: Copy {
 
     // What is true of every scalar of the type.
     ghost is_held: { Self → Type 0 };
+
+    // The exact sum, whether it fits or not.
+    ghost sum: { Self → Self → Self };
 
     // The answer of `add`.
     ghost checked_sum: { Self → Self → Option Self };
@@ -69,6 +73,10 @@ pub trait Scalar: Copy {
 
     ghost lowest: { (a : Self) → is_held a → InLowestTerms (value a) };
 
+    ghost sum_is: { (a b s : Self) → checked_sum a b ≡ Some s → s ≡ sum a b };
+
+    ghost sum_value: { (a b : Self) → value (sum a b) ≡ fraction_sum (value a) (value b) };
+
     ghost sum_answers: { (a b : Self) → is_held a → is_held b → AnswersSum value a b (checked_sum a b) };
 
     ghost sum_held: { (a b : Self) → is_held a → is_held b → IfSome (checked_sum a b) is_held };
@@ -82,6 +90,9 @@ pub trait Ring: Scalar {
     ghost checked_negation: { Self → Option Self };
 
     ghost checked_difference: { Self → Self → Option Self };
+
+    // The exact product, whether it fits or not.
+    ghost product: { Self → Self → Self };
 
     ghost checked_product: { Self → Self → Option Self };
 
@@ -123,6 +134,10 @@ pub trait Ring: Scalar {
 
     ghost difference_held: { (a b : Self) → Self.is_held a → Self.is_held b
         → IfSome (checked_difference a b) Self.is_held };
+
+    ghost product_is: { (a b p : Self) → checked_product a b ≡ Some p → p ≡ product a b };
+
+    ghost product_value: { (a b : Self) → Self.value (product a b) ≡ fraction_product (Self.value a) (Self.value b) };
 
     ghost product_answers: { (a b : Self) → Self.is_held a → Self.is_held b
         → AnswersProduct Self.value a b (checked_product a b) };

@@ -1,5 +1,1 @@
-pub mod ShiftSums
-pub mod FactorProducts
-pub mod Shares
-pub mod WaitingLists
-pub mod WalkSteps
+pub mod FactorGains

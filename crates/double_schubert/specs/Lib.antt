@@ -1,3 +1,3 @@
 -- The definitions that the contracts cite.
 pub mod Shifts
-pub mod Walk
+pub mod FactorLaws

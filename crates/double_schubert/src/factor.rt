@@ -1,113 +1,97 @@
 //! Lists of terms y^e·S_w, and their products with x_r - y_c.
-ghost use Rattle.std.specs.Prelude.{◌≡◌, ℕ, ◌+◌, ◌*◌, ◌^◌, ◌≤◌, ◌+ℤ◌, ◌*ℤ◌, ℤ, neg_ℤ, nat_abs, max, List, length, IfOk, OnOk, IsErrOf};
+ghost use Rattle.std.specs.Prelude.{ℕ, ◌+◌, ◌*◌, ◌^◌, ◌≤◌, max, [], ◌∷◌, length, IfOk, OnOk, IsErrOf};
 ghost use Rattle.sym_model.specs.DoubleSchubert.{difference_in, shifted_in};
 ghost use Rattle.sym_model.specs.Expansion.{Represents};
 ghost use Rattle.sym_model.specs.ListWeight.{list_weight};
-ghost use Rattle.sym_model.specs.Partition.{size};
 ghost use Rattle.sym_model.specs.Polynomial.{times};
-ghost use Rattle.sym_model.specs.Sum.{total, Among};
-ghost use Rattle.sym_model.specs.WholeTerms.{AreWhole, combined, numerators};
-ghost use Rattle.double_schubert_laws.specs.Factors.{over_factor};
-ghost use Rattle.sparse_polys.specs.WholeTables.{over, mass, Gains, HaveLabels};
-ghost use Rattle.double_schubert.specs.Shifts.{IsWithin, IsTable, greatest_length};
+ghost use Rattle.sym_model.specs.WholeTerms.{as_fractions, combined};
+ghost use Rattle.linear_combinations.specs.Gains.{HaveLabels, Gains, Overflows};
+ghost use Rattle.double_schubert.specs.Shifts.{IsWithin, each_beside, equal, greatest_length};
 
 use calc_base::SumFault;
 use coeff_rings::{Int, Ring};
+use linear_combinations::{Lin, Rule};
 use perm_codes::Perm;
-use sparse_polys::{Lin, Monomial, Shifted};
+use sparse_polys::{Monomial, Shifted};
 use std::alloc::Global;
+use transition_walk::Factor;
 
 /// A list of terms y^e·S_w with whole coefficients.
 pub(crate) type Shifts = Lin<Shifted, Int>;
 
-/// Adds a coefficient at a label.
-pub(crate) fn add_at(sum: &mut Shifts, perm: &Perm, y: Monomial, c: Int) -> Result<(), SumFault>
-    ensures gains { OnOk result (Gains sum.old sum.new (λ φ. c *ℤ φ (perm.now, y)) (nat_abs c)) }
-    ensures labels { OnOk result ((letters degree : ℕ) → HaveLabels (IsWithin letters degree) sum.old
-        → IsWithin letters degree (perm.now, y) → HaveLabels (IsWithin letters degree) sum.new) }
-    ensures large { IsErrOf result SumFault.Large → 2 ^ 127 ≤ mass sum.old + nat_abs c }
+/// The factor x_r - y_c: by Monk's rule (x_r - y_c)·y^e·S_w is the sum of the y^e·S_v over the covers v = w·t_rj with j > r,
+/// and of y_w(r)·y^e·S_w, less that of the y^e·S_v over the covers v = w·t_ir with i < r, and less y_c·y^e·S_w.
+#[derive(Drop)]
+pub(crate) struct TimesFactor {
+    pub(crate) r: u16,
+    pub(crate) c: u16,
+}
+
+impl Rule<Shifted, Shifted> for TimesFactor {
+    ghost use Rattle.double_schubert.specs.Shifts.{IsFactor, IsWithin, factor_terms};
+
+    ghost takes = { λ rule label. IsFactor rule.r rule.c × IsWithin 254 32384 label };
+
+    ghost image = { λ rule label. factor_terms rule.r rule.c label };
+
+    fn add_image(&self, label: &Shifted, k: Int, sum: &mut Shifts) -> Result<(), SumFault> {
+        let covers = label.perm.covers_at(self.r)?;
+        let letter = label.perm.letter(self.r);
+        let more = label.y.times_var(letter)?;
+        let less = label.y.times_var(self.c)?;
+        let minus = k.neg().ok_or(SumFault::Large)?;
+        add_beside(sum, covers.up(), &label.y, k)?;
+        add_beside(sum, covers.down(), &label.y, minus)?;
+        add_one(sum, &label.perm, more, k)?;
+        add_one(sum, &label.perm, less, minus)
+    }
+}
+
+/// Adds a coefficient at a permutation beside the monomial y.
+fn add_one(sum: &mut Shifts, perm: &Perm, y: Monomial, k: Int) -> Result<(), SumFault>
+    ensures gains { OnOk result (Gains sum.old (((perm.now, y), k) ∷ []) sum.new) }
+    ensures large { IsErrOf result SumFault.Large → Overflows equal sum.old (((perm.now, y), k) ∷ []) }
 {
-    is_whole(sum);
     let perm = perm.copy()?;
-    sum.add_term(Shifted { perm, y }, c)
+    sum.add_at_label(&Shifted { perm, y }, k)
 }
 
 /// Adds a coefficient at each of some permutations beside the monomial y.
-fn add_each(sum: &mut Shifts, perms: &[Perm], y: &Monomial, c: Int) -> Result<(), SumFault>
-    ensures gains { OnOk result (Gains sum.old sum.new
-        (λ φ. c *ℤ total (λ (v : List ℕ). φ (v, y.now)) perms.now) (nat_abs c * length perms.now)) }
-    ensures labels { OnOk result ((letters degree : ℕ) → HaveLabels (IsWithin letters degree) sum.old
-        → ((v : List ℕ) → Among v perms.now → length v ≤ letters) → size y.now ≤ degree
-        → HaveLabels (IsWithin letters degree) sum.new) }
-    ensures large { IsErrOf result SumFault.Large → 2 ^ 127 ≤ mass sum.old + nat_abs c * length perms.now }
+fn add_beside(sum: &mut Shifts, perms: &[Perm], y: &Monomial, k: Int) -> Result<(), SumFault>
+    ensures gains { OnOk result (Gains sum.old (each_beside k y.now perms.now) sum.new) }
+    ensures large { IsErrOf result SumFault.Large → Overflows equal sum.old (each_beside k y.now perms.now) }
 {
     for perm in perms {
-        add_at(sum, perm, y.copy()?, c)?;
+        add_one(sum, perm, y.copy()?, k)?;
     }
     Ok(())
 }
 
-/// The negated coefficient.
-fn negated(c: Int) -> Result<Int, SumFault>
-    ensures ok { IfOk result (λ d. d ≡ neg_ℤ c) }
-    ensures large { IsErrOf result SumFault.Large → 2 ^ 127 ≤ nat_abs c }
-{
-    c.neg().ok_or(SumFault::Large)
-}
+impl Factor<Shifted> for TimesFactor {
+    ghost use Rattle.std.specs.Prelude.{length, max};
+    ghost use Rattle.sym_model.specs.Partition.{size};
+    ghost use Rattle.sym_model.specs.Permutation.{letter};
+    ghost use Rattle.double_schubert_laws.specs.Factors.{acted};
+    ghost use Rattle.double_schubert.specs.FactorLaws.{factor_step, factor_grows};
 
-/// Adds the product of k·y^e·S_w and x_r - y_c.
-fn add_product(
-    sum: &mut Shifts,
-    w: &Perm,
-    e: &Monomial,
-    k: Int,
-    r: u16,
-    c: u16,
-) -> Result<(), SumFault>
-    requires first { 1 ≤ r }
-    requires last { r ≤ 254 }
-    requires column { 1 ≤ c }
-    requires last_column { c ≤ 254 }
-    requires label { IsWithin 254 32384 (w.now, e.now) }
-    ensures gains { OnOk result (Gains sum.old sum.new (λ φ. k *ℤ over_factor r c φ (w.now, e.now))
-        (nat_abs k * (max (length w.now) r + 2))) }
-    ensures labels { OnOk result ((letters degree : ℕ) → IsWithin letters degree (w.now, e.now) → r ≤ letters
-        → HaveLabels (IsWithin (letters + 1) (degree + 1)) sum.old → HaveLabels (IsWithin (letters + 1) (degree + 1)) sum.new) }
-    ensures large { IsErrOf result SumFault.Large
-        → 2 ^ 127 ≤ mass sum.old + nat_abs k * (max (length w.now) r + 2) }
-{
-    let covers = w.covers_at(r)?;
-    let minus = negated(k)?;
-    let letter = w.letter(r);
-    add_each(sum, covers.up(), e, k)?;
-    add_each(sum, covers.down(), e, minus)?;
-    add_at(sum, w, e.times_var(letter)?, k)?;
-    add_at(sum, w, e.times_var(c)?, minus)
-}
+    ghost made = { λ r v. record { r = r; c = letter v r } };
 
-/// Adds the product of a list and x_r - y_c.
-pub(crate) fn add_times_factor(
-    sum: &mut Shifts,
-    list: &Shifts,
-    r: u16,
-    c: u16,
-) -> Result<(), SumFault>
-    requires first { 1 ≤ r }
-    requires last { r ≤ 254 }
-    requires column { 1 ≤ c }
-    requires last_column { c ≤ 254 }
-    requires labels { HaveLabels (IsWithin 254 32384) list.now }
-    ensures gains { OnOk result ((letters degree : ℕ) → HaveLabels (IsWithin letters degree) list.now → r ≤ letters
-        → Gains sum.old sum.new (λ φ. over (over_factor r c φ) list.now) (mass list.now * (letters + 2))) }
-    ensures labels { OnOk result ((letters degree : ℕ) → HaveLabels (IsWithin letters degree) list.now → r ≤ letters
-        → HaveLabels (IsWithin (letters + 1) (degree + 1)) sum.old → HaveLabels (IsWithin (letters + 1) (degree + 1)) sum.new) }
-    ensures large { IsErrOf result SumFault.Large → (letters degree : ℕ) → HaveLabels (IsWithin letters degree) list.now
-        → r ≤ letters → 2 ^ 127 ≤ mass sum.old + mass list.now * (letters + 2) }
-{
-    for (label, k) in list.iter() {
-        add_product(sum, &label.perm, &label.y, *k, r, c)?;
+    ghost extent = { λ label. max (length label.0) (size label.1) };
+
+    ghost extra = { 2 };
+
+    ghost product = { acted };
+
+    fn at(r: u16, lower: &Perm) -> TimesFactor {
+        TimesFactor {
+            r,
+            c: lower.letter(r),
+        }
     }
-    Ok(())
+
+    ghost step = { factor_step };
+
+    ghost grows = { factor_grows };
 }
 
 /// The product of a sum of terms y^e·S_w and x_r - y_c, by Monk's rule and x_r·S_w = (x_r - y_w(r))·S_w + y_w(r)·S_w
@@ -127,24 +111,16 @@ pub fn times_factor(
     requires column { 1 ≤ c }
     requires last_column { c ≤ 254 }
     requires labels { HaveLabels (IsWithin 254 32384) list }
-    ensures value { IfOk result (λ product. (n : ℕ) → Represents (λ label. shifted_in label n) product
-        (times (difference_in r c n) (combined (λ label. shifted_in label n) (numerators list))) 1) }
-    ensures weight { IfOk result (λ product. list_weight product ≤ list_weight list * (max r (greatest_length list) + 2)) }
+    ensures value { IfOk result (λ product. (n : ℕ) → Represents (λ label. shifted_in label n) (as_fractions product)
+        (times (difference_in r c n) (combined (λ label. shifted_in label n) list)) 1) }
+    ensures weight { IfOk result (λ product. list_weight (as_fractions product)
+        ≤ list_weight (as_fractions list) * (max r (greatest_length list) + 2)) }
     ensures labels { IfOk result (λ product. (letters degree : ℕ) → HaveLabels (IsWithin letters degree) list → r ≤ letters
         → HaveLabels (IsWithin (letters + 1) (degree + 1)) product) }
-    ensures large { IsErrOf result SumFault.Large → 2 ^ 127 ≤ list_weight list * (max r (greatest_length list) + 2) }
+    ensures large { IsErrOf result SumFault.Large
+        → 2 ^ 127 ≤ list_weight (as_fractions list) * (max r (greatest_length list) + 2) }
 {
-    is_whole(&list);
     let mut product = Lin::new(alloc);
-    add_times_factor(&mut product, &list, r, c)?;
-    is_whole(&product);
+    product.add_by(&TimesFactor { r, c }, &list)?;
     Ok(product)
-}
-
-/// Does nothing when it runs: it tells a proof what a table with coefficients of `Int` is.
-pub(crate) fn is_whole(sum: &Shifts)
-    ensures whole { AreWhole sum.now }
-    ensures table { IsTable sum.now }
-{
-    let _ = sum.iter();
 }

@@ -1,27 +1,25 @@
 //! The product of two double Schubert polynomials.
-ghost use Rattle.std.specs.Prelude.{◌≡◌, ℕ, ◌+◌, ◌*◌, ◌^◌, ◌≤◌, ℤ, max, [], ◌∷◌, List, length, IfOk, IsErrOf};
-ghost use Rattle.coeff_rings.specs.Fractions.{whole};
+ghost use Rattle.std.specs.Prelude.{ℕ, ◌+◌, ◌*◌, ◌^◌, ◌≤◌, max, nat_abs, length, IfOk, IsErrOf};
 ghost use Rattle.sym_model.specs.Answer.{answer};
 ghost use Rattle.sym_model.specs.Command as commands;
 ghost use Rattle.sym_model.specs.DoubleSchubert.{double_schubert_in, shifted_in};
 ghost use Rattle.sym_model.specs.Expansion.{Represents};
 ghost use Rattle.sym_model.specs.Kind.{shifts};
-ghost use Rattle.sym_model.specs.LargeAnswer.{IsHeavy};
+ghost use Rattle.sym_model.specs.LargeAnswer.{value_at_ones, IsHeavy};
 ghost use Rattle.sym_model.specs.PlaceOrders.{inversions};
 ghost use Rattle.sym_model.specs.Polynomial.{times};
+ghost use Rattle.sym_model.specs.Schubert as polynomials;
 ghost use Rattle.sym_model.specs.Target.{Meets};
-ghost use Rattle.sparse_polys.specs.WholeTables.{over, mass, HaveLabels};
-ghost use Rattle.double_schubert.specs.Shifts.{IsWithin};
-ghost use Rattle.double_schubert.specs.Walk.{limit_of};
+ghost use Rattle.sym_model.specs.WholeTerms.{as_fractions};
 
-use crate::factor::{Shifts, add_at, is_whole};
-use crate::walk::work_off;
+use crate::factor::TimesFactor;
 use calc_base::SumFault;
-use coeff_rings::{Int, Scalar};
+use coeff_rings::Int;
+use linear_combinations::Terms;
 use perm_codes::Perm;
-use schubert_transition::Waiting;
-use sparse_polys::{Lin, Monomial, Shifted, Terms};
+use sparse_polys::{Monomial, Shifted};
 use std::alloc::Global;
+use transition_walk::product_of;
 
 /// The product of the double Schubert polynomials of two permutations of at most 8 letters, as a sum of terms y^e·S_w in
 /// the printed order of their labels.
@@ -30,7 +28,7 @@ use std::alloc::Global;
 pub fn dschubmult(alloc: Global, u: &Perm, v: &Perm) -> Result<Terms<Shifted, Int>, SumFault>
     requires first { length u.now ≤ 8 }
     requires second { length v.now ≤ 8 }
-    ensures meets { IfOk result (λ terms. Meets (commands.dschubmult u.now v.now) (answer shifts terms)) }
+    ensures meets { IfOk result (λ terms. Meets (commands.dschubmult u.now v.now) (answer shifts (as_fractions terms))) }
     ensures large { IsErrOf result SumFault.Large → IsHeavy (commands.dschubmult u.now v.now) }
 {
     if u.inversions() <= v.inversions() {
@@ -40,35 +38,18 @@ pub fn dschubmult(alloc: Global, u: &Perm, v: &Perm) -> Result<Terms<Shifted, In
     }
 }
 
-/// The product, where the polynomial of the first permutation is worked off by the transition rule.
+/// The product, where the transition rule works off the first permutation on the polynomial of the second.
 fn act(alloc: Global, w: &Perm, other: &Perm) -> Result<Terms<Shifted, Int>, SumFault>
-    requires { max (length w.now) (length other.now) + inversions w.now ≤ 254 }
-    ensures value { IfOk result (λ terms. (n : ℕ) → Represents (λ label. shifted_in label n) terms
+    requires { max (length w.now) (length other.now) + inversions w.now ≤ 255 }
+    ensures value { IfOk result (λ terms. (n : ℕ) → Represents (λ label. shifted_in label n) (as_fractions terms)
         (times (double_schubert_in w.now n) (double_schubert_in other.now n)) 1) }
-    ensures large { IsErrOf result SumFault.Large → 2 ^ 127 ≤ limit_of w.now other.now }
+    ensures large { IsErrOf result SumFault.Large → 2 ^ 127 ≤ nat_abs (value_at_ones (polynomials.schubert w.now))
+        * (max (length w.now) (length other.now) + inversions w.now + 2) ^ inversions w.now }
 {
-    let _ = w.len();
-    let mut todo = Vec::new(alloc);
-    todo.push(Waiting {
-        perm: w.copy()?,
-        factor: single(alloc, other)?,
-    })?;
-    let mut sum = Lin::new(alloc);
-    while let Some(waiting) = todo.pop() {
-        work_off(alloc, &mut todo, &waiting, &mut sum)?;
-    }
-    is_whole(&sum);
+    let label = Shifted {
+        perm: other.copy()?,
+        y: Monomial::one(alloc),
+    };
+    let sum = product_of::<Shifted, TimesFactor>(alloc, w, &label)?;
     Ok(sum.sorted_terms()?)
-}
-
-/// The double Schubert polynomial of a permutation as a list.
-fn single(alloc: Global, w: &Perm) -> Result<Shifts, SumFault>
-    ensures sums { IfOk result (λ list. (φ : List ℕ × List ℕ → ℤ) → over φ list ≡ φ (w.now, [])) }
-    ensures mass { IfOk result (λ list. mass list ≤ 1) }
-    ensures labels { IfOk result (HaveLabels (IsWithin (length w.now) 0)) }
-    ensures small { ¬ IsErrOf result SumFault.Large }
-{
-    let mut list = Lin::new(alloc);
-    add_at(&mut list, w, Monomial::one(alloc), Int::one())?;
-    Ok(list)
 }

@@ -4,11 +4,11 @@ use Rattle.std.proofs.lemmas.Int.{ints}
 use Rattle.std.proofs.lemmas.Bool.{cases_lt}
 use Rattle.std.proofs.lemmas.List.{append-nil}
 use Rattle.sym_model.specs.Sum.{total, each}
-use Rattle.sym_model.specs.Polynomial.{Poly, Same, In, plus, negate, times, pair, coefficient}
+use Rattle.sym_model.specs.Polynomial.{Poly, Same, In, plus, times, pair, coefficient}
 use Rattle.sym_model.specs.Partition.{after}
 use Rattle.sym_model.specs.Permutation.{IsOneLine, IsTransition, letter, kept, times_swap, covers_up, covers_down}
 use Rattle.sym_model.specs.Schubert.{schubert_over}
-use Rattle.sym_model.proofs.Polynomials.{pair_plus, pair_negate, pair_each, pair_determined, same_from_pair, Same_refl, Same_sym, plus_respects, times_respects}
+use Rattle.sym_model.proofs.Polynomials.{pair_plus, pair_each, pair_determined, same_from_pair, Same_refl, Same_sym, plus_respects, times_respects}
 use Rattle.sym_model.proofs.AfterLists.{length_after}
 use Rattle.sym_model.proofs.Lists.{get_or-any}
 use Rattle.schubert_laws.proofs.DifferenceLaws.{variable_after}

@@ -2,6 +2,13 @@
 //!
 //! A law function takes nothing, answers nothing and does no work when it runs: its contract is
 //! the law.
+//!
+//! What is proved:
+//!
+//! `double_schubert_law`: every path of divided differences in x gives the same double Schubert
+//! polynomial, fixed letters change nothing, and a falling code gives the product over its diagram.
+//! `double_monk_law`: Monk's rule with y, and transition. `shifted_product_law`: the product of
+//! y^e·S_w and x_r - y_c.
 #![tactic(auto)]
 
 mod double_laws;

@@ -32,7 +32,7 @@ impl Ratio for Frac {
 
 /// Puts the sign in front of a term: `-` of a negative numerator, `+` of another but that of the first term.
 pub(crate) fn put_sign<K: Sink>(is_first: bool, num: i128, text: &mut TextBuffer, sink: &mut K)
-    ensures { Gathers K.written K.length K.faults text.old sink.old text.new sink.new (sign_text is_first num) }
+    ensures { Gathers text.old (K.seen sink.old) text.new (K.seen sink.new) (sign_text is_first num) }
 {
     if num < 0 {
         return text.put(b"-", sink);
@@ -45,7 +45,7 @@ pub(crate) fn put_sign<K: Sink>(is_first: bool, num: i128, text: &mut TextBuffer
 
 /// Puts the absolute value of a coefficient and `*`, and nothing where that value is 1.
 pub(crate) fn put_coefficient<K: Sink>(num: i128, den: u128, text: &mut TextBuffer, sink: &mut K)
-    ensures { Gathers K.written K.length K.faults text.old sink.old text.new sink.new (coefficient_text (num, den)) }
+    ensures { Gathers text.old (K.seen sink.old) text.new (K.seen sink.new) (coefficient_text (num, den)) }
 {
     let size = num.unsigned_abs();
     if size == 1 && den == 1 {
@@ -58,7 +58,7 @@ pub(crate) fn put_coefficient<K: Sink>(num: i128, den: u128, text: &mut TextBuff
 
 /// Puts `/` and the denominator of a fraction, and nothing where that is 1.
 fn put_denominator<K: Sink>(den: u128, text: &mut TextBuffer, sink: &mut K)
-    ensures { Gathers K.written K.length K.faults text.old sink.old text.new sink.new
+    ensures { Gathers text.old (K.seen sink.old) text.new (K.seen sink.new)
         (if den == 1 then [] else (codes "/" ++ decimal den)) }
 {
     if den == 1 {
@@ -70,7 +70,7 @@ fn put_denominator<K: Sink>(den: u128, text: &mut TextBuffer, sink: &mut K)
 
 /// Puts a number in decimal.
 fn put_number<K: Sink>(number: u128, text: &mut TextBuffer, sink: &mut K)
-    ensures { Gathers K.written K.length K.faults text.old sink.old text.new sink.new (decimal number) }
+    ensures { Gathers text.old (K.seen sink.old) text.new (K.seen sink.new) (decimal number) }
 {
     text.put(Buffer::new().format(number).as_bytes(), sink);
 }

@@ -3,6 +3,15 @@
 //!
 //! A printer gathers its text in a buffer of fixed size, which goes to the sink when it is full and at the end. Where a put fails none
 //! follows, and what was put is a prefix of the text. No memory is taken.
+//!
+//! What is proved:
+//!
+//! `print` puts the block of an answer of any kind, `print_refusal` and `print_large` the line of a
+//! refusal, `print_label`, `print_letters`, `print_shapes`, `print_reading`, `print_filled` and
+//! `print_tableau` their lines: whole, or after a fault a prefix with no further put. Every answer
+//! is canonical with numbers of 128 bits. `print_one_line`: an expansion or a product on one line
+//! with the atoms of a basis, put to any sink, with the fault clauses of `print`; any other answer
+//! gets its block.
 #![tactic(auto)]
 
 mod answer;

@@ -26,7 +26,7 @@ use sparse_polys::Terms;
 ///
 /// `SinkFault` exactly where a put failed. It is the last one, and what was put is then a prefix of the line.
 pub fn print_one_line<K: Sink>(answer: &Answer, basis: Basis, sink: &mut K) -> Result<(), SinkFault>
-    ensures prints { Prints K.written K.length K.faults sink.old sink.new
+    ensures prints { Prints (K.seen sink.old) (K.seen sink.new)
         (answer_text_in (as_line (basis_of basis)) (plain_answer answer.now)) result }
 
     // Every answer is canonical, with numbers of 128 bits, so that its line can be read back.
@@ -45,7 +45,7 @@ fn print_terms<R: Ratio, K: Sink>(
     terms: &Terms<Partition, R>,
     sink: &mut K,
 ) -> Result<(), SinkFault>
-    ensures prints { Prints K.written K.length K.faults sink.old sink.new (one_line (basis_of basis) terms.now) result }
+    ensures prints { Prints (K.seen sink.old) (K.seen sink.new) (one_line (basis_of basis) terms.now) result }
     ensures held { AreHeld R.value R.is_held terms.now }
     ensures canonical { IsCanonicalList printed_order is_label terms.now }
 {
@@ -61,7 +61,7 @@ fn put_line<R: Ratio, K: Sink>(
     text: &mut TextBuffer,
     sink: &mut K,
 )
-    ensures goes { Gathers K.written K.length K.faults text.old sink.old text.new sink.new (one_line (basis_of basis) terms.now) }
+    ensures goes { Gathers text.old (K.seen sink.old) text.new (K.seen sink.new) (one_line (basis_of basis) terms.now) }
     ensures held { AreHeld R.value R.is_held terms.now }
     ensures canonical { IsCanonicalList printed_order is_label terms.now }
 {
@@ -85,7 +85,7 @@ fn put_term<R: Ratio, K: Sink>(
     text: &mut TextBuffer,
     sink: &mut K,
 )
-    ensures goes { Gathers K.written K.length K.faults text.old sink.old text.new sink.new
+    ensures goes { Gathers text.old (K.seen sink.old) text.new (K.seen sink.new)
         (signed_text (basis_of basis) is_first (label.now, R.value c)) }
     ensures held { R.is_held c }
 {

@@ -17,7 +17,7 @@ pub(crate) trait Named: Label {
 
     /// Puts the text of the label, with the blanks in front of it.
     fn put_name<K: Sink>(&self, text: &mut TextBuffer, sink: &mut K)
-        ensures { Gathers K.written K.length K.faults text.old sink.old text.new sink.new (line_rules.text self.now) };
+        ensures { Gathers text.old (K.seen sink.old) text.new (K.seen sink.new) (line_rules.text self.now) };
 }
 
 impl Named for Partition {

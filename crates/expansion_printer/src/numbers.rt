@@ -34,7 +34,7 @@ impl Numeral for u16 {
 
 /// Puts a label: the numbers in parentheses.
 pub(crate) fn put_label<N: Numeral, K: Sink>(numbers: &[N], text: &mut TextBuffer, sink: &mut K)
-    ensures { Gathers K.written K.length K.faults text.old sink.old text.new sink.new (label_text (map N.number numbers.now)) }
+    ensures { Gathers text.old (K.seen sink.old) text.new (K.seen sink.new) (label_text (map N.number numbers.now)) }
 {
     text.put(b"(", sink);
     put_separated(b",", numbers, text, sink);
@@ -48,7 +48,7 @@ pub(crate) fn put_separated<N: Numeral, K: Sink>(
     text: &mut TextBuffer,
     sink: &mut K,
 )
-    ensures { Gathers K.written K.length K.faults text.old sink.old text.new sink.new
+    ensures { Gathers text.old (K.seen sink.old) text.new (K.seen sink.new)
         (separated separator.now (map decimal (map N.number numbers.now))) }
 {
     for (at, number) in numbers.iter().enumerate() {
@@ -64,7 +64,7 @@ pub(crate) fn put_piece<K: Sink>(
     text: &mut TextBuffer,
     sink: &mut K,
 )
-    ensures { Gathers K.written K.length K.faults text.old sink.old text.new sink.new
+    ensures { Gathers text.old (K.seen sink.old) text.new (K.seen sink.new)
         (if at == 0 then decimal number else (separator.now ++ decimal number)) }
 {
     if at == 0 {
@@ -76,7 +76,7 @@ pub(crate) fn put_piece<K: Sink>(
 
 /// Puts a number in decimal.
 pub(crate) fn put_number<K: Sink>(number: u64, text: &mut TextBuffer, sink: &mut K)
-    ensures { Gathers K.written K.length K.faults text.old sink.old text.new sink.new (decimal number) }
+    ensures { Gathers text.old (K.seen sink.old) text.new (K.seen sink.new) (decimal number) }
 {
     text.put(Buffer::new().format(number).as_bytes(), sink);
 }

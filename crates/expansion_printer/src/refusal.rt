@@ -13,7 +13,7 @@ use calc_base::{Place, Sink, SinkFault, WordsFault};
 /// `SinkFault` exactly where a put failed. It is the last one, and what was put is then a prefix of the line.
 pub fn print_refusal<K: Sink>(fault: &WordsFault, sink: &mut K) -> Result<(), SinkFault>
     requires { fault.now ≢ WordsFault.NoMemory }
-    ensures { Prints K.written K.length K.faults sink.old sink.new (refusal_text fault.now) result }
+    ensures { Prints (K.seen sink.old) (K.seen sink.new) (refusal_text fault.now) result }
 {
     match *fault {
         WordsFault::Syntax { at } => print_offence(b"Syntax", at, sink),
@@ -28,14 +28,14 @@ pub fn print_refusal<K: Sink>(fault: &WordsFault, sink: &mut K) -> Result<(), Si
 ///
 /// `SinkFault` exactly where a put failed. It is the last one, and what was put is then a prefix of the line.
 pub fn print_large<K: Sink>(sink: &mut K) -> Result<(), SinkFault>
-    ensures { Prints K.written K.length K.faults sink.old sink.new large_line result }
+    ensures { Prints (K.seen sink.old) (K.seen sink.new) large_line result }
 {
     sink.put(b"! Large\n")
 }
 
 /// Prints the line of an offence: its name and its place.
 fn print_offence<K: Sink>(name: &[u8], at: Place, sink: &mut K) -> Result<(), SinkFault>
-    ensures { Prints K.written K.length K.faults sink.old sink.new (refusal_line name.now at.word at.byte) result }
+    ensures { Prints (K.seen sink.old) (K.seen sink.new) (refusal_line name.now at.word at.byte) result }
 {
     let mut text = TextBuffer::new();
     text.put(b"! ", sink);

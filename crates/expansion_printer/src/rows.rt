@@ -32,7 +32,7 @@ pub(crate) trait Entries {
 
 /// Puts the rows from top to bottom, or a point where there is none.
 pub(crate) fn put_rows<E: Entries, K: Sink>(filling: &E, text: &mut TextBuffer, sink: &mut K)
-    ensures { Gathers K.written K.length K.faults text.old sink.old text.new sink.new
+    ensures { Gathers text.old (K.seen sink.old) text.new (K.seen sink.new)
         (tableau_text (rows_by (E.entry filling.now) (E.outer filling.now) (E.inner filling.now))) }
 {
     let rows = filling.outer().rows();
@@ -47,7 +47,7 @@ pub(crate) fn put_rows<E: Entries, K: Sink>(filling: &E, text: &mut TextBuffer, 
 /// Puts the row at a place, counted from 0, with the separator in front of it but at the first place.
 fn put_next_row<E: Entries, K: Sink>(filling: &E, at: u16, text: &mut TextBuffer, sink: &mut K)
     requires { at < 65535 }
-    ensures { Gathers K.written K.length K.faults text.old sink.old text.new sink.new
+    ensures { Gathers text.old (K.seen sink.old) text.new (K.seen sink.new)
         (if at == 0 then row_text (row_by (E.entry filling.now) (E.outer filling.now) (E.inner filling.now) (at + 1))
         else (codes " / " ++ row_text (row_by (E.entry filling.now) (E.outer filling.now) (E.inner filling.now) (at + 1)))) }
 {
@@ -61,7 +61,7 @@ fn put_next_row<E: Entries, K: Sink>(filling: &E, at: u16, text: &mut TextBuffer
 /// Puts the entries of the row at a place, counted from 0, with spaces between them, or a point where there is none.
 fn put_row<E: Entries, K: Sink>(filling: &E, at: u16, text: &mut TextBuffer, sink: &mut K)
     requires { at < 65535 }
-    ensures { Gathers K.written K.length K.faults text.old sink.old text.new sink.new
+    ensures { Gathers text.old (K.seen sink.old) text.new (K.seen sink.new)
         (row_text (row_by (E.entry filling.now) (E.outer filling.now) (E.inner filling.now) (at + 1))) }
 {
     let row = at + 1;
@@ -86,7 +86,7 @@ fn put_entries<E: Entries, K: Sink>(
     requires order { left ≤ right }
     requires inner { left ≡ part (E.inner filling.now) row }
     requires outer { right ≡ part (E.outer filling.now) row }
-    ensures { Gathers K.written K.length K.faults text.old sink.old text.new sink.new
+    ensures { Gathers text.old (K.seen sink.old) text.new (K.seen sink.new)
         (spaced (row_by (E.entry filling.now) (E.outer filling.now) (E.inner filling.now) row)) }
 {
     for column in left..right {

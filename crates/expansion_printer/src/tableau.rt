@@ -57,7 +57,7 @@ impl Entries for Filled {
 ///
 /// `SinkFault` exactly where a put failed. It is the last one, and what was put is then a prefix of the line.
 pub fn print_tableau<K: Sink>(t: &Tableau, sink: &mut K) -> Result<(), SinkFault>
-    ensures { Prints K.written K.length K.faults sink.old sink.new (tableau_line t.now.rows) result }
+    ensures { Prints (K.seen sink.old) (K.seen sink.new) (tableau_line t.now.rows) result }
 {
     t.shape();
     print_filling(t, sink)
@@ -67,7 +67,7 @@ pub fn print_tableau<K: Sink>(t: &Tableau, sink: &mut K) -> Result<(), SinkFault
 ///
 /// `SinkFault` exactly where a put failed. It is the last one, and what was put is then a prefix of the line.
 pub fn print_filled<K: Sink>(f: &Filled, sink: &mut K) -> Result<(), SinkFault>
-    ensures { Prints K.written K.length K.faults sink.old sink.new (tableau_line f.now.rows) result }
+    ensures { Prints (K.seen sink.old) (K.seen sink.new) (tableau_line f.now.rows) result }
 {
     f.shape();
     print_filling(f, sink)
@@ -82,7 +82,7 @@ pub fn print_reading<K: Sink>(
     reading: &[u16],
     sink: &mut K,
 ) -> Result<(), SinkFault>
-    ensures { Prints K.written K.length K.faults sink.old sink.new
+    ensures { Prints (K.seen sink.old) (K.seen sink.new)
         (tableau_line (filling_of order.now.0 order.now.1 reading.now)) result }
 {
     let filling = Reading {
@@ -94,7 +94,7 @@ pub fn print_reading<K: Sink>(
 
 /// Prints the line of a filling.
 fn print_filling<E: Entries, K: Sink>(filling: &E, sink: &mut K) -> Result<(), SinkFault>
-    ensures { Prints K.written K.length K.faults sink.old sink.new
+    ensures { Prints (K.seen sink.old) (K.seen sink.new)
         (tableau_line (rows_by (E.entry filling.now) (E.outer filling.now) (E.inner filling.now))) result }
 {
     let mut text = TextBuffer::new();

@@ -37,7 +37,7 @@ impl TextBuffer {
 
     /// Puts the piece behind what was put before.
     pub(crate) fn put<K: Sink>(&mut self, piece: &[u8], sink: &mut K)
-        ensures { Gathers K.written K.length K.faults self.old sink.old self.new sink.new piece.now }
+        ensures { Gathers self.old (K.seen sink.old) self.new (K.seen sink.new) piece.now }
     {
         if self.keep(piece) {
             return;
@@ -48,7 +48,7 @@ impl TextBuffer {
 
     /// Puts the bytes that wait, and tells whether all went well.
     pub(crate) fn finish<K: Sink>(self, sink: &mut K) -> Result<(), SinkFault>
-        ensures { Puts K.written K.length K.faults self.well sink.old (is_ok result) sink.new self.bytes }
+        ensures { Puts self.well (K.seen sink.old) (is_ok result) (K.seen sink.new) self.bytes }
     {
         if !self.well {
             return Err(SinkFault);
@@ -67,7 +67,7 @@ impl TextBuffer {
 
     /// Hands the bytes that wait to the sink.
     fn flush<K: Sink>(&mut self, sink: &mut K)
-        ensures goes { Gathers K.written K.length K.faults self.old sink.old self.new sink.new [] }
+        ensures goes { Gathers self.old (K.seen sink.old) self.new (K.seen sink.new) [] }
         ensures empty { self.new.bytes ≡ [] }
     {
         self.well = put_if(self.well, sink, self.bytes.as_slice());
@@ -77,7 +77,7 @@ impl TextBuffer {
     /// Puts a piece where no byte waits, past the buffer where it is too long for it.
     fn put_first<K: Sink>(&mut self, piece: &[u8], sink: &mut K)
         requires { self.old.bytes ≡ [] }
-        ensures { Gathers K.written K.length K.faults self.old sink.old self.new sink.new piece.now }
+        ensures { Gathers self.old (K.seen sink.old) self.new (K.seen sink.new) piece.now }
     {
         if self.keep(piece) {
             return;

@@ -14,7 +14,7 @@ use partitions::Partition;
 ///
 /// `SinkFault` exactly where a put failed. It is the last one, and what was put is then a prefix of the line.
 pub fn print_letters<K: Sink>(w: &[u16], sink: &mut K) -> Result<(), SinkFault>
-    ensures { Prints K.written K.length K.faults sink.old sink.new (word_line w.now) result }
+    ensures { Prints (K.seen sink.old) (K.seen sink.new) (word_line w.now) result }
 {
     let mut text = TextBuffer::new();
     put_separated(b" ", w, &mut text, sink);
@@ -26,7 +26,7 @@ pub fn print_letters<K: Sink>(w: &[u16], sink: &mut K) -> Result<(), SinkFault>
 ///
 /// `SinkFault` exactly where a put failed. It is the last one, and what was put is then a prefix of the label.
 pub fn print_label<K: Sink>(shape: &Partition, sink: &mut K) -> Result<(), SinkFault>
-    ensures { Prints K.written K.length K.faults sink.old sink.new (label_text shape.now) result }
+    ensures { Prints (K.seen sink.old) (K.seen sink.new) (label_text shape.now) result }
 {
     let mut text = TextBuffer::new();
     put_label(shape.parts(), &mut text, sink);
@@ -37,7 +37,7 @@ pub fn print_label<K: Sink>(shape: &Partition, sink: &mut K) -> Result<(), SinkF
 ///
 /// `SinkFault` exactly where a put failed. It is the last one, and what was put is then a prefix of the line.
 pub fn print_shapes<K: Sink>(shapes: &[Partition], sink: &mut K) -> Result<(), SinkFault>
-    ensures { Prints K.written K.length K.faults sink.old sink.new (shapes_line shapes.now) result }
+    ensures { Prints (K.seen sink.old) (K.seen sink.new) (shapes_line shapes.now) result }
 {
     let mut text = TextBuffer::new();
     put_shapes(shapes, &mut text, sink);
@@ -47,7 +47,7 @@ pub fn print_shapes<K: Sink>(shapes: &[Partition], sink: &mut K) -> Result<(), S
 
 /// Puts the labels of the shapes with a space between them.
 fn put_shapes<K: Sink>(shapes: &[Partition], text: &mut TextBuffer, sink: &mut K)
-    ensures { Gathers K.written K.length K.faults text.old sink.old text.new sink.new (separated (codes " ") (map label_text shapes.now)) }
+    ensures { Gathers text.old (K.seen sink.old) text.new (K.seen sink.new) (separated (codes " ") (map label_text shapes.now)) }
 {
     for (at, shape) in shapes.iter().enumerate() {
         put_next_shape(at, shape, text, sink);
@@ -56,7 +56,7 @@ fn put_shapes<K: Sink>(shapes: &[Partition], text: &mut TextBuffer, sink: &mut K
 
 /// Puts the label of the shape at a place, counted from 0, with a space in front of it but at the first place.
 fn put_next_shape<K: Sink>(at: usize, shape: &Partition, text: &mut TextBuffer, sink: &mut K)
-    ensures { Gathers K.written K.length K.faults text.old sink.old text.new sink.new
+    ensures { Gathers text.old (K.seen sink.old) text.new (K.seen sink.new)
         (if at == 0 then label_text shape.now else (codes " " ++ label_text shape.now)) }
 {
     if at == 0 {

@@ -1,7 +1,14 @@
--- Lists of vectors of shapes (this project's own).
-use Rattle.std.specs.Prelude.{ℕ, List, map, Vec}
+-- Growth grids as they are kept: a permutation with the lines of its growth shapes.
+use Rattle.std.specs.Prelude.{◌≡◌, ℕ, List, map, Vec}
 use Rattle.std.specs.declared.alloc.Global.{Global}
+use Rattle.sym_model.specs.Growth.{grid_lines}
+use Rattle.perm_codes.specs.Limits.{IsWithinLimits}
 
 -- the lists that a list of vectors stands for
 abbrev pub lines_in : List (Vec (List ℕ) Global) → List (List (List ℕ))
 lines_in lines = map (λ line. line.items) lines
+
+-- the lines are the growth grid of the permutation
+pub record IsGridOf (w : List ℕ) (lines : List (Vec (List ℕ) Global)) : Type 0 where
+  pub limits : IsWithinLimits w
+  pub grid : lines_in lines ≡ grid_lines w

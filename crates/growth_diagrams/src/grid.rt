@@ -1,7 +1,9 @@
 //! The growth shapes of a permutation.
-ghost use Rattle.std.specs.Prelude.{◌≡◌, ◌-◌, ◌≤◌, IfOk, length};
-ghost use Rattle.sym_model.specs.Growth.{grid_line, growth_shape};
+ghost use Rattle.std.specs.Prelude.{◌≡◌, ◌-◌, ◌≤◌, ℕ, List, IfOk, length, take};
+ghost use Rattle.sym_model.specs.Growth.{at_most, grid_line, growth_shape, tableau_of_chain};
 ghost use Rattle.sym_model.specs.Insertion.{insertion_pair};
+ghost use Rattle.sym_model.specs.Permutation.{AreInverse, IsOneLine};
+ghost use Rattle.sym_model.specs.Tableau.{shape_of};
 ghost use Rattle.perm_codes.specs.Limits.{IsWithinLimits};
 ghost use Rattle.row_insertion.specs.Pairs.{HaveOneShape};
 
@@ -22,15 +24,14 @@ pub struct Grid {
 }
 
 impl Model for Grid {
-    ghost use Rattle.std.specs.Prelude.{◌≡◌, ℕ, List};
-    ghost use Rattle.sym_model.specs.Growth.{grid_lines};
-    ghost use Rattle.growth_diagrams.specs.Grids.{lines_in};
+    ghost use Rattle.std.specs.Prelude.{ℕ, List};
+    ghost use Rattle.growth_diagrams.specs.Grids.{IsGridOf};
 
     ghost Value = { List ℕ };
 
     ghost view = { λ g. g.permutation };
 
-    ghost invariant = { λ g. lines_in g.lines.items ≡ grid_lines g.permutation };
+    ghost invariant = { λ g. IsGridOf g.permutation g.lines.items };
 }
 
 impl Grid {
@@ -45,26 +46,35 @@ impl Grid {
     /// The growth shapes at (i, 0), .., (i, n).
     pub fn line(&self, i: u16) -> &[Partition]
         requires { i ≤ length self.now }
-        ensures { result.now ≡ grid_line self.now i }
+        ensures shapes { result.now ≡ grid_line self.now i }
+        ensures limits { IsWithinLimits self.now }
     {
         self.lines[usize::from(i)].as_slice()
     }
 
-    /// The growth shape at (i, j).
+    /// The growth shape at (i, j), which is the shape of the insertion tableau of those of the first i letters that are at
+    /// most j (Fomin; Stanley, Enumerative Combinatorics 2, 7.13).
     pub fn shape_at(&self, i: u16, j: u16) -> &Partition
         requires i { i ≤ length self.now }
         requires j { j ≤ length self.now }
-        ensures { result.now ≡ growth_shape self.now i j }
+        ensures shape { result.now ≡ growth_shape self.now i j }
+        ensures insertion { result.now ≡ shape_of (insertion_pair (at_most j (take i self.now))).0 }
     {
         &self.line(i)[usize::from(j)]
     }
 
     /// The insertion tableau and the recording tableau of the permutation, read from the edges of its grid: the chains of
-    /// shapes in the last line and in the last column. Those of the inverse permutation are the same two, exchanged. Want
+    /// shapes in the last line and in the last column. Those of the inverse permutation are the same two, exchanged. Out
     /// of memory is the only error.
     #[tactic(auto, using(insertion_laws::proofs::WordsAndPairs::one_shape))]
     pub fn pair_of(&self) -> Result<(Standard, Standard), NoMemory>
         ensures pair { IfOk result (λ pair. (pair.0.rows, pair.1.rows) ≡ insertion_pair self.now) }
+        ensures last_line { IfOk result (λ pair.
+            pair.0.rows ≡ tableau_of_chain (λ j. growth_shape self.now (length self.now) j) (length self.now)) }
+        ensures last_column { IfOk result (λ pair.
+            pair.1.rows ≡ tableau_of_chain (λ i. growth_shape self.now i (length self.now)) (length self.now)) }
+        ensures inverse { (v : List ℕ) → IsOneLine v → AreInverse v self.now
+            → IfOk result (λ pair. (pair.1.rows, pair.0.rows) ≡ insertion_pair v) }
         ensures one_shape { IfOk result (λ pair. HaveOneShape pair.0 pair.1) }
     {
         let alloc = *self.lines.allocator();

@@ -3,6 +3,12 @@
 //!
 //! A law function takes nothing, answers nothing and does no work when it runs: its contract is
 //! the law.
+//!
+//! What is proved:
+//!
+//! `growth_law`: the growth shape at (i, j) is that of the insertion tableau of those of the first
+//! i letters that are at most j; both tableaux of a permutation are read from its last line and its
+//! last column. `inverse_law`: the inverse permutation exchanges them.
 #![tactic(auto)]
 
 mod grids;

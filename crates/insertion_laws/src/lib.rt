@@ -3,6 +3,18 @@
 //!
 //! A law function takes nothing, answers nothing and does no work when it runs: its contract is
 //! the law.
+//!
+//! What is proved:
+//!
+//! `insertion_law`: the insertion tableau of a word with positive letters is a straight tableau,
+//! the recording tableau is standard, both have one shape, with a cell for each letter. `pair_law`:
+//! insertion takes a word to each pair of a straight and a standard tableau of one shape, and only
+//! one, which is found by undoing the steps. `slide_law`: the slide of a semistandard tableau from
+//! an inner corner is one too, of a skew shape whose inner partition is one cell smaller.
+//! `class_law`: insertion stays in the Knuth class of its word, words of one class have one
+//! insertion tableau, and it is the only straight tableau of the class. `slide_class_law`: a slide
+//! keeps the class, so the straight tableau that slides reach is the only one of the class,
+//! whichever corners are chosen.
 #![tactic(auto)]
 
 mod knuth_words;

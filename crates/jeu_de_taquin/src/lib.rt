@@ -1,4 +1,10 @@
 //! Slides of skew tableaux, and rectification (Schützenberger's jeu de taquin).
+//!
+//! What is proved:
+//!
+//! `slide`: one slide from an inner corner, which keeps the Knuth class of the reading word.
+//! `rectify`: a straight tableau that slides reach, the only one of the class. Both work in place,
+//! take no memory and always answer.
 #![tactic(auto)]
 
 mod empty_cell;

@@ -1,12 +1,17 @@
 -- The labels of tables of few terms.
-use Rattle.std.proofs.Common.{◌≡◌, ◌≤◌, ◌⊎◌, ℕ, Bool, true, false, cond, List, [], ◌∷◌, refl, sym, ap, ◌∙◌, subst, inl, inr, arith}
+use Rattle.std.proofs.Common.{◌≡◌, ◌≤◌, ◌⊎◌, ℕ, Bool, true, false, cond, List, [], ◌∷◌, refl, sym, ap, ◌∙◌, subst, inl, inr, arith, ℤ, pos, ◌+ℤ◌}
 use Rattle.std.specs.Prelude.{nat_eq}
+use Rattle.std.specs.Cmp.{IsEquivalence}
 use Rattle.std.specs.Cmp.Lexicographic.{pointwise, nat_list_eq_equiv}
 use Rattle.sym_model.specs.Sum.{Among}
 use Rattle.sym_model.specs.Expansion.{Fraction, Terms}
 use Rattle.sym_model.specs.Partition.{size}
 use Rattle.sym_model.specs.Polynomial.{join}
-use Rattle.coeff_rings.specs.Fractions.{fraction_sum}
+use Rattle.coeff_rings.specs.Fractions.{whole, fraction_sum}
+use Rattle.linear_combinations.specs.Entries as entries
+use Rattle.linear_combinations.specs.Gains.{WholeTermsOf, HaveLabels}
+use Rattle.linear_combinations.proofs.Gains.{gains_term}
+use Rattle.linear_combinations.proofs.Masses.{labels_gained}
 use Rattle.sparse_polys.specs.Combination.{coefficient, HasMoreAt, IsCombination}
 use Rattle.sparse_polys.specs.Labels.{same_partition}
 use Rattle.sparse_polys.proofs.Totals.{carried}
@@ -45,3 +50,16 @@ second_fits a e = subst (λ x. IsWithinLimits (raised 2 x)) (sym e) (record { tr
 pub sizes_bounded : (bound : ℕ) (terms : Terms (List ℕ)) → ((t : List ℕ × Fraction) → Among t terms → size t.0 ≤ bound) → greatest_size terms ≤ bound
 sizes_bounded bound [] each = omega arith
 sizes_bounded bound (t ∷ terms) each = let a = each t (inl refl) in let b = sizes_bounded bound terms (λ u m. each u (inr m)) in omega arith
+
+-- the label of a list of one term
+one_term : {L : Type 0} (P : L → Type 0) (k : L) (c : ℤ) → P k → HaveLabels P ((k, c) ∷ [])
+one_term {L} P k c here t (inl e) = subst P (sym (ap (λ (u : L × ℤ). u.0) e)) here
+one_term {L} P k c here t (inr m) = absurd m
+
+-- the only label of a table of whole numbers that was empty has the property
+pub only_has : {L : Type 0} {eq : L → L → Bool} (laws : IsEquivalence eq) (same : (x y : L) → eq x y ≡ true → x ≡ y) {is_label : L → Bool} (old new : WholeTermsOf L) (k : L) (c : ℤ) → old ≡ []
+    → entries.IsCombination eq is_label whole old → entries.IsCombination eq is_label whole new → entries.HasMoreAt eq (pos 0) (λ x y. x +ℤ y) old k c new
+    → (P : L → Type 0) → P k → HaveLabels P new
+only_has laws same old new k c none was also more P here =
+    labels_gained laws same old ((k, c) ∷ []) new also (gains_term laws same old new was also k c more) P
+    (subst (λ ts. HaveLabels P ts) (sym none) (λ t m. absurd m)) (one_term P k c here)

@@ -1,5 +1,12 @@
 //! Calls of the library with their answers, a line a row, for what no contract says: that memory is found, and the call answers.
 //! What it prints is compared with `stdout`, whose lines were written from the definitions and from outside values.
+//!
+//! What is proved:
+//!
+//! A program that prints answers of the library's calls, a line each: it is proved safe. Its stored
+//! lines were written from the definitions or by independent code or programs; those of
+//! permutations were first printed by the program and then compared with the definitions by
+//! independent code.
 #![tactic(auto)]
 
 mod double_rows;

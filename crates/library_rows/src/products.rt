@@ -56,7 +56,7 @@ fn monk(alloc: Global, letters: &[u16], r: u16) -> Result<Lin<Perm, Int>>
     requires last { r ≤ 254 }
     requires letters { length letters.now ≤ 254 }
 {
-    let mut sum = Lin::new(alloc);
+    let mut sum = linear_combinations::Lin::new(alloc);
     sum.add_term(Perm::from_letters(alloc, letters)?, Int::new(1))?;
-    Ok(monk_product::times_var(alloc, sum, r)?)
+    Ok(Lin::from_table(monk_product::times_var(alloc, sum, r)?))
 }

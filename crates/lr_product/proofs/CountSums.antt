@@ -1,5 +1,5 @@
 -- Counts that are added to a table: what stays small, and what a refusal tells.
-use Rattle.std.proofs.Common.{◌≡◌, ◌≤◌, ◌<◌, ◌^◌, ◌⊎◌, inl, inr, Bool, true, false, cond, ℕ, List, [], ◌∷◌, ◌++◌, refl, sym, ◌∙◌, ap, ap₂, arith, ℤ, pos, negsuc, ◌+ℤ◌, ◌*ℤ◌, Option, None}
+use Rattle.std.proofs.Common.{◌≡◌, ◌≤◌, ◌<◌, ◌^◌, ◌⊎◌, inl, inr, Bool, true, false, cond, ℕ, List, [], ◌∷◌, ◌++◌, refl, sym, ◌∙◌, ap, arith, ℤ, pos, negsuc, ◌+ℤ◌, ◌*ℤ◌, None}
 use Rattle.std.specs.Prelude.{◌≤ℤ◌, ◌<ℤ◌, nat_eq, FitsSigned}
 use Rattle.std.specs.Int.{w128}
 use Rattle.std.specs.Cmp.Lexicographic.{pointwise}
@@ -8,22 +8,20 @@ use Rattle.std.proofs.lemmas.Int.{ints}
 use Rattle.coeff_rings.specs.Fractions.{whole}
 use Rattle.coeff_rings.specs.Checked.{checked_i128, where_fits}
 use Rattle.coeff_rings.specs.Proved.Whole.{fits_from_test, same_whole, where_fits-true}
-use Rattle.sym_model.specs.Sum.{each, Among}
-use Rattle.sym_model.specs.Polynomial.{Term, Same, coefficient, same, scale}
+use Rattle.sym_model.specs.Polynomial.{Same, coefficient, scale}
 use Rattle.sym_model.specs.Canonical.{fits_128_bits}
-use Rattle.sym_model.specs.Partition.{IsPartition, rows}
-use Rattle.sym_model.specs.Expansion.{Fraction, Terms}
+use Rattle.sym_model.specs.Expansion.{Terms}
 use Rattle.sym_model.specs.WholeTerms.{WholeTerms, AreWhole, numerators}
 use Rattle.sym_model.proofs.Exponents.{same_refl, same_or_not, same_apart}
 use Rattle.sym_model.proofs.Polynomials.{coefficient_plus, coefficient_scale, plus_respects, scale_respects, Same_trans, Same_refl}
 use Rattle.sym_model.proofs.Integers.{product-at_least, product-nonnegative}
-use Rattle.sparse_polys.specs.Combination.{coefficient as found_at, HasMoreAt}
+use Rattle.sparse_polys.specs.Combination.{coefficient as found_at}
 use Rattle.sparse_polys.specs.Refusal.{IsRefused}
 use Rattle.product_laws.specs.CountedProducts.{AreCounts, Reaches}
 use Rattle.product_laws.proofs.CountLists.{counts-coefficient, coefficient-more}
 use Rattle.lr_product.specs.Tables.{IsTable}
 use Rattle.lr_product.specs.ProductOfFactors.{AreSmallCounts}
-use Rattle.lr_product.proofs.TableLists.{found, Same-more}
+use Rattle.lr_product.proofs.TableLists.{found}
 use lib.IntN.{+ℤ_idr, *ℤ_comm}
 
 -- ---- numbers

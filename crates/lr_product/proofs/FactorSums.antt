@@ -1,16 +1,15 @@
 -- Terms and products that are added one after another.
-use Rattle.std.proofs.Common.{◌≡◌, ◌≤◌, ◌^◌, inl, inr, ℕ, List, [], ◌∷◌, ◌++◌, append_assoc, append-nil, map, refl, sym, ◌∙◌, ap, subst, arith, ℤ, pos, ◌*ℤ◌}
+use Rattle.std.proofs.Common.{◌≡◌, ◌≤◌, ◌^◌, inl, inr, ℕ, List, [], ◌∷◌, ◌++◌, append_assoc, append-nil, refl, sym, ◌∙◌, ap, subst, arith, ℤ, pos, ◌*ℤ◌}
 use Rattle.std.specs.Prelude.{◌≤ℤ◌}
 use Rattle.std.proofs.lemmas.Int.{ints}
-use Rattle.std.proofs.lemmas.List.{map-append}
 use Rattle.coeff_rings.specs.Fractions.{whole}
 use Rattle.sym_model.specs.Sum.{each, Among}
 use Rattle.sym_model.specs.Polynomial.{Term, Same, coefficient, scale}
-use Rattle.sym_model.specs.Partition.{IsPartition, rows}
+use Rattle.sym_model.specs.Partition.{IsPartition}
 use Rattle.sym_model.specs.Expansion.{Terms}
 use Rattle.sym_model.specs.WholeTerms.{WholeTerms, numerators}
 use Rattle.sym_model.specs.Target.{classical_product}
-use Rattle.sym_model.proofs.Sums.{Among-append_left, Among-append_right}
+use Rattle.sym_model.proofs.Sums.{Among-append_right}
 use Rattle.sym_model.proofs.Polynomials.{Same_trans}
 use Rattle.sparse_polys.specs.Combination.{terms_of}
 use Rattle.sparse_polys.proofs.Coefficients.{numerators-terms}

@@ -1,8 +1,6 @@
 -- A factor with more rows than there are variables leaves nothing of the product.
-use Rattle.std.proofs.Common.{◌≡◌, ◌≤◌, ◌<◌, ◌+◌, inl, inr, ℕ, max, List, [], ◌∷◌, map, true, false, refl, ◌∙◌, ap, arith, ℤ, pos, Option, Some, None}
-use Rattle.std.specs.Prelude.{IsTrue}
+use Rattle.std.proofs.Common.{◌≡◌, ◌≤◌, ◌<◌, inl, inr, ℕ, max, List, [], ◌∷◌, map, true, false, ◌∙◌, ap, arith, ℤ, pos, Option, Some, None}
 use Rattle.std.specs.Option.{unwrap_or}
-use Rattle.std.proofs.lemmas.Int.{ints}
 use Rattle.sym_model.specs.Sum.{Among}
 use Rattle.sym_model.specs.Polynomial.{Poly, Same, nothing, join, coefficient, times}
 use Rattle.sym_model.specs.Partition.{IsPartition, size, rows}

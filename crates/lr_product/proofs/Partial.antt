@@ -1,18 +1,18 @@
 -- The product of the first factors as a list, and what it is with one factor more.
-use Rattle.std.proofs.Common.{◌≡◌, ◌≤◌, ◌<◌, ◌+◌, ◌^◌, inl, inr, Bool, ℕ, zero, suc, List, [], ◌∷◌, ◌++◌, append_assoc, append-nil, length, map, take, drop, refl, sym, ◌∙◌, ap, subst, arith, ℤ, pos, negsuc, ◌*ℤ◌, Option, Some, None}
-use Rattle.std.specs.Prelude.{◌≤ℤ◌, ◌<ℤ◌, slice_get}
+use Rattle.std.proofs.Common.{◌≡◌, ◌≤◌, ◌+◌, ◌^◌, inl, inr, ℕ, zero, suc, List, [], ◌∷◌, ◌++◌, append-nil, map, take, drop, refl, sym, ◌∙◌, ap, subst, arith, ℤ, pos, negsuc, ◌*ℤ◌, Option, Some, None}
+use Rattle.std.specs.Prelude.{◌≤ℤ◌, slice_get}
 use Rattle.std.proofs.lemmas.Bool.{and_parts}
 use Rattle.std.proofs.lemmas.Int.{ints}
 use Rattle.std.proofs.lemmas.List.{take-append-drop}
 use Rattle.coeff_rings.specs.Fractions.{whole}
-use Rattle.sym_model.specs.Sum.{each, Among, Once}
+use Rattle.sym_model.specs.Sum.{Among, Once}
 use Rattle.sym_model.specs.Polynomial.{Poly, Term, Same, coefficient, scale, pair}
 use Rattle.sym_model.specs.Partition.{IsPartition, size, rows}
 use Rattle.sym_model.specs.Schur.{schur}
-use Rattle.sym_model.specs.Canonical.{is_label, is_reduced}
+use Rattle.sym_model.specs.Canonical.{is_label}
 use Rattle.sym_model.specs.PrintedOrder.{printed_order}
 use Rattle.sym_model.specs.Expansion.{Fraction, Terms}
-use Rattle.sym_model.specs.WholeTerms.{WholeTerms, AreWhole, combined, numerators}
+use Rattle.sym_model.specs.WholeTerms.{WholeTerms, AreWhole, numerators}
 use Rattle.sym_model.specs.Target.{schur_product, ExpandsInSchurs, classical_product}
 use Rattle.sym_model.proofs.Ring.{one-product}
 use Rattle.sym_model.proofs.Sums.{total_ext, Among-map, Among_from_map, Among-append_left, Among-append_right}
@@ -28,10 +28,10 @@ use Rattle.product_laws.proofs.ManyFactors.{classical_step}
 use Rattle.product_laws.specs.CountedProducts.{IsShownIn, Reaches}
 use Rattle.product_laws.proofs.CountLists.{counts-coefficient, some_term, coefficient_of_once}
 use Rattle.product_laws.proofs.SomeLabel.{are_two}
-use Rattle.product_laws.proofs.Growing.{IsCounted, counted-all, label_size, reaches_more}
+use Rattle.product_laws.proofs.Growing.{counted-all, label_size, reaches_more}
 use Rattle.product_laws.proofs.Expanding.{HasFewRows, expands_next}
-use Rattle.partitions.specs.FactorList.{AreFactors, cells_of, rows_of}
-use Rattle.lr_product.specs.ProductOfFactors.{AreSmallCounts, MayMeet, AllMayMeet}
+use Rattle.partitions.specs.FactorList.{AreFactors}
+use Rattle.lr_product.specs.ProductOfFactors.{AreSmallCounts, AllMayMeet}
 use Rattle.lr_product.proofs.CountSums.{small_same, Reaches-same}
 
 -- ---- terms of a canonical list of whole numbers

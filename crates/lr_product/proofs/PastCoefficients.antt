@@ -1,12 +1,11 @@
 -- Coefficients of a product past 2^127 - 1, by its list and by its definition.
-use Rattle.std.proofs.Common.{◌≡◌, ◌≤◌, ◌<◌, ◌+◌, ◌^◌, ◌⊎◌, inl, inr, Bool, false, cond, ℕ, zero, suc, max, List, [], ◌∷◌, length, map, refl, sym, ◌∙◌, ap, subst, arith, ℤ, pos, negsuc, Option, Some, None}
+use Rattle.std.proofs.Common.{◌≡◌, ◌≤◌, ◌<◌, ◌^◌, ◌⊎◌, inl, inr, false, ℕ, max, List, [], ◌∷◌, map, refl, sym, ◌∙◌, ap, subst, arith, ℤ, pos, negsuc, Option, Some, None}
 use Rattle.std.specs.Prelude.{◌≤ℤ◌, ◌<ℤ◌, IsTrue}
 use Rattle.std.specs.Option.{unwrap_or}
 use Rattle.std.proofs.lemmas.Bool.{cases_lt}
 use Rattle.std.proofs.lemmas.Int.{ints}
-use Rattle.sym_model.specs.Sum.{Among}
 use Rattle.sym_model.specs.Partition.{IsPartition, size, rows}
-use Rattle.sym_model.specs.Polynomial.{Poly, Term, coefficient, times}
+use Rattle.sym_model.specs.Polynomial.{coefficient, times}
 use Rattle.sym_model.specs.Schur.{schur}
 use Rattle.sym_model.specs.Alternant.{schur_coefficient}
 use Rattle.sym_model.specs.Command.{mult}
@@ -15,7 +14,7 @@ use Rattle.sym_model.specs.LargeAnswer.{IsSchurCoefficientOf, is_past, HasPastCo
 use Rattle.sym_model.proofs.Integers.{is_past-tells, is_past-from}
 use Rattle.alternant_laws.proofs.ClassicalProducts.{classical_product-coefficient, classical_product-term}
 use Rattle.product_laws.specs.FactorSteps.{ArePartitions}
-use Rattle.product_laws.specs.CountedProducts.{AreCounts, Reaches}
+use Rattle.product_laws.specs.CountedProducts.{Reaches}
 use Rattle.product_laws.proofs.CountLists.{counts-coefficient, some_term}
 use Rattle.product_laws.proofs.Growing.{counted-all}
 use Rattle.partitions.specs.FactorList.{AreFactors}

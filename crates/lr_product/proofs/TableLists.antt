@@ -1,5 +1,5 @@
 -- Tables of whole numbers as lists: what is found at a label is its coefficient in the list.
-use Rattle.std.proofs.Common.{◌≡◌, ◌≤◌, ◌⊎◌, inl, inr, Bool, true, false, cond, ℕ, List, [], ◌∷◌, ◌++◌, length, refl, sym, ◌∙◌, ap, ap₂, subst, arith, ℤ, pos, ◌+ℤ◌, Option, Some, None}
+use Rattle.std.proofs.Common.{◌≡◌, ◌⊎◌, inl, inr, Bool, true, false, cond, ℕ, List, [], ◌∷◌, ◌++◌, refl, sym, ◌∙◌, ap, ap₂, subst, ℤ, pos, ◌+ℤ◌, Option, Some}
 use Rattle.std.specs.Prelude.{nat_eq}
 use Rattle.std.specs.Cmp.Lexicographic.{pointwise, nat_list_eq_equiv}
 use Rattle.std.specs.List.{IsDistinct}
@@ -16,10 +16,7 @@ use Rattle.sym_model.specs.Expansion.{Fraction, Terms}
 use Rattle.sym_model.specs.WholeTerms.{WholeTerms, AreWhole, numerators}
 use Rattle.sym_model.proofs.Polynomials.{coefficient_plus}
 use Rattle.sym_model.proofs.Exponents.{same_from, same_apart, same_or_not}
-use Rattle.sym_model.specs.LabelLimits.{is_label}
 use Rattle.sparse_polys.specs.Combination.{coefficient, HasMoreAt, HasSameCoefficients}
-use Rattle.sparse_polys.proofs.Steps.{IsCombination-empty}
-use Rattle.sparse_polys.proofs.Totals.{length_same}
 use Rattle.lr_product.specs.Tables.{IsTable}
 use lib.IntN.{+ℤ_idl, +ℤ_idr}
 

@@ -1,10 +1,3 @@
-pub mod PendingOrder
-pub mod Masses
-pub mod MassSums
-pub mod Dividing
-pub mod MonkSteps
-pub mod EntrySums
-pub mod ProductSteps
 pub mod OneCover
-pub mod Bounds
-pub mod VariableProduct
+pub mod MonkSteps
+pub mod MonkGains

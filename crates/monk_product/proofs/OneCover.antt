@@ -2,22 +2,20 @@
 -- exchanged with.
 --     one_cover      it stands at most once in both lists of covers
 --     total_count    how often it stands there, as a sum
-use Rattle.std.proofs.Common.{◌≡◌, ℕ, zero, suc, ◌+◌, ◌-◌, ◌<◌, ◌≤◌, ◌==◌, max, Bool, true, false, cond, List, [], ◌∷◌, map, length, get_or, take, refl, sym, ap, ◌∙◌, subst, inl, inr, arith, length-append, eqb-true, pos, ◌+ℤ◌}
+use Rattle.std.proofs.Common.{◌≡◌, ℕ, zero, suc, ◌+◌, ◌-◌, ◌<◌, ◌≤◌, ◌==◌, max, Bool, true, false, cond, List, [], ◌∷◌, map, length, get_or, refl, sym, ap, ◌∙◌, subst, inl, inr, arith, length-append, eqb-true}
 use Rattle.std.proofs.lemmas.Bool.{cases_lt, eq-eqb}
-use Rattle.std.proofs.lemmas.Int.{ints}
-use Rattle.sym_model.specs.Sum.{total, Among, Once, select}
+use Rattle.sym_model.specs.Sum.{Among, Once, select}
 use Rattle.sym_model.specs.Partition.{after}
 use Rattle.sym_model.specs.PlaceOrders.{inversions}
 use Rattle.sym_model.specs.Permutation.{IsOneLine, letter, with_fixed, swapped, times_swap, covers_up, covers_down}
 use Rattle.sym_model.specs.Polynomial.{same}
 use Rattle.sym_model.proofs.AfterLists.{length_after, after_among}
-use Rattle.sym_model.proofs.Exponents.{same_true, same_from}
+use Rattle.sym_model.proofs.Exponents.{same_true}
 use Rattle.sym_model.proofs.Lists.{get_or-any}
 use Rattle.schubert_laws.proofs.LowerPermutations.{letter_added, letter_kept}
 use Rattle.schubert_laws.proofs.MonkFromOne.{swap_is}
 use Rattle.schubert_laws.proofs.TransitionFromOne.{get_past}
 use Rattle.schubert_laws.proofs.Swaps.{get_swap_left, get_swap_right, among_get}
-use Rattle.schubert_transition.specs.TermLists.{only}
 use Rattle.schubert_laws.proofs.Ranks.{letter_within}
 use Rattle.monk_product.specs.Monk.{count_of}
 
@@ -141,21 +139,3 @@ one_cover r w x o h =
     let e : 0 + (r - 1) + 1 ≡ r = omega arith in
     let p = ap (λ a. hits w (letter x r) (after a (max (length w) r + 1 - r))) e in
     omega arith
-
--- ---- as sums
-
-pub total_count : (x : List ℕ) (vs : List (List ℕ)) → total (only x) vs ≡ pos (count_of x vs)
-total_count x [] = refl
-total_count x (v ∷ vs) = by (same v x) (total_count x vs)
-  where
-    by : (b : Bool) → total (only x) vs ≡ pos (count_of x vs) → cond b (pos 1) (pos 0) +ℤ total (only x) vs ≡ pos (cond b 1 0 + count_of x vs)
-    by true e = omega (arith, ints)
-    by false e = omega (arith, ints)
-
-stands_here : (u v : List ℕ) → v ≡ u → cond {A = ℕ} (same u v) 1 0 ≡ 1
-stands_here u v e = ap (λ (b : Bool). cond {A = ℕ} b 1 0) (same_from u v (sym e))
-
-pub count_next : (vs : List (List ℕ)) (i : ℕ) (v : List ℕ) → i < length vs → v ≡ get_or vs i v → count_of v (take i vs) + 1 ≤ count_of v vs
-count_next [] i v h e = absurd (omega arith)
-count_next (u ∷ vs) zero v h e = let p = stands_here u v e in omega arith
-count_next (u ∷ vs) (suc i) v h e = let r = count_next vs i v (omega arith) e in omega arith

@@ -1,2 +1,2 @@
 pub mod Monk
-pub mod Pending
+pub mod MonkLaws

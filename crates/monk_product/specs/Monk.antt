@@ -1,21 +1,36 @@
 -- Lists of permutations with whole coefficients, and Monk's rule on them.
-use Rattle.std.specs.Prelude.{ℕ, ◌+◌, ◌≤◌, ◌-ℤ◌, ℤ, cond, max, List, [], ◌∷◌, length}
-pub use Rattle.sparse_polys.specs.WholeTables.{mass}
+use Rattle.std.specs.Prelude.{ℕ, ◌+◌, ◌≤◌, ℤ, pos, negsuc, ◌-ℤ◌, nat_eq, cond, max, List, [], ◌∷◌, ◌++◌, length}
+use Rattle.std.specs.Cmp.Lexicographic.{pointwise}
+use Rattle.coeff_rings.specs.Fractions.{whole}
 use Rattle.sym_model.specs.Sum.{total, Among}
-use Rattle.sym_model.specs.Expansion.{Fraction, Terms}
+use Rattle.sym_model.specs.LabelLimits.{is_permutation_label}
 use Rattle.sym_model.specs.Polynomial.{same}
 use Rattle.sym_model.specs.Permutation.{covers_up, covers_down}
+use Rattle.linear_combinations.specs.Entries.{IsCombination}
+pub use Rattle.linear_combinations.specs.Gains.{WholeTermsOf, over, mass, each_with}
+
+-- a sum of Schubert polynomials: a list of permutations with whole coefficients
+abbrev pub Schuberts : Type 0
+Schuberts = WholeTermsOf (List ℕ)
+
+-- each permutation stands once, with a coefficient that is not 0
+abbrev pub IsTable : Schuberts → Type 0
+IsTable terms = IsCombination (pointwise nat_eq) is_permutation_label whole terms
 
 -- each label has at most so many letters
-abbrev pub AreShort : ℕ → Terms (List ℕ) → Type 0
-AreShort most terms = (t : List ℕ × Fraction) → Among t terms → length t.0 ≤ most
+abbrev pub AreShort : ℕ → Schuberts → Type 0
+AreShort most terms = (t : List ℕ × ℤ) → Among t terms → length t.0 ≤ most
+
+-- the product of a Schubert polynomial and x_r: the covers with the other place greater, less those with it smaller
+abbrev pub monk_terms : ℕ → List ℕ → Schuberts
+monk_terms r w = each_with (pos 1) (covers_up r w) ++ each_with (negsuc 0) (covers_down r w)
 
 -- the sum of a test function over the covers with the other place greater less that over those with it smaller
 abbrev pub over_covers : ℕ → (List ℕ → ℤ) → List ℕ → ℤ
 over_covers r φ w = total φ (covers_up r w) -ℤ total φ (covers_down r w)
 
 -- the greatest number of letters of a label, 0 for the empty list
-abbrev pub greatest_length : Terms (List ℕ) → ℕ
+abbrev pub greatest_length : Schuberts → ℕ
 greatest_length [] = 0
 greatest_length (t ∷ terms) = max (length t.0) (greatest_length terms)
 

@@ -9,12 +9,7 @@
 --   a product                `product_coefficient` of the two lists
 -- and at the end it divides each coefficient by D, in lowest terms. So every number on the way is a coefficient of a part
 -- of the expression, and the weight bounds it.
-use Rattle.std.specs.Prelude.{ℕ, ◌*◌, ◌≤◌, ◌/◌, ◌<◌, ℤ, pos, nat_abs, ◌*ℤ◌, List, [], ◌∷◌, map, replicate}
-use Rattle.std.specs.Int.{◌∣◌}
-use Rattle.sym_model.specs.Sum.{Among}
-use Rattle.sym_model.specs.Partition.{size}
-use Rattle.sym_model.specs.Weight.{factorial}
-use Rattle.monomial_laws.specs.Majorant.{factorials}
+use Rattle.std.specs.Prelude.{ℕ, ◌*◌, ◌/◌, ◌<◌, ℤ, pos, nat_abs, ◌*ℤ◌, List, [], ◌∷◌, map, replicate}
 use Rattle.sym_model.specs.Polynomial.{Poly, Same}
 use Rattle.sym_model.specs.Bases.{monomial}
 use Rattle.sym_model.specs.PartitionList.{partitions_of}

@@ -1,5 +1,5 @@
 -- How many cells the first rows of a skew shape have.
-use Rattle.std.proofs.Common.{◌≡◌, ℕ, zero, suc, ◌+◌, ◌-◌, ◌≤◌, List, map, length, get_or, ◌∙◌, ap, refl, arith}
+use Rattle.std.proofs.Common.{◌≡◌, ℕ, zero, suc, ◌+◌, ◌-◌, ◌≤◌, List, map, length, get_or, ◌∙◌, ap, arith}
 use Rattle.std.proofs.lemmas.List.{length-map, length-append}
 use Rattle.sym_model.specs.Sum.{each}
 use Rattle.sym_model.specs.Partition.{part, after, cells}

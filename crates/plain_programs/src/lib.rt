@@ -1,6 +1,11 @@
 //! Plain programs for the bases, printed blocks and orders, fillings and lists of tableaux, insertion,
 //! removals of rim hooks, reflections and permutations, each with its definition as its contract. They are slow, and serve readers
 //! and the rows of the library.
+//!
+//! What is proved:
+//!
+//! Plain programs for the bases, blocks, fillings, tableaux, readings, arrangements, row insertion,
+//! removals of rim hooks, reflections, inversions and codes: each gives what its definition says.
 #![tactic(auto)]
 
 mod arrangements;

@@ -3,6 +3,18 @@
 //!
 //! A law function takes nothing, answers nothing and does no work when it runs: its contract is
 //! the law.
+//!
+//! What is proved:
+//!
+//! `printed_block_law`: of every kind of answer each canonical list has one block, and each block
+//! is that of one list. `label_order_law`: the printed orders are total. `one_line_law`: in each
+//! basis each canonical list of partitions has one one-line form, which reads back as it.
+//! `printed_form_law`: the same of both forms and every kind. `headline_law`: to print the answer
+//! of a command in its form is to put a text that reads back as it. `line_expression_law`: in each
+//! basis the one-line form of a canonical list of partitions, without its line feed, spells an
+//! expression of the grammar, and what that expression denotes is the list, in every number of
+//! variables; where no numerator is -2^127, no number in it is over 2^127 - 1. Worked examples of
+//! answers, weights and texts.
 #![tactic(auto)]
 
 mod answer_examples;

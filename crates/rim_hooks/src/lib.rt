@@ -1,5 +1,12 @@
 //! Reductions of partitions by rim hooks and into the alcove, and quantum and fusion products of two to eight Schur classes, which
 //! are reduced after each factor.
+//!
+//! What is proved:
+//!
+//! `core_of`: the end of the removals of rim hooks, with sign and power, whatever the order.
+//! `alcove_of`: the reduction into the alcove, 0 exactly where two entries of the beta list leave
+//! one remainder. `quantum`, `fusion`: the reductions of the classical product of 2 to 8 factors,
+//! as reducing after each factor gives them; `Large` only where a step weight is 2^127 or more.
 #![tactic(auto)]
 
 mod collecting;

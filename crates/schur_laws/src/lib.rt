@@ -3,6 +3,20 @@
 //!
 //! A law function takes nothing, answers nothing and does no work when it runs: its contract is
 //! the law.
+//!
+//! What is proved:
+//!
+//! `schur_in_monomials_law`: Schur polynomials in m are lists of Kostka numbers, counted by
+//! horizontal strips, in every number of variables. `coproduct_law`: a Schur polynomial in two sets
+//! of variables, by cutting tableaux at an entry. `duality_law`: as many good tableaux of λ/μ for
+//! the start σ come to τ as good tableaux of τ/σ for the start μ come to λ; so coefficients of
+//! products are counts of lattice tableaux of skew shapes, and the factors may change places.
+//! `degree_law`: two families of symmetric polynomials of degree at most d, one for each number of
+//! variables, that agree in d variables agree in every number of variables; so a list that expands
+//! an expression in d variables expands it in every number, where d is at least the degree of the
+//! expression and the size of each label. `symmetric_family_law`: the five bases and the values of
+//! expressions over partitions are such families, of at most their degree, and sums, multiples and
+//! products of families are families.
 #![tactic(auto)]
 
 mod coproduct;

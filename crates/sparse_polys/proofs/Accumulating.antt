@@ -100,7 +100,7 @@ refused-second value x y p w d e n lx ly f g answers h small =
 -- ---- one term more
 
 pub lowest_at : (terms : Terms (List ℕ)) → IsCombination (pointwise nat_eq) is_label terms → (ν : List ℕ) → InLowestTerms (coefficient_at terms ν)
-lowest_at terms is ν = lowest-coefficient nat_list_eq_equiv same_partition is_label (λ (r : Fraction). r) terms is.proper ν
+lowest_at terms is ν = lowest-coefficient is_label nat_list_eq_equiv same_partition terms is.proper ν
 
 pub at_same : (label : List ℕ) → pointwise nat_eq label label ≡ true
 at_same label = (bytes_eq-Decides label label).1 refl

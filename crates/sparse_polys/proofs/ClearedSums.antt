@@ -3,7 +3,7 @@
 --     refused-term    where it is refused, the absolute values are large
 --     Adds-then       one addition after another
 use Rattle.std.proofs.Common.{◌≡◌, ◌⊎◌, ℕ, ◌+◌, ◌*◌, ◌/◌, ◌^◌, ◌<◌, ◌≤◌, Bool, true, false, cond, List, [], ◌∷◌, refl, sym, ap, ap₂, ◌∙◌, subst, inl, inr, arith, ℤ, pos, ◌+ℤ◌, ◌*ℤ◌, unsigned_abs}
-use Rattle.std.specs.Prelude.{nat_eq, nat_abs, Option, Some, None, IsSome, Result, Ok, Err, OnOk}
+use Rattle.std.specs.Prelude.{nat_eq, nat_abs, Option, Some, None, IsSome}
 use Rattle.std.specs.Int.{◌∣◌}
 use Rattle.std.specs.Map.{lookup}
 use Rattle.std.specs.Option.{unwrap_or}
@@ -30,12 +30,13 @@ use Rattle.sparse_polys.proofs.Accumulating.{triangle, scaled-nothing}
 use Rattle.sparse_polys.proofs.Coefficients.{nat_abs-is}
 use native.Mathlib.Nat.{mul-pos, dvd-mul_left}
 use lib.IntN.{+ℤ_idr, zero-*ℤ}
+pub use Rattle.linear_combinations.proofs.Steps.{on_ok}
 
 abbrev pub IsTable : Terms (List ℕ) → Type 0
 IsTable terms = IsCombination (pointwise nat_eq) is_monomial_label terms
 
 pub lowest_at : (terms : Terms (List ℕ)) → IsTable terms → (e : List ℕ) → InLowestTerms (coefficient_at terms e)
-lowest_at terms is e = lowest-coefficient nat_list_eq_equiv same_partition is_monomial_label (λ (r : Fraction). r) terms is.proper e
+lowest_at terms is e = lowest-coefficient is_monomial_label nat_list_eq_equiv same_partition terms is.proper e
 
 -- ---- absolute values
 
@@ -179,7 +180,3 @@ Adds-then q first second third f g h l m n e s a b = record {
 
 pub AreCleared-nothing : (q : ℕ) → AreCleared q []
 AreCleared-nothing q e = subst (λ n. 1 ∣ n) (let m : q * 1 ≡ q = omega arith in m) (dvd-mul_left 1 q)
-
-pub on_ok : {A E P Q : Type 0} (r : Result A E) → OnOk r P → (P → Q) → OnOk r Q
-on_ok (Ok x) h f = f h
-on_ok (Err e) h f = tt

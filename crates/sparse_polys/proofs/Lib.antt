@@ -1,14 +1,10 @@
 pub mod Coefficients
+pub mod ValueLists
 pub mod Tables
 pub mod Steps
-pub mod Sorted
 pub mod Totals
 pub mod WholeTables
-pub mod Multiples
-pub mod Places
 pub mod Values
-pub mod LabelTests
-pub mod FollowingTerms
 pub mod ExponentOrder
 pub mod Labels
 pub mod Raising

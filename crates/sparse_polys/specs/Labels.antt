@@ -5,20 +5,11 @@ use Rattle.std.specs.Cmp.{IsTotalOrder}
 use Rattle.std.specs.Cmp.Lexicographic.{pointwise}
 use Rattle.std.specs.declared.cmp.Ordering.TheVariants.{Equal}
 use Rattle.std.proofs.lemmas.Bool.{and_parts, eqb-true}
-use Rattle.std.proofs.lemmas.Slice.Eq.{bytes_eq-Decides}
-use Rattle.sym_model.specs.Canonical.{is_label}
-use Rattle.sym_model.specs.LabelLimits.{is_pair_label, is_power_label, is_permutation_label}
-use Rattle.sym_model.specs.Kind.{pairs, powers, permutations}
-use Rattle.sym_model.specs.PrintedOrder.{printed_order, pair_order, power_order, permutation_order}
-use Rattle.sym_model.proofs.Orders.{is_label-tells, printed_order-equal}
+use Rattle.sym_model.specs.LabelLimits.{is_pair_label, is_power_label}
+use Rattle.sym_model.specs.Kind.{pairs, powers}
+use Rattle.sym_model.specs.PrintedOrder.{pair_order, power_order}
+pub use Rattle.linear_combinations.specs.Labels.{same_partition}
 use Rattle.printing_laws.proofs.LabelOrders.{label_order-total, label_order-ties}
-
-pub same_partition : (a b : List ℕ) → pointwise nat_eq a b ≡ true → a ≡ b
-same_partition a b h = (bytes_eq-Decides a b).0 h
-
-pub partition_order_equal : (a b : List ℕ) → IsTrue (is_label a) → IsTrue (is_label b) → printed_order a b ≡ Equal → a ≡ b
-partition_order_equal a b h k e =
-    printed_order-equal a b (is_label-tells a h).partition.positive (is_label-tells b k).partition.positive e
 
 pub same_pair : (a b : List ℕ × List ℕ) → (pointwise nat_eq a.0 b.0 && pointwise nat_eq a.1 b.1) ≡ true → a ≡ b
 same_pair a b h =
@@ -43,10 +34,3 @@ power_order_is_total = label_order-total powers
 pub power_order_equal :
     (a b : ℕ × List ℕ) → IsTrue (is_power_label a) → IsTrue (is_power_label b) → power_order a b ≡ Equal → a ≡ b
 power_order_equal a b h k e = label_order-ties powers a b h k e
-
-pub permutation_order_is_total : IsTotalOrder permutation_order
-permutation_order_is_total = label_order-total permutations
-
-pub permutation_order_equal :
-    (a b : List ℕ) → IsTrue (is_permutation_label a) → IsTrue (is_permutation_label b) → permutation_order a b ≡ Equal → a ≡ b
-permutation_order_equal a b h k e = label_order-ties permutations a b h k e

@@ -2,7 +2,6 @@ pub mod Combination
 pub mod WholeTables
 pub mod Refusal
 pub mod Labels
-pub mod Following
 pub mod Limits
 pub mod Ties
 pub mod Raised

@@ -6,19 +6,33 @@
 //! The product of two monomial symmetric polynomials has each partition with the number of ways in which it is an arrangement of the
 //! one label plus an arrangement of the other. Equal parts are not told apart: a search for the partition, from its greatest part
 //! down, keeps what is left of both labels with the number of ways that led there.
+//!
+//! What is proved:
+//!
+//! `Lin` and `Terms` are those of `linear_combinations` seen as fractions, with the same facts; the
+//! way from the one to the other copies nothing. Labels are partitions, permutations, monomials,
+//! `Pair`, `Power` and `Shifted` (a permutation with a monomial in y). `Monomial` is its list of
+//! exponents without zeros at the end: `from_exponents` has each refusal with its exact cause,
+//! `from_valid_exponents` fails only if out of memory, `degree` is the sum of the exponents,
+//! `cmp_printed` is the printed order, and monomials are labels of tables. `Monomial::times` adds
+//! the exponents, and `Monomial::times_var` raises one. `times`, over every ring: the product of
+//! two polynomials, in every number of variables; `Large` only where the weights of the two lists
+//! have a product of 2^127 or more. `times_var`: the product of a polynomial and a variable, in
+//! every number of variables, which fails only if out of memory. `times_in_m`, over every ring: the
+//! product of two expansions in m, in every number of variables; `Large` only where the common
+//! denominators, or a coefficient of the product of the absolute values over them, are 2^127 or
+//! more.
 #![tactic(auto)]
 
 mod counts;
 mod expansion_products;
 mod fault;
-mod label;
 mod lin;
 mod monomial;
 mod monomial_label;
 mod pair;
 mod part_steps;
 mod parts;
-mod permutation;
 mod poly;
 mod power;
 mod products;
@@ -29,8 +43,8 @@ mod terms;
 
 pub use expansion_products::{times_in_m, times_whole_in_m};
 pub use fault::MonoFault;
-pub use label::Label;
 pub use lin::Lin;
+pub use linear_combinations::Label;
 pub use monomial::Monomial;
 pub use pair::Pair;
 pub use poly::Poly;

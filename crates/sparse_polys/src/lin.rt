@@ -1,48 +1,62 @@
-//! Finite linear combinations of labels.
-ghost use Rattle.std.specs.Prelude.{◌≡◌, ◌<◌, ◌↔◌, [], Some, None, length, position, slice_get, IsTrue, IfOk, OnOk, OnErr, IsErrOf};
-ghost use Rattle.std.specs.Prelude.{IsSorted};
-ghost use Rattle.indexmap.specs.IndexMap.{index_map_len, get, IsUnique, Updates};
-ghost use Rattle.indexmap.specs.Layout.{set_value_at};
-ghost use Rattle.std.specs.List.Sorted.{IsPermutation};
-ghost use Rattle.std.specs.Map.{keys_of, lookup};
+//! Finite linear combinations of labels, seen as lists of fractions.
+ghost use Rattle.std.specs.Prelude.{◌≡◌, ◌↔◌, [], length, IsTrue, IfOk, OnOk, OnErr, IsErrOf};
 ghost use Rattle.std.specs.Map.Iter.{ShowsInOrder, deref_pair};
 ghost use Rattle.sparse_polys.specs.Combination.{coefficient, terms_of, HasMoreAt, HasSameCoefficients, IsCanonicalList, IsCombination, IsMultipleOf, IsSumOf};
 ghost use Rattle.sparse_polys.specs.Refusal.{IsRefused, RefusesSomeProduct, RefusesSomeSum};
 
-use crate::label::{Label, lies_in_limits};
 use crate::terms::Terms;
 use calc_base::{NoMemory, SumFault};
 use coeff_rings::{Ring, Scalar};
-use indexmap::IndexMap;
 use indexmap::map::Iter;
-use std::alloc::{AllocError, Global};
+use linear_combinations::{Label, Lin as Table};
+use std::alloc::Global;
 use std::marker::Model;
 
 /// A finite map from labels to coefficients that are not 0. A contract sees it as a list of terms in no stated order:
-/// each label once, with the value of its coefficient.
+/// each label once, with the value of its coefficient, a fraction whatever the ring is.
 #[derive(Drop)]
 pub struct Lin<L: Label, R: Scalar> {
-    table: IndexMap<L, R>,
+    table: Table<L, R>,
 }
 
 impl<L: Label, R: Scalar> Model for Lin<L, R> {
     ghost use Rattle.sym_model.specs.Expansion.{Terms as TermList};
-    ghost use Rattle.sparse_polys.specs.Combination.{terms_of, IsCombination};
+    ghost use Rattle.sparse_polys.specs.Combination.{terms_of};
 
     ghost Value = { TermList L };
 
-    ghost view = { λ m. terms_of R.value m.table.entries };
-
-    ghost invariant = { λ m. IsCombination L.eq L.is_label (terms_of R.value m.table.entries) };
+    ghost view = { λ m. terms_of R.value m.table };
 }
 
 impl<L: Label, R: Scalar> Lin<L, R> {
+    /// The map of a table.
+    pub fn from_table(table: Table<L, R>) -> Lin<L, R>
+        ensures { result ≡ terms_of R.value table }
+    {
+        Lin { table }
+    }
+
+    /// The table, which contracts see as its own entries.
+    pub fn as_table(&self) -> &Table<L, R>
+        ensures { terms_of R.value result.now ≡ self.now }
+    {
+        &self.table
+    }
+
+    /// The table, which contracts see as its own entries.
+    pub fn into_table(self) -> Table<L, R>
+        ensures { terms_of R.value result ≡ self }
+    {
+        let Lin { table } = self;
+        table
+    }
+
     /// The empty map. It takes no memory.
     pub fn new(alloc: Global) -> Lin<L, R>
         ensures { result ≡ [] }
     {
         Lin {
-            table: IndexMap::new(alloc),
+            table: Table::new(alloc),
         }
     }
 
@@ -51,10 +65,7 @@ impl<L: Label, R: Scalar> Lin<L, R> {
         ensures value { R.value result ≡ coefficient L.eq self.now label.now }
         ensures combination { IsCombination L.eq L.is_label self.now }
     {
-        match self.table.get(label) {
-            Some(c) => *c,
-            None => R::zero(),
-        }
+        self.table.coefficient(label)
     }
 
     /// The number of terms.
@@ -83,65 +94,7 @@ impl<L: Label, R: Scalar> Lin<L, R> {
         ensures was { IsCombination L.eq L.is_label self.old }
         ensures combination { IsCombination L.eq L.is_label self.new }
     {
-        match self.table.get_index_of(&label) {
-            Some(at) => self.add_at(at, c),
-            None => self.add_new(label, c),
-        }
-    }
-
-    /// Does what `add_term` does, with a label that is copied only where it is new.
-    fn add_borrowed(&mut self, label: &L, c: R) -> Result<(), SumFault>
-        ensures ok { OnOk result (HasMoreAt L.eq self.old label.now (R.value c) self.new) }
-        ensures large { IsErrOf result SumFault.Large
-            ↔ IsRefused R.is_held R.value R.checked_sum (coefficient L.eq self.old label.now) (R.value c) }
-        ensures was { IsCombination L.eq L.is_label self.old }
-        ensures combination { IsCombination L.eq L.is_label self.new }
-    {
-        match self.table.get_index_of(label) {
-            Some(at) => self.add_at(at, c),
-            None => self.add_new(label.copy()?, c),
-        }
-    }
-
-    /// Does what `add_term` does, with a label that is not there.
-    fn add_new(&mut self, label: L, c: R) -> Result<(), SumFault>
-        requires { lookup (L.eq label) self.old ≡ None }
-        ensures ok { OnOk result (HasMoreAt L.eq self.old label (R.value c) self.new) }
-        ensures large { IsErrOf result SumFault.Large
-            ↔ IsRefused R.is_held R.value R.checked_sum (coefficient L.eq self.old label) (R.value c) }
-        ensures err { OnErr result (self.new ≡ self.old) }
-        ensures was { IsCombination L.eq L.is_label self.old }
-        ensures combination { IsCombination L.eq L.is_label self.new }
-    {
-        self.is_combination();
-        lies_in_limits(&label);
-        if c.is_zero() {
-            return Ok(());
-        }
-        self.table.insert(label, c)?;
-        Ok(())
-    }
-
-    /// Adds `c` to the coefficient of the label at an index, and takes the label out where the sum is 0.
-    fn add_at(&mut self, at: usize, c: R) -> Result<(), SumFault>
-        requires { at < length self.old }
-        ensures ok { (label : L) → position (L.eq label) (keys_of self.old) ≡ Some at
-            → OnOk result (HasMoreAt L.eq self.old label (R.value c) self.new) }
-        ensures large { (label : L) → position (L.eq label) (keys_of self.old) ≡ Some at
-            → IsErrOf result SumFault.Large
-            ↔ IsRefused R.is_held R.value R.checked_sum (coefficient L.eq self.old label) (R.value c) }
-        ensures err { OnErr result (self.new ≡ self.old) }
-        ensures was { IsCombination L.eq L.is_label self.old }
-        ensures combination { IsCombination L.eq L.is_label self.new }
-    {
-        let (_, a) = pair_at(&self.table, at);
-        let sum = a.add(c).ok_or(SumFault::Large)?;
-        if sum.is_zero() {
-            take_at(&mut self.table, at);
-        } else {
-            put_at(&mut self.table, at, sum);
-        }
-        Ok(())
+        self.table.add_term(label, c)
     }
 
     /// An equal map.
@@ -149,10 +102,7 @@ impl<L: Label, R: Scalar> Lin<L, R> {
         ensures same { IfOk result (HasSameCoefficients L.eq self.now) }
         ensures combination { IfOk result (IsCombination L.eq L.is_label) }
     {
-        let mut table = IndexMap::new(*self.table.allocator());
-        for (label, c) in &self.table {
-            table.insert(label.copy()?, *c)?;
-        }
+        let table = self.table.copy()?;
         Ok(Lin { table })
     }
 
@@ -160,18 +110,16 @@ impl<L: Label, R: Scalar> Lin<L, R> {
     ///
     /// It is refused as `Large` only where at some label the ring refuses the sum of the two coefficients, and then
     /// there is no sum.
-    pub fn add_all(mut self, other: &Lin<L, R>) -> Result<Lin<L, R>, SumFault>
+    pub fn add_all(self, other: &Lin<L, R>) -> Result<Lin<L, R>, SumFault>
         ensures sum { IfOk result (IsSumOf L.eq self other.now) }
         ensures combination { IfOk result (IsCombination L.eq L.is_label) }
         ensures large { IsErrOf result SumFault.Large
             → RefusesSomeSum L.eq R.is_held R.value R.checked_sum self other.now }
         ensures fits { OnOk result (¬ RefusesSomeSum L.eq R.is_held R.value R.checked_sum self other.now) }
     {
-        self.is_combination();
-        for (label, c) in &other.table {
-            self.add_borrowed(label, *c)?;
-        }
-        Ok(self)
+        let Lin { table } = self;
+        let table = table.add_all(&other.table)?;
+        Ok(Lin { table })
     }
 
     /// The map with each coefficient times `c`. It takes no memory.
@@ -186,15 +134,8 @@ impl<L: Label, R: Scalar> Lin<L, R> {
             ↔ RefusesSomeProduct R.is_held R.value R.checked_product self (R.value c) }
         ensures inline { ¬ IsErrOf result SumFault.NoMemory }
     {
-        is_scalar(c);
-        let Lin { mut table } = self;
-        for at in 0..table.len() {
-            let (_, a) = pair_at(&table, at);
-            put_at(&mut table, at, a.mul(c).ok_or(SumFault::Large)?);
-        }
-        if c.is_zero() {
-            return Ok(Lin::new(*table.allocator()));
-        }
+        let Lin { table } = self;
+        let table = table.scale(c)?;
         Ok(Lin { table })
     }
 
@@ -205,10 +146,8 @@ impl<L: Label, R: Scalar> Lin<L, R> {
         ensures combination { IfOk result (IsCombination L.eq L.is_label) }
     {
         let Lin { table } = self;
-        let alloc = *table.allocator();
-        let mut pairs = pairs_of(alloc, table)?;
-        sort_labels(&mut pairs);
-        Ok(Terms::from_sorted(pairs))
+        let list = table.sorted_terms()?;
+        Ok(Terms::from_list(list))
     }
 
     /// The labels with their coefficients, in the order of the list that a contract sees.
@@ -219,68 +158,4 @@ impl<L: Label, R: Scalar> Lin<L, R> {
     {
         self.table.iter()
     }
-
-    /// Does nothing when it runs: it tells a proof what the map is.
-    fn is_combination(&self)
-        ensures { IsCombination L.eq L.is_label self.now }
-    {
-        let _ = self.table.len();
-    }
-}
-
-/// Does nothing when it runs: it tells a proof what is true of every scalar.
-fn is_scalar<R: Scalar>(c: R)
-    ensures { R.is_held c }
-{
-    let _ = c.is_zero();
-}
-
-/// The label and the scalar at an index of a table.
-fn pair_at<L: Label, R: Scalar>(table: &IndexMap<L, R>, at: usize) -> (&L, R)
-    requires { at < index_map_len table.now }
-    ensures pair { slice_get table.now.entries at ≡ Some (result.0.now, result.1) }
-    ensures found { get L.eq table.now result.0.now ≡ Some result.1 }
-    ensures unique { IsUnique L.eq table.now }
-{
-    let _ = table.len();
-    let (label, c) = table.get_index(at).unwrap();
-    (label, *c)
-}
-
-/// Puts a scalar in the place of the one at an index of a table.
-fn put_at<L: Label, R: Scalar>(table: &mut IndexMap<L, R>, at: usize, c: R)
-    requires { at < index_map_len table.old }
-    ensures entries { table.new.entries ≡ set_value_at table.old.entries at c }
-    ensures updates { (p : L × R) → slice_get table.old.entries at ≡ Some p → Updates L.eq table.old table.new p.0 (Some c) }
-    ensures unique { IsUnique L.eq table.new }
-{
-    let _ = table.len();
-    table[at] = c;
-    let _ = table.len();
-}
-
-/// Takes the pair at an index out of a table.
-fn take_at<L: Label, R: Scalar>(table: &mut IndexMap<L, R>, at: usize)
-    ensures updates { (p : L × R) → slice_get table.old.entries at ≡ Some p → Updates L.eq table.old table.new p.0 None }
-    ensures unique { IsUnique L.eq table.new }
-{
-    table.swap_remove_index(at);
-}
-
-/// Sorts the pairs by the printed order of their labels.
-fn sort_labels<L: Label, R: Scalar>(pairs: &mut Vec<(L, R)>)
-    ensures permutation { IsPermutation pairs.old.items pairs.new.items }
-    ensures sorted { IsSorted (λ a b. L.order a.0 b.0) pairs.new.items }
-{
-    pairs.sort_unstable_by(|a, b| a.0.cmp_printed(&b.0));
-}
-
-/// The pairs in the order of the table, of which no two have the same label.
-fn pairs_of<L: Label, R: Scalar>(
-    alloc: Global,
-    table: IndexMap<L, R>,
-) -> Result<Vec<(L, R)>, AllocError>
-    ensures { IfOk result (λ pairs. pairs.items ≡ table.entries) }
-{
-    table.into_iter().collect(alloc)
 }

@@ -4,8 +4,8 @@ ghost use Rattle.sym_model.specs.LabelLimits.{is_pair_label};
 ghost use Rattle.sym_model.specs.Partition.{rows};
 ghost use Rattle.sym_model.specs.PrintedOrder.{pair_order};
 
-use crate::label::Label;
 use calc_base::NoMemory;
+use linear_combinations::Label;
 use partitions::Partition;
 use std::cmp::Ordering;
 use std::marker::Model;

@@ -1,33 +1,29 @@
-//! Lists of terms in the printed order.
-ghost use Rattle.std.specs.Prelude.{◌≡◌, ◌↔◌, [], length, slice_get, IsTrue};
-ghost use Rattle.std.specs.Option.{option_map, option_copied, SomeIff};
+//! Lists of terms in the printed order, seen as lists of fractions.
+ghost use Rattle.std.specs.Prelude.{◌≡◌, ◌↔◌, length, slice_get, IsTrue};
+ghost use Rattle.std.specs.Option.{option_map, SomeIff};
 ghost use Rattle.std.specs.Slice.Iter.{iter_rest};
 ghost use Rattle.std.specs.Vec.Iter.{into_iter_items};
-ghost use Rattle.sparse_polys.specs.Combination.{terms_of, is_canonical_list, IsCanonicalList};
-ghost use Rattle.sparse_polys.specs.Following.{is_later, is_next};
+ghost use Rattle.sparse_polys.specs.Combination.{terms_of, IsCanonicalList};
 
-use crate::label::{Label, lies_in_limits};
 use coeff_rings::Scalar;
-use std::cmp::Ordering;
+use linear_combinations::{Label, Terms as List};
 use std::marker::Model;
 use std::{slice, vec};
 
 /// The terms of a finite map, strictly in the order in which labels are printed. A contract sees the list of labels
-/// with the values of their coefficients.
+/// with the values of their coefficients, fractions whatever the ring is.
 #[derive(Drop)]
 pub struct Terms<L: Label, R: Scalar> {
-    pairs: Vec<(L, R)>,
+    list: List<L, R>,
 }
 
 impl<L: Label, R: Scalar> Model for Terms<L, R> {
     ghost use Rattle.sym_model.specs.Expansion.{Terms as TermList};
-    ghost use Rattle.sparse_polys.specs.Combination.{terms_of, IsCanonicalList};
+    ghost use Rattle.sparse_polys.specs.Combination.{terms_of};
 
     ghost Value = { TermList L };
 
-    ghost view = { λ t. terms_of R.value t.pairs.items };
-
-    ghost invariant = { λ t. IsCanonicalList L.order L.is_label (terms_of R.value t.pairs.items) };
+    ghost view = { λ t. terms_of R.value t.list };
 }
 
 impl<L: Label, R: Scalar> Terms<L, R> {
@@ -36,19 +32,30 @@ impl<L: Label, R: Scalar> Terms<L, R> {
     pub fn from_pairs(pairs: Vec<(L, R)>) -> Option<Terms<L, R>>
         ensures { SomeIff result (IsCanonicalList L.order L.is_label (terms_of R.value pairs.items)) (terms_of R.value pairs.items) }
     {
-        if are_canonical(&pairs) {
-            Some(Terms::from_sorted(pairs))
-        } else {
-            None
-        }
+        let list = List::from_pairs(pairs)?;
+        Some(Terms { list })
     }
 
-    /// The list of pairs that are in order.
-    pub(crate) fn from_sorted(pairs: Vec<(L, R)>) -> Terms<L, R>
-        requires { IsCanonicalList L.order L.is_label (terms_of R.value pairs.items) }
-        ensures { result ≡ terms_of R.value pairs.items }
+    /// The terms of a list.
+    pub fn from_list(list: List<L, R>) -> Terms<L, R>
+        ensures { result ≡ terms_of R.value list }
     {
-        Terms { pairs }
+        Terms { list }
+    }
+
+    /// The list, which contracts see as its own entries.
+    pub fn as_list(&self) -> &List<L, R>
+        ensures { terms_of R.value result.now ≡ self.now }
+    {
+        &self.list
+    }
+
+    /// The list, which contracts see as its own entries.
+    pub fn into_list(self) -> List<L, R>
+        ensures { terms_of R.value result ≡ self }
+    {
+        let Terms { list } = self;
+        list
     }
 
     /// The number of terms.
@@ -56,7 +63,7 @@ impl<L: Label, R: Scalar> Terms<L, R> {
         ensures len { result ≡ length self.now }
         ensures canonical { IsCanonicalList L.order L.is_label self.now }
     {
-        self.pairs.len()
+        self.list.len()
     }
 
     /// Whether there are no terms.
@@ -71,8 +78,7 @@ impl<L: Label, R: Scalar> Terms<L, R> {
         ensures term { option_map (λ t. (t.0.now, R.value t.1)) result ≡ slice_get self.now i }
         ensures canonical { IsCanonicalList L.order L.is_label self.now }
     {
-        let (label, c) = self.pairs.get(i)?;
-        Some((label, *c))
+        self.list.get(i)
     }
 
     /// The labels with their coefficients, in the printed order.
@@ -80,7 +86,7 @@ impl<L: Label, R: Scalar> Terms<L, R> {
         ensures rest { terms_of R.value (iter_rest result) ≡ self.now }
         ensures canonical { IsCanonicalList L.order L.is_label self.now }
     {
-        self.pairs.iter()
+        self.list.iter()
     }
 }
 
@@ -92,38 +98,7 @@ impl<L: Label, R: Scalar> IntoIterator for Terms<L, R> {
     ghost into_iter_gives = { λ t it. terms_of R.value (into_iter_items it) ≡ t };
 
     fn into_iter(self) -> Self::IntoIter {
-        self.pairs.into_iter()
-    }
-}
-
-/// Whether the pairs stand strictly in the printed order, with coefficients that are not 0.
-fn are_canonical<L: Label, R: Scalar>(pairs: &[(L, R)]) -> bool
-    ensures { result ≡ is_canonical_list L.order L.is_label (terms_of R.value pairs.now) }
-{
-    let mut previous: Option<&L> = None;
-    for (label, c) in pairs {
-        if !may_follow(previous, label, *c) {
-            return false;
-        }
-        previous = Some(label);
-    }
-    true
-}
-
-/// Whether a term may stand behind the previous label: its coefficient is not 0, and it stands strictly later in print.
-fn may_follow<L: Label, R: Scalar>(previous: Option<&L>, label: &L, c: R) -> bool
-    ensures { result ≡ is_next L.order L.is_label (option_copied previous.entry) (label.now, R.value c) }
-{
-    lies_in_limits(label);
-    stands_later(previous, label) && !c.is_zero()
-}
-
-/// Whether a label stands strictly later in print than the previous one, if there is one.
-fn stands_later<L: Label>(previous: Option<&L>, label: &L) -> bool
-    ensures { result ≡ is_later L.order (option_copied previous.entry) label.now }
-{
-    match previous {
-        Some(previous) => previous.cmp_printed(label) == Ordering::Less,
-        None => true,
+        let Terms { list } = self;
+        list.into_iter()
     }
 }

@@ -2,6 +2,12 @@
 //!
 //! A law function takes nothing, answers nothing and does no work when it runs: its contract is
 //! the law.
+//!
+//! What is proved:
+//!
+//! `grassmannian_law`: the Schubert polynomial of a Grassmannian permutation is a Schur polynomial.
+//! `first_places_law`: terms with a variable past place M drop out of the transition rule.
+//! `stanley_law`: a Stanley polynomial is a sum of Schur polynomials, with no coefficient below 0.
 #![tactic(auto)]
 
 mod grassmannian_laws;

@@ -2,6 +2,11 @@
 //!
 //! A law function takes nothing, answers nothing and does no work when it runs: its contract is
 //! the law.
+//!
+//! What is proved:
+//!
+//! Strips, rim hooks, reflections and containment by rows: `strip_law`, `reflection_law`,
+//! `containment_law`.
 #![tactic(auto)]
 
 mod containing;

@@ -3,9 +3,9 @@
 --     AddsProduct-from                          so the shapes add the product
 --     list_value                                a list of products is the product of the list
 --     expansion                                 a list with the sums of a polynomial stands for it
-use Rattle.std.proofs.Common.{◌≡◌, ℕ, ◌+◌, ◌-◌, ◌*◌, ◌/◌, ◌^◌, ◌≤◌, List, [], ◌∷◌, length, refl, sym, ap, ap₂, ◌∙◌, arith, ℤ, pos, ◌+ℤ◌, ◌*ℤ◌}
+use Rattle.std.proofs.Common.{◌≡◌, ℕ, ◌+◌, ◌-◌, ◌*◌, ◌^◌, ◌≤◌, List, [], ◌∷◌, length, refl, sym, ap, ap₂, ◌∙◌, arith, ℤ, pos, ◌+ℤ◌, ◌*ℤ◌}
 use Rattle.std.specs.Int.{◌∣◌}
-use Rattle.std.proofs.Math.Nat.{div-mul_cancel, pow-le-pow_right}
+use Rattle.std.proofs.Math.Nat.{pow-le-pow_right}
 use Rattle.sym_model.specs.Sum.{total, each, Among}
 use Rattle.sym_model.specs.Partition.{IsPartition, size}
 use Rattle.sym_model.specs.Polynomial.{Poly, Same, join, pair, times, scale}
@@ -14,7 +14,7 @@ use Rattle.sym_model.specs.Schur.{schur}
 use Rattle.sym_model.specs.Strip.{height}
 use Rattle.sym_model.specs.PlaceOrders.{minus_one_to}
 use Rattle.sym_model.specs.Expansion.{Basis, Fraction, Terms, denominators, cleared, value, basis_polynomial, IsExpansionOf}
-use Rattle.sym_model.proofs.Ring.{one-product, product_assoc}
+use Rattle.sym_model.proofs.Ring.{one-product}
 use Rattle.sym_model.proofs.Sums.{total_ext}
 use Rattle.sym_model.proofs.Polynomials.{pair_ext, pair_plus, pair_scale, pair_each, pair_times, pair_total, pair_factor, pair_determined, same_from_pair}
 use Rattle.coeff_rings.specs.Fractions.{scaled}
@@ -30,7 +30,6 @@ use Rattle.product_laws.proofs.StripCounts.{hooks_within}
 use Rattle.strip_rules.specs.Adding.{AddsShapes, AddsProduct, in_schurs}
 use Rattle.strip_rules.proofs.ShapeSums.{IsTable}
 use native.Mathlib.Nat.{mul-le-mul_left, pow-suc, pow-zero}
-use lib.IntN.{*ℤ_comm}
 
 -- ---- one term
 

@@ -2,6 +2,12 @@
 //!
 //! A law function takes nothing, answers nothing and does no work when it runs: its contract is
 //! the law.
+//!
+//! What is proved:
+//!
+//! `transposing_law`, `grid_law`, `column_counting_law`: tableaux by their columns, and counts
+//! column by column. `schur_restriction_law`: a skew Schur polynomial restricts to that in fewer
+//! variables.
 #![tactic(auto)]
 
 mod by_columns;

@@ -1,4 +1,10 @@
 //! The words of the commands on tableaux, `unrsk`, `rect` and `tab`, and how they are read.
+//!
+//! What is proved:
+//!
+//! The words of `tab`, `unrsk` and `rect`, with the rows of tableaux, read in the same way: each
+//! entry that is out of its place is refused where it stands, and a tableau behind `-from` that is
+//! not in the list at the word `-from`.
 #![tactic(auto)]
 
 mod cells;

@@ -1,5 +1,5 @@
 -- Each command has words, and the expression of an `expand` without offence is within its target's degree.
-use Rattle.std.proofs.Common.{◌≡◌, ℕ, ◌+◌, ◌≤◌, nat_lt, Bool, true, false, cond, List, [], ◌∷◌, ◌++◌, map, length, refl, sym, ap, ◌∙◌, subst, inl, inr}
+use Rattle.std.proofs.Common.{◌≡◌, ℕ, arith, None, ◌+◌, ◌≤◌, nat_lt, Bool, true, false, cond, List, [], ◌∷◌, ◌++◌, map, length, refl, sym, subst, inl, inr}
 use Rattle.std.proofs.lemmas.Bool.{ltb-false}
 use Rattle.sym_model.specs.Expansion.{Basis, monomials}
 use Rattle.sym_model.specs.Expression.{Tree, number, degree}
@@ -9,9 +9,9 @@ use Rattle.sym_model.specs.Sum.{each}
 use Rattle.sym_model.specs.Form.{Written, words_of, EachOf, Has}
 use Rattle.sym_model.specs.WordForms.{optional, form_words}
 use Rattle.sym_model.specs.Command.{Command, expand}
-use Rattle.sym_model.specs.CommandOffence.{Offence, expression_offences}
-use Rattle.sym_model.specs.Entry.{Entry, SpellsFreely, SpellsWithoutOffence}
-use Rattle.sym_model.specs.Grammar.{entries_of, mult_entry, skew_entry, coef_entry, coprod_entry, tab_entry, quantum_entry, fusion_entry, schubert_entry, schubmult_entry, expand_entry, rsk_entry, unrsk_entry, rect_entry, growth_entry, plethysm_entry, dschubmult_entry, stanley_entry, batch_entry, work_entry}
+use Rattle.sym_model.specs.CommandOffence.{Offence, first_offence, expression_offences}
+use Rattle.sym_model.specs.Entry.{Entry, SpellsWithoutOffence}
+use Rattle.sym_model.specs.Grammar.{entries_of, expand_entry}
 use Rattle.word_laws.specs.Reading.{forms_of}
 use Rattle.word_laws.proofs.LongestPrefixes.{CanBe, some_words}
 use Rattle.word_laws.proofs.FirstOffences.{first_none}
@@ -26,10 +26,6 @@ has_words basis bases =
     each_has (entries_of (basis ∷ bases)) (refl, (refl, (refl, (refl, (refl, (refl, (refl, (refl, (refl, (refl, (refl, (refl, (refl, (refl, (refl, (refl, (refl, (refl, (refl, tt)))))))))))))))))))
 
 -- the target and the expression of an expand
-abbrev is_expand : Command → Bool
-is_expand (expand target form e) = true
-is_expand _ = false
-
 abbrev target_of : Command → Basis
 target_of (expand target form e) = target
 target_of _ = monomials
@@ -38,13 +34,9 @@ abbrev expression_of : Command → Tree
 expression_of (expand target form e) = e
 expression_of _ = number 0
 
--- an entry that says no expand
-other : (e : Entry) → ((x : Written e.form) → is_expand (e.says x) ≡ false) → (words : Words) (target : Basis) (one_line : Bool) (t : Tree)
-    → SpellsFreely e words (expand target one_line t) → degree t ≤ degree_limit target
-other e n words target one_line t h = absurd (no (ap is_expand h.says_it ∙ n h.has.written))
-  where
-    no : true ≡ false → ⊥
-    no h = cc
+-- what the words of the entry say where they have no offence: an expression within the degree of its target, if any
+abbrev Within : Entry → Type 0
+Within e = (x : Written e.form) → first_offence (e.offends x) ≡ None → degree (expression_of (e.says x)) ≤ degree_limit (target_of (e.says x))
 
 no_append : {A : Type 0} (xs ys : List A) → xs ++ ys ≡ [] → (xs ≡ []) × (ys ≡ [])
 no_append [] ys h = (refl, h)
@@ -71,39 +63,24 @@ within_degree target phrase h =
     let past = (no_append (cond (nat_lt 4096 (length (spelling phrase))) ((4096, range) ∷ []) []) (cond (nat_lt (degree_limit target) (degree (tree phrase))) ((length (spelling phrase), range) ∷ []) []) whole).1 in
     not_past (degree_limit target) (degree (tree phrase)) (length (spelling phrase), range) past
 
-expanded : (bases : List Basis) (words : Words) (target : Basis) (one_line : Bool) (t : Tree)
-    → SpellsFreely (expand_entry bases) words (expand target one_line t) → degree t ≤ degree_limit target
-expanded bases words target one_line t h =
-    let x = h.has.written in
+expand_within : (bases : List Basis) → Within (expand_entry bases)
+expand_within bases x h =
     let k = 2 + length (words_of (optional form_words) x.1.0) in
-    let basis = x.1.1.0 in
-    let phrase = x.1.1.1 in
-    let none = no_map (placed k) (offences basis phrase) (first_none (expression_offences k basis phrase) h.no_offence) in
-    subst (λ b. degree t ≤ degree_limit b) (sym (ap target_of h.says_it))
-    (subst (λ e. degree e ≤ degree_limit basis) (sym (ap expression_of h.says_it)) (within_degree basis phrase none))
+    within_degree x.1.1.0 x.1.1.1 (no_map (placed k) (offences x.1.1.0 x.1.1.1) (first_none (expression_offences k x.1.1.0 x.1.1.1) h))
+
+no_expression : degree (number 0) ≤ degree_limit monomials
+no_expression = omega arith
+
+all_within : (bases : List Basis) → EachOf Within (entries_of bases)
+all_within bases = let e = expand_within bases in let n = no_expression in search parts 64
+
+some_within : (entries : List Entry) → EachOf Within entries → (words : Words) (c : Command) → SpellsWithoutOffence entries words c
+    → degree (expression_of c) ≤ degree_limit (target_of c)
+some_within [] k words c h = absurd h
+some_within (e ∷ entries) k words c (inl h) =
+    subst (λ c. degree (expression_of c) ≤ degree_limit (target_of c)) (sym h.says_it) (k.0 h.has.written h.no_offence)
+some_within (e ∷ entries) k words c (inr h) = some_within entries k.1 words c h
 
 pub expression_degree : (bases : List Basis) (words : Words) (target : Basis) (one_line : Bool) (t : Tree)
     → SpellsWithoutOffence (entries_of bases) words (expand target one_line t) → degree t ≤ degree_limit target
-expression_degree bases words target one_line t h = by h
-  where
-    by : SpellsWithoutOffence (entries_of bases) words (expand target one_line t) → degree t ≤ degree_limit target
-    by (inl h) = other mult_entry (λ x. refl) words target one_line t h
-    by (inr (inl h)) = other skew_entry (λ x. refl) words target one_line t h
-    by (inr (inr (inl h))) = other coef_entry (λ x. refl) words target one_line t h
-    by (inr (inr (inr (inl h)))) = other coprod_entry (λ x. refl) words target one_line t h
-    by (inr (inr (inr (inr (inl h))))) = other tab_entry (λ x. refl) words target one_line t h
-    by (inr (inr (inr (inr (inr (inl h)))))) = other quantum_entry (λ x. refl) words target one_line t h
-    by (inr (inr (inr (inr (inr (inr (inl h))))))) = other fusion_entry (λ x. refl) words target one_line t h
-    by (inr (inr (inr (inr (inr (inr (inr (inl h)))))))) = other schubert_entry (λ x. refl) words target one_line t h
-    by (inr (inr (inr (inr (inr (inr (inr (inr (inl h))))))))) = other schubmult_entry (λ x. refl) words target one_line t h
-    by (inr (inr (inr (inr (inr (inr (inr (inr (inr (inl h)))))))))) = expanded bases words target one_line t h
-    by (inr (inr (inr (inr (inr (inr (inr (inr (inr (inr (inl h))))))))))) = other rsk_entry (λ x. refl) words target one_line t h
-    by (inr (inr (inr (inr (inr (inr (inr (inr (inr (inr (inr (inl h)))))))))))) = other unrsk_entry (λ x. refl) words target one_line t h
-    by (inr (inr (inr (inr (inr (inr (inr (inr (inr (inr (inr (inr (inl h))))))))))))) = other rect_entry (λ x. refl) words target one_line t h
-    by (inr (inr (inr (inr (inr (inr (inr (inr (inr (inr (inr (inr (inr (inl h)))))))))))))) = other growth_entry (λ x. refl) words target one_line t h
-    by (inr (inr (inr (inr (inr (inr (inr (inr (inr (inr (inr (inr (inr (inr (inl h))))))))))))))) = other (plethysm_entry bases) (λ x. refl) words target one_line t h
-    by (inr (inr (inr (inr (inr (inr (inr (inr (inr (inr (inr (inr (inr (inr (inr (inl h)))))))))))))))) = other dschubmult_entry (λ x. refl) words target one_line t h
-    by (inr (inr (inr (inr (inr (inr (inr (inr (inr (inr (inr (inr (inr (inr (inr (inr (inl h))))))))))))))))) = other stanley_entry (λ x. refl) words target one_line t h
-    by (inr (inr (inr (inr (inr (inr (inr (inr (inr (inr (inr (inr (inr (inr (inr (inr (inr (inl h)))))))))))))))))) = other batch_entry (λ x. refl) words target one_line t h
-    by (inr (inr (inr (inr (inr (inr (inr (inr (inr (inr (inr (inr (inr (inr (inr (inr (inr (inr (inl h))))))))))))))))))) = other work_entry (λ x. refl) words target one_line t h
-    by (inr (inr (inr (inr (inr (inr (inr (inr (inr (inr (inr (inr (inr (inr (inr (inr (inr (inr (inr (h)))))))))))))))))))) = absurd h
+expression_degree bases words target one_line t h = some_within (entries_of bases) (all_within bases) words (expand target one_line t) h

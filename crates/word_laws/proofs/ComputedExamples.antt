@@ -14,10 +14,10 @@ use Rattle.word_laws.proofs.EntryLists.{syntax_sound}
 use Rattle.word_laws.proofs.ComputedReadings.{offences_found, offends_sound, commands_found, commands_sound}
 
 pub can_be_all : CanBe (forms_of all_commands)
-can_be_all = (refl, (refl, (refl, (refl, (refl, (refl, (refl, (refl, (refl, (refl, (refl, (refl, (refl, (refl, (refl, (refl, (refl, (refl, (refl, tt)))))))))))))))))))
+can_be_all = search parts 64
 
 pub can_be_line : CanBe (forms_of (line_entries all_bases))
-can_be_line = (refl, (refl, (refl, (refl, (refl, (refl, (refl, (refl, (refl, (refl, (refl, (refl, (refl, (refl, (refl, (refl, (refl, tt)))))))))))))))))
+can_be_line = search parts 64
 
 pub gone_wrong_in : (entries : List Entry) → CanBe (forms_of entries) → 0 < length entries → (words : List (List ℕ)) (word byte : ℕ)
     → syntax_place entries words ≡ Some (word, byte) → IsSyntaxPlace entries words word byte

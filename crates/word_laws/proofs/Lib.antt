@@ -1,4 +1,6 @@
 pub mod Classes
+pub mod Cuts
+pub mod CutParts
 pub mod Derivatives
 pub mod LongestPrefixes
 pub mod Readings

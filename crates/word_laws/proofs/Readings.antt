@@ -70,7 +70,7 @@ never_both cs ds text h o p =
     apart_sound o.class p.class (apart_each o.class p.class cs ds h o.among p.among) o.written p.written o.allowed p.allowed
     (sym o.spelled ∙ p.spelled)
 
-of_left : (cs ds : List Class) (text : List ℕ) → OfOne cs text → OfOne (cs ++ ds) text
+pub of_left : (cs ds : List Class) (text : List ℕ) → OfOne cs text → OfOne (cs ++ ds) text
 of_left cs ds text o = record {
   class = o.class;
   among = Among-append_left o.class cs ds o.among;
@@ -79,7 +79,7 @@ of_left cs ds text o = record {
   spelled = o.spelled;
 }
 
-of_right : (cs ds : List Class) (text : List ℕ) → OfOne ds text → OfOne (cs ++ ds) text
+pub of_right : (cs ds : List Class) (text : List ℕ) → OfOne ds text → OfOne (cs ++ ds) text
 of_right cs ds text o = record {
   class = o.class;
   among = Among-append_right o.class cs ds o.among;
@@ -88,7 +88,7 @@ of_right cs ds text o = record {
   spelled = o.spelled;
 }
 
-of_cond : (b : Bool) (cs : List Class) (text : List ℕ) → b ≡ true → OfOne cs text → OfOne (cond b cs []) text
+pub of_cond : (b : Bool) (cs : List Class) (text : List ℕ) → b ≡ true → OfOne cs text → OfOne (cond b cs []) text
 of_cond true cs text h o = o
 of_cond false cs text h o = cc
 
@@ -97,11 +97,11 @@ abbrev pub Unlike : List Class → Words → Type 0
 Unlike cs [] = Unit {0}
 Unlike cs (text ∷ ws) = OfOne cs text → ⊥
 
-unlike : (cs ds : List Class) (ws : Words) → ((text : List ℕ) → OfOne cs text → OfOne ds text) → Unlike ds ws → Unlike cs ws
+pub unlike : (cs ds : List Class) (ws : Words) → ((text : List ℕ) → OfOne cs text → OfOne ds text) → Unlike ds ws → Unlike cs ws
 unlike cs ds [] h u = tt
 unlike cs ds (text ∷ ws) h u = λ o. u (h text o)
 
-unlike_word : (cs : List Class) (text : List ℕ) (ws vs : Words) → Unlike cs ws → ws ≡ text ∷ vs → OfOne cs text → ⊥
+pub unlike_word : (cs : List Class) (text : List ℕ) (ws vs : Words) → Unlike cs ws → ws ≡ text ∷ vs → OfOne cs text → ⊥
 unlike_word cs text [] vs u e o = cc
 unlike_word cs text (t ∷ ws) vs u e o = let k : text ≡ t = cc in u (subst (OfOne cs) k o)
 
@@ -148,7 +148,7 @@ first_word (many f) xs a text ws h = of_many f (first_word f) xs a text ws h
             let n : t ≡ text = cc in subst (OfOne (firsts f)) n (l x a.0 t rest e)
 
 -- words of a form in front of others are unlike classes that are apart from its first ones
-unlike_front : (cs : List Class) (f : Form) (x : Written f) → May f x → (r : Words) → are_apart cs (firsts f) ≡ true
+pub unlike_front : (cs : List Class) (f : Form) (x : Written f) → May f x → (r : Words) → are_apart cs (firsts f) ≡ true
     → (is_skippable f ≡ true → Unlike cs r) → Unlike cs (words_of f x ++ r)
 unlike_front cs f x a r h u = by (view (words_of f x))
   where

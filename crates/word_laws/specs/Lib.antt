@@ -1,6 +1,7 @@
 pub mod OneReading
 pub mod Reading
 pub mod Words
+pub mod FirstWords
 pub mod Examples
 pub mod WrittenRows
 pub mod JudgedRows

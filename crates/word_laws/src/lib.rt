@@ -3,6 +3,16 @@
 //!
 //! A law function takes nothing, answers nothing and does no work when it runs: its contract is
 //! the law.
+//!
+//! What is proved:
+//!
+//! `one_command_law`: no words spell two commands or have two first offences. `syntax_place_law`:
+//! where words go wrong is the longest prefix that begins a command. `command_offence_law`,
+//! `words_of_commands_law`, `tableau_shape_law`, `batch_lines_law`, and 83 worked refusals with 31
+//! words at the limits that are not refused. `left_shape_law`: where rows as they are written leave
+//! a shape. `judged_rows_law`: the first offence of the rows of a tableau is that of judging each
+//! number once. `earlier_offence_law`: the first offence of two lists is the earlier of their first
+//! ones.
 #![tactic(auto)]
 
 mod batch_lines;

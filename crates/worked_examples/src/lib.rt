@@ -3,6 +3,11 @@
 //!
 //! A law function takes nothing, answers nothing and does no work when it runs: its contract is
 //! the examples.
+//!
+//! What is proved:
+//!
+//! Values of the definitions that the check computes, from outside or by hand: among them all
+//! Schubert polynomials of four letters.
 #![tactic(auto)]
 
 mod expansions;

@@ -1,7 +1,6 @@
 use Rattle.std.proofs.Common.{◌≡◌, true, inl, inr, map, string_bytes, subst}
 use Rattle.calc_app.specs.Top.{PrintsAnswerTo, PrintsLines, RunsLines, IsOutcome, Leaves}
-use Rattle.calc_base.specs.Edge.{Outlet, told_bytes, is_handed_on}
-use Rattle.calc_base.specs.Sink.{number_told}
+use Rattle.calc_base.specs.Edge.{intake_seen, outlet_seen, is_handed_on}
 use Rattle.calc_base.specs.declared.status.Status.{Status}
 use Rattle.calc_base.specs.declared.status.Status.TheVariants.{Done, SomeRefused}
 use Rattle.calc.proofs.HandedOn.{handed_on}
@@ -10,12 +9,12 @@ use Rattle.calc.proofs.run_over.Goals as goal
 
 -- what is left with the status that was answered
 left_by : (g : Over) (c : goal.After-run g) (answer : Status) → c.run.result ≡ answer
-    → Leaves (λ (s : Outlet _). told_bytes g.W.Write.contents s) (λ (s : Outlet _). number_told (told_bytes g.W.Write.contents s)) is_handed_on
-    c.args.sink.now c.run.new.sink (g.R.Read.remaining c.args.source.now.reader) (g.R.Read.remaining c.run.new.source.reader)
+    → Leaves (outlet_seen g.W.Write.contents c.args.sink.now) (outlet_seen g.W.Write.contents c.run.new.sink)
+    (intake_seen g.R.Read.remaining c.args.source.now) (intake_seen g.R.Read.remaining c.run.new.source) (c.run.new.sink ≡ c.args.sink.now)
     (RunsLines (map string_bytes c.args.words.now)) (IsOutcome (map string_bytes c.args.words.now)) answer
 left_by g c answer is =
-    subst (Leaves (λ (s : Outlet _). told_bytes g.W.Write.contents s) (λ (s : Outlet _). number_told (told_bytes g.W.Write.contents s)) is_handed_on
-    c.args.sink.now c.run.new.sink (g.R.Read.remaining c.args.source.now.reader) (g.R.Read.remaining c.run.new.source.reader)
+    subst (Leaves (outlet_seen g.W.Write.contents c.args.sink.now) (outlet_seen g.W.Write.contents c.run.new.sink)
+    (intake_seen g.R.Read.remaining c.args.source.now) (intake_seen g.R.Read.remaining c.run.new.source) (c.run.new.sink ≡ c.args.sink.now)
     (RunsLines (map string_bytes c.args.words.now)) (IsOutcome (map string_bytes c.args.words.now))) is c.run.ensures.leaves
 
 pub returns-clause-headline : goal.returns-clause-headline
@@ -30,9 +29,3 @@ returns-clause-lines g c = λ runs through before told.
     elim through [ inl done ↦ (left_by g c Done done).is_settled | inr refused ↦ (left_by g c SomeRefused refused).1.is_settled ] in
     subst (PrintsLines before (g.R.Read.remaining c.args.source.now.reader))
     (handed_on g.W.Write.contents c.run.new.sink settled) (c.run.ensures.lines runs through before told)
-
-pub returns-clause-offended : goal.returns-clause-offended
-returns-clause-offended g c = λ offence first. (c.run.ensures.offended offence first).ends
-
-pub returns-clause-no_command : goal.returns-clause-no_command
-returns-clause-no_command g c = λ word byte place. (c.run.ensures.no_command word byte place).ends

@@ -18,7 +18,16 @@ use Rattle.coeff_rings.specs.Laws.{SumLaws, RingLaws, FieldLaws}
 use Rattle.coeff_rings.specs.Proved.Divisors.{IsGcd-greatest, greatest_common_divisor-is, divisor_positive, divides_other_factor, coprime_without, coprime-one, quotient_positive}
 use Rattle.coeff_rings.specs.Proved.Fractions.{Stands-same, Stands-itself, Stands-sum, Stands-negation, Stands-lowest_terms, InLowestTerms-whole, unsigned_abs-quotient}
 use Rattle.coeff_rings.specs.Proved.FractionLaws.{sum_laws, ring_laws, field_laws, sum_comm, sum-zero, difference-is, reciprocal-lowest}
-use Rattle.coeff_rings.specs.Proved.Whole.{where_fits-true, IfSome-where_fits, IsSome-where_fits, fits_from_test, test_from_fits}
+use Rattle.coeff_rings.specs.Proved.Whole.{fitted, where_fits-true, IfSome-where_fits, IsSome-where_fits, fits_from_test, test_from_fits}
+
+-- ---- an answer is the exact value
+
+pub fitted_sum : (a b s : Fraction) → checked_fraction_sum a b ≡ Some s → s ≡ fraction_sum a b
+fitted_sum a b s =
+    fitted (four_numbers_fit a b (numerator_over_common a b +ℤ numerator_over_common b a)) (fraction_sum a b) s
+
+pub fitted_product : (a b p : Fraction) → checked_fraction_product a b ≡ Some p → p ≡ fraction_product a b
+fitted_product a b p = fitted (fits_fraction (fraction_product a b)) (fraction_product a b) p
 
 -- ---- a fraction in lowest terms whose numbers fit is held
 

@@ -30,6 +30,16 @@ pub IsSome-where_fits : {A : Type 0} (t : Bool) (x : A) → t ≡ true → IsSom
 IsSome-where_fits true x e = refl
 IsSome-where_fits false x e = absurd (both_ways false refl e)
 
+pub fitted : {A : Type 0} (t : Bool) (x s : A) → where_fits t x ≡ Some s → s ≡ x
+fitted true x s e = cc
+fitted false x s e = cc
+
+pub whole_fitted : (z s : ℤ) → checked_i128 z ≡ Some s → s ≡ z
+whole_fitted z = fitted (fits_128_bits z) z
+
+pub count_fitted : (n s : ℕ) → checked_u128 n ≡ Some s → s ≡ n
+count_fitted n = fitted (nat_lt n (2 ^ 128)) n
+
 -- ---- the range of i128
 
 pub fits_from_test : (z : ℤ) → fits_128_bits z ≡ true → FitsSigned w128 z

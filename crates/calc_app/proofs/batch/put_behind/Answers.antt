@@ -8,5 +8,5 @@ pub returns-clause-goes : goal.returns-clause-goes
 returns-clause-goes g c =
     let well : c.put_separator.result ≡ true = search (rules, tests) in
     let P : Bool → Type 0 = λ m.
-    Puts g.K.Sink.written g.K.Sink.length g.K.Sink.faults true c.args.sink.now m c.put_separator.new.sink (separator c.args.is_first) in
+    Puts true (g.K.Sink.seen c.args.sink.now) m (g.K.Sink.seen c.put_separator.new.sink) (separator c.args.is_first) in
     Puts-then (subst P well c.put_separator.ensures) c.put_text.ensures.goes

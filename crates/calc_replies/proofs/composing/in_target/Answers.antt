@@ -1,8 +1,7 @@
-use Rattle.std.proofs.Common.{rules, tests, ◌≡◌, ◌≤◌, ◌^◌, ℕ, arith, sym, subst, ap, ◌*◌}
+use Rattle.std.proofs.Common.{◌≡◌, ◌≤◌, ◌^◌, arith, sym, subst, ap, ◌*◌}
 use Rattle.std.proofs.lemmas.Result.{IfOk-weaker, err_from_is_err_and}
 use Rattle.sym_model.specs.Expansion.{monomials}
 use Rattle.sym_model.specs.Expression.{cleared_value, degree, denominator}
-use Rattle.sym_model.specs.Plethysm.{plethysm_weight}
 use Rattle.sym_model.specs.Weight.{numerator}
 use Rattle.monomial_expand.specs.LabelSizes.{AreWithin}
 use Rattle.monomial_expand.proofs.AtomLists.{greatest-within}

@@ -4,7 +4,7 @@ use Rattle.calc_replies.proofs.Listings.{line}
 use Rattle.calc_replies.proofs.listing.put_lines.Goals as goal
 
 pub loop-well-init : goal.loop-well-init
-loop-well-init g c = PutsUpTo-start _ _ _ _ _ (line c.args.order.now.0 c.args.order.now.1) _
+loop-well-init g c = PutsUpTo-start _ _ (line c.args.order.now.0 c.args.order.now.1) _
 
 pub loop-well-preserved : goal.loop-well-preserved
 loop-well-preserved g c =

@@ -23,14 +23,14 @@ pub read_later-requires : goal.read_later-requires
 read_later-requires t c =
     let words = c.args.words.now in
     let later = c.in-Some.later.now in
-    let list = c.numbers.result.0.now in
-    let rest = c.numbers.result.1.now in
+    let list = c.list_first.result.0.now in
+    let rest = c.list_first.result.1.now in
     let w = length-map words string_bytes in
     let l = length-map later string_bytes in
     let m = length-map list string_bytes in
     let r = length-map rest string_bytes in
     let a = ap length c.in-Some.ensures in
-    let b = ap length c.numbers.ensures.parts in
+    let b = ap length c.list_first.ensures.parts in
     let s = length-append (map string_bytes list) (map string_bytes rest) in
     let d = c.decreases in
     let p = c.requires.place in (
@@ -46,9 +46,9 @@ pub returns-in_err-factors : goal.returns-in_err-factors
 returns-in_err-factors t c =
     λ others e n.
     let factors = c.args.factors in
-    let list = map string_bytes c.numbers.result.0.now in
-    let k = next_cut (map string_bytes c.args.words.now) (map string_bytes c.in-Some.later.now) list (map string_bytes c.numbers.result.1.now) others e n
-    c.in-Some.ensures c.numbers.ensures.parts c.numbers.ensures.numbers c.numbers.ensures.rest in
+    let list = map string_bytes c.list_first.result.0.now in
+    let k = next_cut (map string_bytes c.args.words.now) (map string_bytes c.in-Some.later.now) list (map string_bytes c.list_first.result.1.now) others e n
+    c.in-Some.ensures c.list_first.ensures.parts c.list_first.ensures.list c.list_first.ensures.rest in
     let p = err_from_is_err_and c.from_residual.result c.from_residual.ensures.1 in
     rw (p.1, p.2)
     (subst (λ os. IsFirst (first_offence (factor_offences (length factors) (c.args.at + 1) (map numbers os))) c.in_err-factors.field-0.0) (sym k.others_are)
@@ -58,13 +58,13 @@ pub returns : goal.returns
 returns t c =
     λ others e n.
     let factors = c.args.factors in
-    let list = map string_bytes c.numbers.result.0.now in
-    let after = c.args.at + 1 + length c.numbers.result.0.now in
-    let k = next_cut (map string_bytes c.args.words.now) (map string_bytes c.in-Some.later.now) list (map string_bytes c.numbers.result.1.now) others e n
-    c.in-Some.ensures c.numbers.ensures.parts c.numbers.ensures.numbers c.numbers.ensures.rest in
+    let list = map string_bytes c.list_first.result.0.now in
+    let after = c.args.at + 1 + length c.list_first.result.0.now in
+    let k = next_cut (map string_bytes c.args.words.now) (map string_bytes c.in-Some.later.now) list (map string_bytes c.list_first.result.1.now) others e n
+    c.in-Some.ensures c.list_first.ensures.parts c.list_first.ensures.list c.list_first.ensures.rest in
     subst
     (λ os. IsJudged (λ (f : List (List ℕ)). f ≡ factors ++ map partition os) (first_offence (factor_offences (length factors) (c.args.at + 1) (map numbers os))) c.read_later.result)
     (sym k.others_are)
     (next_fine factors c.in_ok-factors.factors c.args.at after list k.more c.read_later.result c.in_ok-factors.ensures.0
-    (ap (λ m. c.args.at + 1 + m) (sym (length-map c.numbers.result.0.now string_bytes))) c.in_ok-factors.ensures.1
+    (ap (λ m. c.args.at + 1 + m) (sym (length-map c.list_first.result.0.now string_bytes))) c.in_ok-factors.ensures.1
     (c.read_later.ensures k.more k.rest_are k.more_numbers))

@@ -15,30 +15,30 @@ use Rattle.calc_words.proofs.factors.read_factors.Goals as goal
 
 pub paired-requires-clause-left : goal.paired-requires-clause-left
 paired-requires-clause-left c =
-    let w = two_written c.args.at (map string_bytes c.args.first.now) (map string_bytes c.numbers.result.0.now) c.in_ok-first.ensures.1 in
+    let w = two_written c.args.at (map string_bytes c.args.first.now) (map string_bytes c.list_first.result.0.now) c.in_ok-first.ensures.1 in
     subst IsWritten (sym (ap (λ p. p.0) c.in_ok-first.ensures.0)) w.0
 
 pub paired-requires-clause-right : goal.paired-requires-clause-right
 paired-requires-clause-right c =
-    let w = two_written c.args.at (map string_bytes c.args.first.now) (map string_bytes c.numbers.result.0.now) c.in_ok-first.ensures.1 in
+    let w = two_written c.args.at (map string_bytes c.args.first.now) (map string_bytes c.list_first.result.0.now) c.in_ok-first.ensures.1 in
     subst IsWritten (sym (ap (λ p. p.1) c.in_ok-first.ensures.0)) w.1
 
 pub read_later-requires-clause-place : goal.read_later-requires-clause-place
 read_later-requires-clause-place c =
     let later = c.args.later.now in
-    let second = c.numbers.result.0.now in
-    let rest = c.numbers.result.1.now in
+    let second = c.list_first.result.0.now in
+    let rest = c.list_first.result.1.now in
     let l = length-map later string_bytes in
     let m = length-map second string_bytes in
     let r = length-map rest string_bytes in
-    let b = ap length c.numbers.ensures.parts in
+    let b = ap length c.list_first.ensures.parts in
     let s = length-append (map string_bytes second) (map string_bytes rest) in
     let p = c.requires in
     omega (arith, l, m, r, b, s, p)
 
 pub read_later-requires-clause-written : goal.read_later-requires-clause-written
 read_later-requires-clause-written c =
-    let w = two_written c.args.at (map string_bytes c.args.first.now) (map string_bytes c.numbers.result.0.now) c.in_ok-first.ensures.1 in
+    let w = two_written c.args.at (map string_bytes c.args.first.now) (map string_bytes c.list_first.result.0.now) c.in_ok-first.ensures.1 in
     let both : EachOf IsWritten (c.in_ok-first.first ∷ c.in_ok-first.second ∷ []) =
     (subst IsWritten (sym (ap (λ p. p.0) c.in_ok-first.ensures.0)) w.0, (subst IsWritten (sym (ap (λ p. p.1) c.in_ok-first.ensures.0)) w.1, tt)) in
     subst (EachOf IsWritten) (sym c.in_ok-factors.ensures.0) both
@@ -48,9 +48,9 @@ returns-in_err-first c =
     λ second others e n o.
     let at = c.args.at in
     let first = map string_bytes c.args.first.now in
-    let list = map string_bytes c.numbers.result.0.now in
-    let k = run_cut (map string_bytes c.args.later.now) second list (map string_bytes c.numbers.result.1.now) others e n
-    c.numbers.ensures.parts c.numbers.ensures.numbers c.numbers.ensures.rest in
+    let list = map string_bytes c.list_first.result.0.now in
+    let k = run_cut (map string_bytes c.args.later.now) second list (map string_bytes c.list_first.result.1.now) others e n
+    c.list_first.ensures.parts c.list_first.ensures.list c.list_first.ensures.rest in
     let p = err_from_is_err_and c.from_residual.result c.from_residual.ensures.1 in
     rw (p.1, p.2) (two_faulty at first second others _ (subst (λ ws. IsFirst (first_offence (two_partitions at first ws)) c.in_err-first.field-0.0) (sym k.0) c.in_err-first.ensures))
 
@@ -59,12 +59,12 @@ returns c =
     λ second others e n o.
     let at = c.args.at in
     let first = map string_bytes c.args.first.now in
-    let list = map string_bytes c.numbers.result.0.now in
-    let after = at + length c.args.first.now + 1 + length c.numbers.result.0.now in
-    let k = run_cut (map string_bytes c.args.later.now) second list (map string_bytes c.numbers.result.1.now) others e n
-    c.numbers.ensures.parts c.numbers.ensures.numbers c.numbers.ensures.rest in
+    let list = map string_bytes c.list_first.result.0.now in
+    let after = at + length c.args.first.now + 1 + length c.list_first.result.0.now in
+    let k = run_cut (map string_bytes c.args.later.now) second list (map string_bytes c.list_first.result.1.now) others e n
+    c.list_first.ensures.parts c.list_first.ensures.list c.list_first.ensures.rest in
     let f = length-map c.args.first.now string_bytes in
-    let l = length-map c.numbers.result.0.now string_bytes in
+    let l = length-map c.list_first.result.0.now string_bytes in
     let s = ap length k.0 in
     let fs : c.in_ok-factors.factors ≡ partition first ∷ partition second ∷ [] =
     c.in_ok-factors.ensures.0

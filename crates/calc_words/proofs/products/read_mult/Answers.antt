@@ -1,47 +1,45 @@
-use Rattle.std.proofs.Common.{◌-◌, length, map, refl, sym, ap, ◌∙◌, subst, arith}
+use Rattle.std.proofs.Common.{List, [], ◌∷◌, map, refl, ap, ◌∙◌, inl, inr}
 use Rattle.std.specs.Prelude.{string_bytes, codes}
-use Rattle.std.proofs.lemmas.List.{length-map}
-use Rattle.sym_model.specs.Grammar.{mult_words, mult_entry}
-use Rattle.sym_model.specs.WordForms.{factors_words}
-use Rattle.calc_words.specs.Rows.{behind_options}
-use Rattle.calc_words.specs.Standing.{WrongAt}
-use Rattle.calc_words.proofs.Standing.{wrong_the, behind_the}
-use Rattle.calc_words.proofs.Commands.{syntax_read}
-use Rattle.calc_words.proofs.FactorCommands.{mult_read}
+use Rattle.std.proofs.lemmas.Result.{err_from_is_err_and}
+use Rattle.sym_model.specs.Grammar.{mult_entry, mult_says, mult_offends}
+use Rattle.sym_model.specs.WordForms.{is_one_line, row_limit}
+use Rattle.calc_commands.specs.declared.command.Command.TheVariants.{Mult}
+use Rattle.calc_words.specs.declared.word_parts.Part.{Part}
+use Rattle.calc_words.specs.declared.word_parts.Part.TheVariants.{Factors, MaybeForm, MaybeRows}
+use Rattle.calc_words.proofs.CutCommands.{faulty, fine, mult_parts}
 use Rattle.calc_words.proofs.products.read_mult.Goals as goal
 
-pub returns-in_default : goal.returns-in_default
-returns-in_default c =
-    let words = map string_bytes c.args.words.now in
-    syntax_read mult_entry words (length words) 0 c.syntax.result refl
-    (wrong_the (codes "mult") (behind_options factors_words) words c.in_default.ensures) (omega arith) c.syntax.ensures
+abbrev parts : List Part
+parts = MaybeRows ∷ MaybeForm ∷ Factors ∷ []
 
-pub returns-in-Err : goal.returns-in-Err
-returns-in-Err c =
-    let words = map string_bytes c.args.words.now in
-    let left = c.in-Err.left in
-    syntax_read mult_entry words left (length c.args.words.now - left) c.syntax-in-Err.result refl
-    (subst (λ ws. WrongAt mult_words ws left) (sym c.in-Some.ensures)
-    (behind_the (codes "mult") (behind_options factors_words) (map string_bytes c.in-Some.optioned.now) left
-    (c.in-Err.ensures.wrong factors_words refl)))
-    (ap (λ n. n - left) (sym (length-map c.args.words.now string_bytes))) c.syntax-in-Err.ensures
+pub returns-in_err-places : goal.returns-in_err-places
+returns-in_err-places c =
+    let p = err_from_is_err_and c.from_residual.result c.from_residual.ensures.1 in
+    rw (p.1, p.2) (c.in_err-places.ensures.wrong mult_entry refl)
 
-pub returns-in-Err-factor_lists : goal.returns-in-Err-factor_lists
-returns-in-Err-factor_lists c =
+pub returns-in_err-rows : goal.returns-in_err-rows
+returns-in_err-rows c =
     let words = map string_bytes c.args.words.now in
-    let left = c.in-Err-factor_lists.left in
-    syntax_read mult_entry words left (length c.args.words.now - left) c.syntax-in-Err-factor_lists.result refl
-    (subst (λ ws. WrongAt mult_words ws left) (sym c.in-Some.ensures)
-    (behind_the (codes "mult") (behind_options factors_words) (map string_bytes c.in-Some.optioned.now) left
-    (c.in-Ok.ensures.goes_on factors_words left refl refl c.in-Err-factor_lists.ensures.wrong)))
-    (ap (λ n. n - left) (sym (length-map c.args.words.now string_bytes))) c.syntax-in-Err-factor_lists.ensures
+    let k = c.in_ok-places.ensures.cut in
+    let p = err_from_is_err_and c.from_residual-in_err-rows.result c.from_residual-in_err-rows.ensures.1 in
+    rw (p.1, p.2) (faulty (codes "mult") parts c.in_ok-places.places words k mult_says mult_offends _ (mult_parts k.parts.0 k.parts.3.0 k.parts.3.3.0) refl
+    (inl (c.in_err-rows.ensures _ k.parts.0 (c.piece_at-limit.ensures.is _ _ k.parts.2))))
 
-pub returns-in-Ok-factor_lists : goal.returns-in-Ok-factor_lists
-returns-in-Ok-factor_lists c =
+pub returns-in_err-factors : goal.returns-in_err-factors
+returns-in_err-factors c =
     let words = map string_bytes c.args.words.now in
-    let rest = map string_bytes c.in-Ok.rest.now in
-    mult_read words (map string_bytes c.in-Some.optioned.now) rest (map string_bytes c.in-Ok-factor_lists.first.now) (map string_bytes c.in-Ok-factor_lists.later.now)
-    c.in-Ok.options (length c.args.words.now - length c.in-Ok.rest.now) c.read_optioned.result
-    c.in-Some.ensures c.in-Ok.ensures.ok c.in-Ok-factor_lists.ensures.ok
-    (ap (λ n. n - length c.in-Ok.rest.now) (sym (length-map c.args.words.now string_bytes)) ∙ ap (λ n. length words - n) (sym (length-map c.in-Ok.rest.now string_bytes)))
-    c.read_optioned.ensures
+    let k = c.in_ok-places.ensures.cut in
+    let rows = c.in_ok-rows.ensures _ k.parts.0 (c.piece_at-limit.ensures.is _ _ k.parts.2) in
+    let p = err_from_is_err_and c.from_residual-in_err-factors.result c.from_residual-in_err-factors.ensures.1 in
+    rw (p.1, p.2) (faulty (codes "mult") parts c.in_ok-places.places words k mult_says mult_offends _ (mult_parts k.parts.0 k.parts.3.0 k.parts.3.3.0) refl
+    (inr (rows.1, inr (refl, c.in_err-factors.ensures _ k.parts.3.3.0 k.parts.3.3.1 (c.piece_at-list.ensures.is _ _ k.parts.3.3.2)))))
+
+pub returns : goal.returns
+returns c =
+    let words = map string_bytes c.args.words.now in
+    let k = c.in_ok-places.ensures.cut in
+    let rows = c.in_ok-rows.ensures _ k.parts.0 (c.piece_at-limit.ensures.is _ _ k.parts.2) in
+    let factors = c.in_ok-factors.ensures _ k.parts.3.3.0 k.parts.3.3.1 (c.piece_at-list.ensures.is _ _ k.parts.3.3.2) in
+    let one_line = c.maybe_form_of-one_line.ensures k.parts.3.0 (c.piece_at-form.ensures.is _ _ k.parts.3.2).1 in
+    fine (codes "mult") parts c.in_ok-places.places words k mult_says mult_offends _ _ (mult_parts k.parts.0 k.parts.3.0 k.parts.3.3.0) (rows.1, (refl, factors.1))
+    (ap (λ x. Mult x c.maybe_form_of-one_line.result c.in_ok-factors.factors) rows.0 ∙ ap (λ x. Mult (row_limit k.parts.0) x c.in_ok-factors.factors) one_line ∙ ap (λ x. Mult (row_limit k.parts.0) (is_one_line k.parts.3.0) x) factors.0) refl tt

@@ -2,6 +2,7 @@ use Rattle.std.proofs.Common.{◌≡◌, ℕ, ◌≤◌, List, length, refl, ari
 use Rattle.sym_model.specs.DoubleSchubert.{double_schubert_in, shifted_in}
 use Rattle.sym_model.specs.PlaceOrders.{inversions}
 use Rattle.sym_model.specs.Polynomial.{times}
+use Rattle.sym_model.specs.WholeTerms.{as_fractions}
 use Rattle.sym_model.proofs.PolynomialLaws.{times_comm}
 use Rattle.schubert_transition.proofs.Answering.{if_ok, represents_as}
 use Rattle.schubert_transition.proofs.FinalSums.{pairs_upto, inversions_upto}
@@ -32,5 +33,5 @@ pub returns-else-inversions-clause-meets : goal.returns-else-inversions-clause-m
 returns-else-inversions-clause-meets c =
     if_ok c.act-else-inversions.result c.act-else-inversions.ensures.value
     (λ terms h n.
-    represents_as (λ label. shifted_in label n) terms (times (double_schubert_in c.args.v.now n) (double_schubert_in c.args.u.now n)) (times (double_schubert_in c.args.u.now n) (double_schubert_in c.args.v.now n))
+    represents_as (λ label. shifted_in label n) (as_fractions terms) (times (double_schubert_in c.args.v.now n) (double_schubert_in c.args.u.now n)) (times (double_schubert_in c.args.u.now n) (double_schubert_in c.args.v.now n))
     (times_comm (double_schubert_in c.args.v.now n) (double_schubert_in c.args.u.now n)) (h n))

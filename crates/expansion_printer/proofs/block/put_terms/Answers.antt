@@ -22,7 +22,7 @@ returns-then-is_empty-clause-held g c =
 
 pub loop-label-init : goal.loop-label-init
 loop-label-init g c = record {
-  goes = Gathers-nothing g.K.Sink.written g.K.Sink.length g.K.Sink.faults c.args.text.now c.args.sink.now;
+  goes = Gathers-nothing c.args.text.now (g.K.Sink.seen c.args.sink.now);
   held = tt;
   so_far = refl;
 }

@@ -8,7 +8,7 @@ use Rattle.expansion_printer.proofs.block.put_terms.Given as goal
 -- the lines of the terms so far went to the sink
 abbrev pub invariant-loop-label : goal.invariant-loop-label
 invariant-loop-label g l = record {
-  goes : Gathers g.K.Sink.written g.K.Sink.length g.K.Sink.faults l.fn.text l.fn.sink l.text l.sink
+  goes : Gathers l.fn.text (g.K.Sink.seen l.fn.sink) l.text (g.K.Sink.seen l.sink)
       (lines_by g.L.Named.line_rules (terms_of g.R.Scalar.value (map (λ item. item.now) l.yielded)));
   held : AreHeld g.R.Scalar.value g.R.Scalar.is_held (terms_of g.R.Scalar.value (map (λ item. item.now) l.yielded));
   so_far : map (λ item. item.now) l.yielded ++ l.label-iterator.rest.now ≡ l.initial.label-iterator.rest.now;

@@ -14,7 +14,7 @@ use Rattle.expansion_printer.proofs.line.put_line.Goals as goal
 
 pub loop-label-init : goal.loop-label-init
 loop-label-init g c = record {
-  goes = Gathers-nothing g.K.Sink.written g.K.Sink.length g.K.Sink.faults c.args.text.now c.args.sink.now;
+  goes = Gathers-nothing c.args.text.now (g.K.Sink.seen c.args.sink.now);
   first = refl;
   held = tt;
   so_far = refl;

@@ -9,7 +9,7 @@ use Rattle.expansion_printer.proofs.line.put_line.Given as goal
 -- the terms so far went to the sink
 abbrev pub invariant-loop-label : goal.invariant-loop-label
 invariant-loop-label g l = record {
-  goes : Gathers g.K.Sink.written g.K.Sink.length g.K.Sink.faults l.fn.text l.fn.sink l.text l.sink
+  goes : Gathers l.fn.text (g.K.Sink.seen l.fn.sink) l.text (g.K.Sink.seen l.sink)
       (signed_terms (basis_of l.basis) (terms_of g.R.Scalar.value (map (λ item. item.now) l.yielded)));
   first : l.is_first ≡ is_empty (terms_of g.R.Scalar.value (map (λ item. item.now) l.yielded));
   held : AreHeld g.R.Scalar.value g.R.Scalar.is_held (terms_of g.R.Scalar.value (map (λ item. item.now) l.yielded));

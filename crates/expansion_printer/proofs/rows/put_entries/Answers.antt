@@ -11,7 +11,7 @@ loop-column-init g c =
     let left = c.args.left in
     let none : 0 ≡ left - left = omega arith in
     Gathers-as (ap (λ k. separated (codes " ") (map (λ column. decimal (g.E.Entries.entry c.args.filling.now c.args.row column)) (after left k))) none)
-    (Gathers-nothing g.K.Sink.written g.K.Sink.length g.K.Sink.faults c.args.text.now c.args.sink.now)
+    (Gathers-nothing c.args.text.now (g.K.Sink.seen c.args.sink.now))
 
 pub loop-column-preserved : goal.loop-column-preserved
 loop-column-preserved g c =

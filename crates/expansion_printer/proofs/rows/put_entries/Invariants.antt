@@ -8,5 +8,5 @@ use Rattle.expansion_printer.proofs.rows.put_entries.Given as goal
 -- the entries so far went to the sink
 abbrev pub invariant-loop-column : goal.invariant-loop-column
 invariant-loop-column g l =
-    Gathers g.K.Sink.written g.K.Sink.length g.K.Sink.faults l.fn.text l.fn.sink l.text l.sink
+    Gathers l.fn.text (g.K.Sink.seen l.fn.sink) l.text (g.K.Sink.seen l.sink)
     (separated (codes " ") (map (λ column. decimal (g.E.Entries.entry l.filling l.row column)) (after l.left (l.column - l.left))))

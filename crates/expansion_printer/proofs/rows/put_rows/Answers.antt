@@ -8,7 +8,7 @@ use Rattle.expansion_printer.proofs.RowTexts.{pieces-more, tableau_text-some}
 use Rattle.expansion_printer.proofs.rows.put_rows.Goals as goal
 
 pub loop-at-init : goal.loop-at-init
-loop-at-init g c = Gathers-nothing g.K.Sink.written g.K.Sink.length g.K.Sink.faults c.args.text.now c.args.sink.now
+loop-at-init g c = Gathers-nothing c.args.text.now (g.K.Sink.seen c.args.sink.now)
 
 pub loop-at-preserved : goal.loop-at-preserved
 loop-at-preserved g c =

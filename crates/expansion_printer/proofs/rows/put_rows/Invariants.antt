@@ -9,6 +9,6 @@ use Rattle.expansion_printer.proofs.rows.put_rows.Given as goal
 -- the rows so far went to the sink
 abbrev pub invariant-loop-at : goal.invariant-loop-at
 invariant-loop-at g l =
-    Gathers g.K.Sink.written g.K.Sink.length g.K.Sink.faults l.fn.text l.fn.sink l.text l.sink
+    Gathers l.fn.text (g.K.Sink.seen l.fn.sink) l.text (g.K.Sink.seen l.sink)
     (separated (codes " / ") (map
     (λ row. row_text (row_by (g.E.Entries.entry l.filling) (g.E.Entries.outer l.filling) (g.E.Entries.inner l.filling) row)) (after 0 l.at)))

@@ -7,7 +7,7 @@ use Rattle.expansion_printer.proofs.Texts.{texts-more}
 use Rattle.expansion_printer.proofs.words.put_shapes.Goals as goal
 
 pub loop-at-init : goal.loop-at-init
-loop-at-init g c = Gathers-nothing g.K.Sink.written g.K.Sink.length g.K.Sink.faults c.args.text.now c.args.sink.now
+loop-at-init g c = Gathers-nothing c.args.text.now (g.K.Sink.seen c.args.sink.now)
 
 pub loop-at-preserved : goal.loop-at-preserved
 loop-at-preserved g c =

@@ -8,5 +8,5 @@ use Rattle.expansion_printer.proofs.words.put_shapes.Given as goal
 -- the shapes so far went to the sink
 abbrev pub invariant-loop-at : goal.invariant-loop-at
 invariant-loop-at g l =
-    Gathers g.K.Sink.written g.K.Sink.length g.K.Sink.faults l.fn.text l.fn.sink l.text l.sink
+    Gathers l.fn.text (g.K.Sink.seen l.fn.sink) l.text (g.K.Sink.seen l.sink)
     (separated (codes " ") (map label_text (take l.at l.shapes)))

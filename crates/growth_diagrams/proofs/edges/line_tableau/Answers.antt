@@ -17,7 +17,7 @@ push_at-requires c =
     let shape : shape_of (rows_in c.loop-at.rows.items) ≡ c.shape_at-in-loop-at.result.now =
     ap shape_of c.loop-at.invariant
     ∙ shape-line w (perm_from w l.kept.one_line) c.loop-at.at (omega (arith, c.side-side.ensures.value, c.loop-at-test.true))
-    ∙ ap (λ n. growth_shape w n c.loop-at.at) (sym c.side-side.ensures.value) ∙ sym c.shape_at-in-loop-at.ensures in
+    ∙ ap (λ n. growth_shape w n c.loop-at.at) (sym c.side-side.ensures.value) ∙ sym c.shape_at-in-loop-at.ensures.shape in
     omega (
       arith,
       row_there rows c.shape_at.result.now c.shape_at-in-loop-at.result.now c.from.result (length rows) shape
@@ -31,8 +31,8 @@ loop-at-preserved c =
     let side = c.side-side.ensures.value in
     chain-more (λ k. growth_shape w (length w) k) c.loop-at.at c.from.result (rows_in c.loop-at.rows.items)
     (rows_in c.push_at.new.rows.items) c.shape_at.result.now c.shape_at-in-loop-at.result.now c.loop-at.invariant
-    (c.shape_at.ensures ∙ ap (λ n. growth_shape w n (c.loop-at.at + 1)) side)
-    (c.shape_at-in-loop-at.ensures ∙ ap (λ n. growth_shape w n c.loop-at.at) side)
+    (c.shape_at.ensures.shape ∙ ap (λ n. growth_shape w n (c.loop-at.at + 1)) side)
+    (c.shape_at-in-loop-at.ensures.shape ∙ ap (λ n. growth_shape w n c.loop-at.at) side)
     (c.from.ensures ∙ c.first_longer-row.ensures.row) c.in_ok-push_at.ensures
 
 -- the rows that are read

@@ -1,7 +1,6 @@
-use Rattle.std.proofs.Common.{◌≡◌, ◌*◌, ◌≤◌, ℕ, ◌∷◌, [], ap, subst, sym, arith}
+use Rattle.std.proofs.Common.{◌*◌, ◌≤◌, ℕ, ap, subst, sym, arith}
 use Rattle.std.proofs.lemmas.Nat.{mul-le}
-use Rattle.sym_model.specs.Expansion.{completes}
-use Rattle.sym_model.specs.Expression.{Tree, atom, denominator, degree}
+use Rattle.sym_model.specs.Expression.{denominator, degree}
 use Rattle.sym_model.specs.ListWeight.{IsBounded}
 use Rattle.sym_model.specs.Weight.{numerator}
 use Rattle.calc_expressions.specs.Trees.{tree_of}

@@ -1,12 +1,10 @@
-use Rattle.std.proofs.Common.{◌≡◌, ◌∷◌, [], ◌++◌, sym, ap, subst, ℤ, pos, ◌*ℤ◌, ◌+ℤ◌}
+use Rattle.std.proofs.Common.{◌≡◌, sym, ap, subst, pos, ◌*ℤ◌, ◌+ℤ◌}
 use Rattle.std.specs.Prelude.{Err, FitsSigned, nat_eq}
 use Rattle.std.specs.Int.{w128}
 use Rattle.std.specs.Cmp.Lexicographic.{pointwise}
 use Rattle.coeff_rings.specs.Fractions.{whole}
 use Rattle.coeff_rings.specs.Checked.{checked_i128}
 use Rattle.coeff_rings.proofs.Sizes.{answered_is}
-use Rattle.sym_model.specs.Polynomial.{Same}
-use Rattle.sym_model.specs.WholeTerms.{numerators}
 use Rattle.sparse_polys.specs.Combination.{coefficient, HasMoreAt}
 use Rattle.sparse_polys.specs.Refusal.{IsRefused}
 use Rattle.sparse_polys.proofs.Steps.{error_is}

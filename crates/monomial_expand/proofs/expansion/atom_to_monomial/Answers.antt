@@ -1,4 +1,4 @@
-use Rattle.std.proofs.Common.{◌≡◌, ◌*◌, ◌≤◌, ◌^◌, ℕ, arith, ap, Err}
+use Rattle.std.proofs.Common.{◌≡◌, ◌*◌, arith, ap, Err}
 use Rattle.sym_model.specs.Expansion.{monomials}
 use Rattle.sym_model.specs.Expression.{atom}
 use Rattle.sym_model.specs.Partition.{size}

@@ -3,7 +3,7 @@ use Rattle.std.specs.Prelude.{string_bytes}
 use Rattle.std.proofs.lemmas.List.{length-map}
 use Rattle.sym_model.specs.WordForms.{optional, from_words}
 use Rattle.calc_words.specs.Standing.{WrongAt}
-use Rattle.calc_words.proofs.LastStanding.{some_more}
+use Rattle.calc_words.proofs.Standing.{some_more}
 use Rattle.tableau_words.proofs.TabStanding.{from_wrong, from_wrongly}
 use Rattle.tableau_words.proofs.parts.rows_from.Goals as goal
 

@@ -4,7 +4,7 @@ use Rattle.std.proofs.lemmas.Result.{err_from_is_err_and}
 use Rattle.std.proofs.lemmas.List.{length-map}
 use Rattle.sym_model.specs.WordForms.{tableau_words}
 use Rattle.calc_words.specs.Standing.{WrongAt}
-use Rattle.calc_words.proofs.LastStanding.{some_more}
+use Rattle.calc_words.proofs.Standing.{some_more}
 use Rattle.tableau_words.proofs.RowStanding.{too_many_rows, wrong_rows_for}
 use Rattle.tableau_words.proofs.row_words.last_rows.Goals as goal
 

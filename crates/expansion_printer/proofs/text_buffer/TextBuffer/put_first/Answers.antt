@@ -5,7 +5,7 @@ use Rattle.expansion_printer.proofs.text_buffer.TextBuffer.put_first.Goals as go
 
 pub returns-then-keep : goal.returns-then-keep
 returns-then-keep g c =
-    Gathers-kept g.K.Sink.written g.K.Sink.length g.K.Sink.faults c.args.sink.now (c.keep.ensures.kept c.if-keep.true)
+    Gathers-kept (g.K.Sink.seen c.args.sink.now) (c.keep.ensures.kept c.if-keep.true)
 
 pub returns : goal.returns
 returns g c =

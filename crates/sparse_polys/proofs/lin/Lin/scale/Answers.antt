@@ -1,220 +1,35 @@
-use Rattle.std.proofs.Common.{◌≡◌, ℕ, ◌+◌, [], ◌∷◌, ◌++◌, length, pos, true, refl, sym, ap, ◌∙◌, subst, append_assoc, rules}
-use Rattle.std.specs.Prelude.{Some, IfSome, slice_get}
-use Rattle.std.specs.List.{IsDistinct}
-use Rattle.std.specs.Map.{keys_of}
-use Rattle.indexmap.specs.Layout.{set_value_at}
-use Rattle.coeff_rings.specs.Fractions.{whole, InLowestTerms, fraction_product}
-use Rattle.coeff_rings.specs.Proved.FractionLaws.{product_comm}
+use Rattle.std.proofs.Common.{refl, sym, ap, subst}
+use Rattle.std.specs.Prelude.{Err}
 use Rattle.sym_model.specs.Sum.{Among}
-use Rattle.sparse_polys.specs.Combination.{coefficient, terms_of, IsCombination, IsMultipleOf}
-use Rattle.sparse_polys.proofs.Coefficients.{product-zero, keys-terms_of}
-use Rattle.sparse_polys.proofs.Steps.{among-next, all_done}
-use Rattle.sparse_polys.proofs.Tables.{lowest-coefficient}
-use Rattle.sparse_polys.proofs.Multiples.{Relates, IsProduct, Relates-push, keys-Relates, next_at, set_next, length-both, place_within, rest_empty, IsMultipleOf-Relates, are_terms-Relates, fits-Relates}
+use Rattle.linear_combinations.proofs.Steps.{error_is}
+use Rattle.sparse_polys.specs.Combination.{terms_of, IsMultipleOf}
+use Rattle.sparse_polys.proofs.ValueLists.{same_error, among_values, values_among, combination_values, multiple_values, refused_values, values_refused}
 use Rattle.sparse_polys.proofs.lin.Lin.scale.Goals as goal
-
-pub loop-at-init : goal.loop-at-init
-loop-at-init g c = (
-  [],
-  [],
-  c.self.inside.table.entries,
-  record { was = refl; now = refl; products = tt; place = refl; ends = c.len-at-end.ensures.len },
-)
-
-pub pair_at-a-requires : goal.pair_at-a-requires
-pair_at-a-requires g c =
-    let eq = g.L.PartialEq.eq in
-    let value = g.R.Scalar.value in
-    let checked = g.R.Ring.checked_product in
-    let old = c.self.inside.table.entries in
-    let before = c.loop-at.invariant.0 in
-    let done = c.loop-at.invariant.1 in
-    let rest = c.loop-at.invariant.2 in
-    let inv = c.loop-at.invariant.3 in
-    place_within (IsProduct value checked c.args.c) before done rest old c.loop-at.table.entries c.loop-at.at c.len-at-end.result inv.was inv.now inv.products inv.place inv.ends c.loop-at-test.true
-
-pub put_at-requires : goal.put_at-requires
-put_at-requires g c =
-    let eq = g.L.PartialEq.eq in
-    let value = g.R.Scalar.value in
-    let checked = g.R.Ring.checked_product in
-    let old = c.self.inside.table.entries in
-    let before = c.loop-at.invariant.0 in
-    let done = c.loop-at.invariant.1 in
-    let rest = c.loop-at.invariant.2 in
-    let inv = c.loop-at.invariant.3 in
-    place_within (IsProduct value checked c.args.c) before done rest old c.loop-at.table.entries c.loop-at.at c.len-at-end.result inv.was inv.now inv.products inv.place inv.ends c.loop-at-test.true
-
-pub returns-in_err-ok_or-clause-large : goal.returns-in_err-ok_or-clause-large
-returns-in_err-ok_or-clause-large g c =
-    let eq = g.L.PartialEq.eq in
-    let value = g.R.Scalar.value in
-    let checked = g.R.Ring.checked_product in
-    let old = c.self.inside.table.entries in
-    let before = c.loop-at.invariant.0 in
-    let done = c.loop-at.invariant.1 in
-    let rest = c.loop-at.invariant.2 in
-    let inv = c.loop-at.invariant.3 in
-    let k = c.pair_at-a.result.0.now in
-    let a = c.pair_at-a.result.1 in
-    let p : g.row.L.Denot × g.row.R.Denot = (k, a) in
-    let here : slice_get (done ++ rest) (length done) ≡ Some p =
-    subst (λ (n : ℕ). slice_get (done ++ rest) n ≡ Some p) (sym inv.place) (subst (λ es. slice_get es c.loop-at.at ≡ Some p) inv.now c.pair_at-a.ensures.pair) in
-    let next = next_at done rest p here in
-    let tail = next.0 in
-    let all : before ++ (k, a) ∷ tail ≡ old = ap (λ es. before ++ es) (sym next.1) ∙ inv.was in
-    let among : Among (k, value a) c.args.self =
-    subst (Among (k, value a)) (ap (terms_of value) all ∙ c.self.view_is) (among-next value before k a tail) in (
-      λ large. (
-        (k, value a),
-        among,
-        record {
-          left = a;
-          right = c.args.c;
-          left_held = c.mul.ensures.held.0;
-          right_held = c.mul.ensures.held.1;
-          left_value = refl;
-          right_value = refl;
-          refused = sym c.mul.ensures.product ∙ c.in_err-ok_or.ensures.ok_part;
-        },
-      ),
-      λ r. search rules,
-    )
-
-pub loop-at-preserved : goal.loop-at-preserved
-loop-at-preserved g c =
-    let eq = g.L.PartialEq.eq in
-    let value = g.R.Scalar.value in
-    let checked = g.R.Ring.checked_product in
-    let old = c.self.inside.table.entries in
-    let before = c.loop-at.invariant.0 in
-    let done = c.loop-at.invariant.1 in
-    let rest = c.loop-at.invariant.2 in
-    let inv = c.loop-at.invariant.3 in
-    let k = c.pair_at-a.result.0.now in
-    let a = c.pair_at-a.result.1 in
-    let p : g.row.L.Denot × g.row.R.Denot = (k, a) in
-    let here : slice_get (done ++ rest) (length done) ≡ Some p =
-    subst (λ (n : ℕ). slice_get (done ++ rest) n ≡ Some p) (sym inv.place) (subst (λ es. slice_get es c.loop-at.at ≡ Some p) inv.now c.pair_at-a.ensures.pair) in
-    let next = next_at done rest p here in
-    let tail = next.0 in
-    let product = c.in_ok-ok_or.field-0 in
-    let x = value c.args.c in
-    let held : g.R.Scalar.is_held product = subst (λ o. IfSome o g.R.Scalar.is_held) c.in_ok-ok_or.ensures.ok_part c.mul.ensures.held_product in
-    let is : value product ≡ fraction_product (value a) x =
-    subst (λ o. IfSome o (λ s. value s ≡ fraction_product (value a) x)) c.in_ok-ok_or.ensures.ok_part c.mul.ensures.answer.value in (
-      before ++ (k, a) ∷ [],
-      done ++ (k, product) ∷ [],
-      tail,
-      record {
-        was = append_assoc before ((k, a) ∷ []) tail ∙ ap (λ es. before ++ es) (sym next.1) ∙ inv.was;
-        now = c.put_at.ensures.entries ∙ ap (λ es. set_value_at es c.loop-at.at product) inv.now
-            ∙ ap (λ (n : ℕ). set_value_at (done ++ rest) n product) (sym inv.place) ∙ ap (λ es. set_value_at (done ++ es) (length done) product) next.1
-            ∙ set_next done tail k a product ∙ sym (append_assoc done ((k, product) ∷ []) tail);
-        products = Relates-push (IsProduct value checked c.args.c) before done k a product inv.products
-            (sym c.mul.ensures.product ∙ c.in_ok-ok_or.ensures.ok_part, is, g.met.R.Scalar.lowest product held);
-        place = length-both done ((k, product) ∷ []) ∙ ap (λ (n : ℕ). n + 1) inv.place;
-        ends = inv.ends;
-      },
-    )
-
-pub returns-then-is_zero-clause-product : goal.returns-then-is_zero-clause-product
-returns-then-is_zero-clause-product g c =
-    let eq = g.L.PartialEq.eq in
-    let value = g.R.Scalar.value in
-    let self = c.args.self in
-    let zero : value c.args.c ≡ whole (pos 0) = c.is_zero.ensures.zero.0 c.if-is_zero.true in
-    let is : IsCombination eq g.L.Label.is_label self = subst (IsCombination eq g.L.Label.is_label) c.self.view_is c.self.invariant in
-    λ label.
-    let low = lowest-coefficient g.met.L.Eq.laws g.met.L.Label.same_label g.L.Label.is_label value self is.proper label in
-    ap (λ terms. coefficient eq terms label) c.new.ensures
-    ∙ sym (ap (fraction_product (coefficient eq self label)) zero ∙ product_comm (coefficient eq self label) (whole (pos 0)) ∙ product-zero (coefficient eq self label) low)
-
-pub returns-then-is_zero-clause-large : goal.returns-then-is_zero-clause-large
-returns-then-is_zero-clause-large g c =
-    let eq = g.L.PartialEq.eq in
-    let value = g.R.Scalar.value in
-    let checked = g.R.Ring.checked_product in
-    let old = c.self.inside.table.entries in
-    let before = c.loop-at.invariant.0 in
-    let done = c.loop-at.invariant.1 in
-    let rest = c.loop-at.invariant.2 in
-    let inv = c.loop-at.invariant.3 in
-    let P = IsProduct value checked c.args.c in
-    let now = c.loop-at.table.entries in
-    let none = rest_empty P before done rest old now c.loop-at.at c.len-at-end.result inv.was inv.now inv.products inv.place inv.ends c.loop-at-test.false in
-    let first : before ≡ old = all_done before rest _ _ none inv.was refl in
-    let second : done ≡ now = all_done done rest _ _ none (sym inv.now) refl in
-    let related : Relates P old now = subst (λ ys. Relates P old ys) second (subst (λ xs. Relates P xs done) first inv.products) in (
-      λ e. cc,
-      λ r. absurd (fits-Relates eq g.L.Label.is_label g.R.Scalar.is_held value checked c.args.c g.met.R.Scalar.same_value old now related r.0
-          (subst (Among r.0) (sym c.self.view_is) r.1) r.2),
-    )
-
-pub invariant_of-result : goal.invariant_of-result
-invariant_of-result g c =
-    let eq = g.L.PartialEq.eq in
-    let value = g.R.Scalar.value in
-    let checked = g.R.Ring.checked_product in
-    let old = c.self.inside.table.entries in
-    let before = c.loop-at.invariant.0 in
-    let done = c.loop-at.invariant.1 in
-    let rest = c.loop-at.invariant.2 in
-    let inv = c.loop-at.invariant.3 in
-    let P = IsProduct value checked c.args.c in
-    let now = c.loop-at.table.entries in
-    let none = rest_empty P before done rest old now c.loop-at.at c.len-at-end.result inv.was inv.now inv.products inv.place inv.ends c.loop-at-test.false in
-    let first : before ≡ old = all_done before rest _ _ none inv.was refl in
-    let second : done ≡ now = all_done done rest _ _ none (sym inv.now) refl in
-    let related : Relates P old now = subst (λ ys. Relates P old ys) second (subst (λ xs. Relates P xs done) first inv.products) in
-    let low : InLowestTerms (value c.args.c) = g.met.R.Scalar.lowest c.args.c c.is_scalar.ensures in
-    let other : value c.args.c ≡ whole (pos 0) → ⊥ = λ e. let t : c.is_zero.result ≡ true = c.is_zero.ensures.zero.1 e in let f = c.if-is_zero.false in cc in
-    let keys : keys_of (terms_of value old) ≡ keys_of (terms_of value now) = keys-terms_of value old ∙ sym (keys-Relates P old now related) ∙ sym (keys-terms_of value now) in
-    record {
-      distinct = subst (IsDistinct eq) keys c.self.invariant.distinct;
-      proper = are_terms-Relates eq g.L.Label.is_label g.R.Scalar.is_held value checked c.args.c low other old now related c.self.invariant.proper;
-    }
-
-pub returns-clause-combination : goal.returns-clause-combination
-returns-clause-combination g c = invariant_of-result g c
 
 pub returns-clause-product : goal.returns-clause-product
 returns-clause-product g c =
-    let eq = g.L.PartialEq.eq in
-    let value = g.R.Scalar.value in
-    let checked = g.R.Ring.checked_product in
-    let old = c.self.inside.table.entries in
-    let before = c.loop-at.invariant.0 in
-    let done = c.loop-at.invariant.1 in
-    let rest = c.loop-at.invariant.2 in
-    let inv = c.loop-at.invariant.3 in
-    let P = IsProduct value checked c.args.c in
-    let now = c.loop-at.table.entries in
-    let none = rest_empty P before done rest old now c.loop-at.at c.len-at-end.result inv.was inv.now inv.products inv.place inv.ends c.loop-at-test.false in
-    let first : before ≡ old = all_done before rest _ _ none inv.was refl in
-    let second : done ≡ now = all_done done rest _ _ none (sym inv.now) refl in
-    let related : Relates P old now = subst (λ ys. Relates P old ys) second (subst (λ xs. Relates P xs done) first inv.products) in
-    let low : InLowestTerms (value c.args.c) = g.met.R.Scalar.lowest c.args.c c.is_scalar.ensures in
-    subst (λ terms. IsMultipleOf eq terms (value c.args.c) (terms_of value now)) c.self.view_is
-    (IsMultipleOf-Relates eq g.L.Label.is_label g.R.Scalar.is_held value checked c.args.c low old now related)
+    subst (λ terms. IsMultipleOf g.L.PartialEq.eq terms (g.R.Scalar.value c.args.c) (terms_of g.R.Scalar.value c.in_ok-table.table)) c.self.view_is
+    (multiple_values g.R.Scalar.value g.R.Scalar.zero g.met.R.Scalar.zero_value.0 g.L.PartialEq.eq g.R.Ring.product g.met.R.Ring.product_value c.self.inside.table c.args.c c.in_ok-table.table c.in_ok-table.ensures.product)
+
+pub returns-clause-combination : goal.returns-clause-combination
+returns-clause-combination g c = combination_values g.R.Scalar.value g.L.PartialEq.eq g.L.Label.is_label c.in_ok-table.table c.in_ok-table.ensures.combination
+
+pub returns-in_err-table-clause-large : goal.returns-in_err-table-clause-large
+returns-in_err-table-clause-large g c = (
+  λ err.
+      let r = c.in_err-table.ensures.large.0 (ap Err (error_is _ _ _ c.from_residual.ensures.1 err)) in
+      ((r.0.0, g.R.Scalar.value r.0.1), subst (Among (r.0.0, g.R.Scalar.value r.0.1)) c.self.view_is (among_values g.R.Scalar.value r.0 c.self.inside.table r.1), refused_values g.R.Scalar.value g.R.Scalar.is_held g.R.Ring.checked_product r.0.1 c.args.c _ _ refl refl r.2),
+  λ r.
+      let t = values_among g.R.Scalar.value r.0 c.self.inside.table (subst (Among r.0) (sym c.self.view_is) r.1) in
+      same_error _ _ _ c.from_residual.ensures.1
+      (c.in_err-table.ensures.large.1 (t.0, t.1, values_refused g.R.Scalar.value g.R.Scalar.is_held g.R.Ring.checked_product g.met.R.Scalar.same_value t.0.1 c.args.c _ _ (sym t.2) refl r.2)),
+)
 
 pub returns-clause-large : goal.returns-clause-large
-returns-clause-large g c =
-    let eq = g.L.PartialEq.eq in
-    let value = g.R.Scalar.value in
-    let checked = g.R.Ring.checked_product in
-    let old = c.self.inside.table.entries in
-    let before = c.loop-at.invariant.0 in
-    let done = c.loop-at.invariant.1 in
-    let rest = c.loop-at.invariant.2 in
-    let inv = c.loop-at.invariant.3 in
-    let P = IsProduct value checked c.args.c in
-    let now = c.loop-at.table.entries in
-    let none = rest_empty P before done rest old now c.loop-at.at c.len-at-end.result inv.was inv.now inv.products inv.place inv.ends c.loop-at-test.false in
-    let first : before ≡ old = all_done before rest _ _ none inv.was refl in
-    let second : done ≡ now = all_done done rest _ _ none (sym inv.now) refl in
-    let related : Relates P old now = subst (λ ys. Relates P old ys) second (subst (λ xs. Relates P xs done) first inv.products) in (
-      λ e. cc,
-      λ r. absurd (fits-Relates eq g.L.Label.is_label g.R.Scalar.is_held value checked c.args.c g.met.R.Scalar.same_value old now related r.0
-          (subst (Among r.0) (sym c.self.view_is) r.1) r.2),
-    )
+returns-clause-large g c = (
+  λ e. cc,
+  λ r.
+      let t = values_among g.R.Scalar.value r.0 c.self.inside.table (subst (Among r.0) (sym c.self.view_is) r.1) in
+      let e = c.in_ok-table.ensures.large.1 (t.0, t.1, values_refused g.R.Scalar.value g.R.Scalar.is_held g.R.Ring.checked_product g.met.R.Scalar.same_value t.0.1 c.args.c _ _ (sym t.2) refl r.2) in
+      cc,
+)

@@ -1,7 +1,7 @@
 use Rattle.std.proofs.Common.{◌≡◌, true, List, ℕ, subst}
 use Rattle.std.proofs.lemmas.Bool.{and_from}
 use Rattle.sym_model.specs.LabelLimits.{is_label, is_pair_label}
-use Rattle.sparse_polys.proofs.LabelTests.{is_label-limits}
+use Rattle.linear_combinations.proofs.LabelTests.{is_label-limits}
 use Rattle.sparse_polys.proofs.pair.PairLabel.cmp_printed.Goals as goal
 
 pub returns-clause-limits : goal.returns-clause-limits

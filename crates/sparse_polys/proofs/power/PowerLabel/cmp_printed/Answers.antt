@@ -2,7 +2,7 @@ use Rattle.std.proofs.Common.{◌≡◌, ◌<◌, ◌^◌, true, List, ℕ, subs
 use Rattle.std.specs.Prelude.{nat_lt}
 use Rattle.std.proofs.lemmas.Bool.{and_from, lt-ltb}
 use Rattle.sym_model.specs.LabelLimits.{is_label, is_power_label}
-use Rattle.sparse_polys.proofs.LabelTests.{is_label-limits}
+use Rattle.linear_combinations.proofs.LabelTests.{is_label-limits}
 use Rattle.sparse_polys.proofs.power.PowerLabel.cmp_printed.Goals as goal
 
 pub returns-clause-limits : goal.returns-clause-limits

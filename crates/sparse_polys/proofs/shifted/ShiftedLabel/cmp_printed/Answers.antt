@@ -1,7 +1,7 @@
 use Rattle.std.proofs.Common.{◌≡◌, true, List, ℕ, subst}
 use Rattle.std.proofs.lemmas.Bool.{and_from}
 use Rattle.sym_model.specs.LabelLimits.{is_permutation_label, is_monomial_label, is_shifted_label}
-use Rattle.sparse_polys.proofs.LabelTests.{is_permutation_label-limits}
+use Rattle.linear_combinations.proofs.LabelTests.{is_permutation_label-limits}
 use Rattle.sparse_polys.proofs.Labels.{is_monomial_label-from}
 use Rattle.sparse_polys.proofs.shifted.ShiftedLabel.cmp_printed.Goals as goal
 

@@ -1,0 +1,141 @@
+-- Words that have been cut into the parts of a command: which command they are, and what they offend by.
+use Rattle.std.proofs.Common.{◌≡◌, ℕ, true, ◌+◌, List, [], ◌∷◌, ◌++◌, append_assoc, drop, length, refl, sym, ap, ◌∙◌, subst, arith, Ok}
+use Rattle.std.proofs.lemmas.List.{append-nil, length-map}
+use Rattle.sym_model.specs.Sum.{each}
+use Rattle.sym_model.specs.Command.{Command}
+use Rattle.sym_model.specs.CommandOffence.{Offence, first_offence, part_offences, permutation_offences_within, factor_offences, offences_by, rows_rule}
+use Rattle.sym_model.specs.Form.{Written, May, Has, words_of}
+use Rattle.sym_model.specs.Grammar.{mult_offends, skew_offends, coef_offends, reduction_offends, schubmult_offends, dschubmult_offends}
+use Rattle.sym_model.specs.PrintedBlock.{decimal_value}
+use Rattle.sym_model.specs.WordForms.{optional, rows_words, form_words, permutation_words, factors_words, numbers, letters, row_limit_offences, factor_numbers}
+use Rattle.word_laws.specs.Words.{Words}
+use Rattle.word_laws.proofs.CutParts.{singles}
+use Rattle.calc_base.specs.declared.words.WordsFault.{WordsFault}
+use Rattle.calc_commands.specs.Commands.{command_of, IsSound}
+use Rattle.calc_commands.specs.declared.command.Command.{Command as Read}
+use Rattle.calc_words.specs.Reading.{IsRead, IsRefusal, IsFirst}
+use Rattle.calc_words.specs.Parts.{form_of_part, form_of, command_form, parts_offend, IsCut, written_of, AreCut, IsFirstOf, AreFine, are_bounded}
+use Rattle.calc_words.specs.declared.word_parts.Part.{Part}
+use Rattle.calc_words.specs.declared.word_parts.Part.TheVariants.{Minus, Slash, MaybeForm, MaybeRows, Bound, Shape, Letters, Doubled, Factors}
+use Rattle.calc_words.proofs.CutWords.{dropped}
+use Rattle.calc_words.proofs.Commands.{first_refused, read_judged}
+use Rattle.calc_words.proofs.PartOffences.{parts_faulty, parts_fine}
+
+-- what is written by the words of a command
+abbrev pub said_of : (name : List ℕ) (ps : List Part) → Written (form_of ps) → Written (command_form name ps)
+said_of name [] x = tt
+said_of name (p ∷ ps) x = (tt, x)
+
+may_be_cut : (ps : List Part) (i k : ℕ) (places : List ℕ) (words : Words) (h : IsCut ps i k places words) → May (form_of ps) (written_of ps i k places words h)
+may_be_cut [] i k places words h = tt
+may_be_cut (p ∷ []) i k places words h = h.1
+may_be_cut (p ∷ q ∷ ps) i k places words h =
+    (h.1, may_be_cut (q ∷ ps) (i + 1) (k + length (words_of (form_of_part p) h.0)) places words h.3)
+
+may_be_said : (name : List ℕ) (ps : List Part) (x : Written (form_of ps)) → May (form_of ps) x → May (command_form name ps) (said_of name ps x)
+may_be_said name [] x m = tt
+may_be_said name (p ∷ ps) x m = (tt, m)
+
+cut_spelled : (ps : List Part) (i k : ℕ) (places : List ℕ) (words : Words) (h : IsCut ps i k places words)
+    → drop k words ≡ words_of (form_of ps) (written_of ps i k places words h)
+cut_spelled [] i k places words h = h
+cut_spelled (p ∷ []) i k places words h =
+    h.2.4
+    ∙ ap (λ us. words_of (form_of_part p) h.0 ++ us) (sym (dropped words (words_of (form_of_part p) h.0) h.2.3 k (length (words_of (form_of_part p) h.0)) h.2.4 refl) ∙ h.3)
+    ∙ append-nil (words_of (form_of_part p) h.0)
+cut_spelled (p ∷ q ∷ ps) i k places words h =
+    h.2.4
+    ∙ ap (λ us. words_of (form_of_part p) h.0 ++ us)
+    (sym (dropped words (words_of (form_of_part p) h.0) h.2.3 k (length (words_of (form_of_part p) h.0)) h.2.4 refl)
+    ∙ cut_spelled (q ∷ ps) (i + 1) (k + length (words_of (form_of_part p) h.0)) places words h.3)
+
+said_spelled : (name : List ℕ) (ps : List Part) (x : Written (form_of ps)) → name ∷ words_of (form_of ps) x ≡ words_of (command_form name ps) (said_of name ps x)
+said_spelled name [] x = refl
+said_spelled name (p ∷ ps) x = refl
+
+abbrev has_of : (name : List ℕ) (ps : List Part) (places : List ℕ) (words : Words) (k : AreCut name ps places words) → Has (command_form name ps) words
+has_of name ps places words k = record {
+  written = said_of name ps (written_of ps 0 1 places words k.parts);
+  allowed = may_be_said name ps (written_of ps 0 1 places words k.parts) (may_be_cut ps 0 1 places words k.parts);
+  spelled =
+      k.named
+      ∙ ap (λ us. name ∷ us) (cut_spelled ps 0 1 places words k.parts)
+      ∙ said_spelled name ps (written_of ps 0 1 places words k.parts);
+}
+
+-- a part has the first offence
+pub faulty : (name : List ℕ) (ps : List Part) (places : List ℕ) (words : Words) (k : AreCut name ps places words)
+    (says : Written (command_form name ps) → Command) (offends : Written (command_form name ps) → List Offence) (fault : WordsFault)
+    → offends (said_of name ps (written_of ps 0 1 places words k.parts)) ≡ parts_offend ps 1 (written_of ps 0 1 places words k.parts)
+    → are_bounded ps ≡ true → IsFirstOf ps 1 (written_of ps 0 1 places words k.parts) fault
+    → IsRefusal (record { name = name; form = command_form name ps; says = says; offends = offends } ∷ []) words fault
+faulty name ps places words k says offends fault o b h =
+    first_refused (record { name = name; form = command_form name ps; says = says; offends = offends }) words (has_of name ps places words k) fault
+    (subst (λ os. IsFirst (first_offence os) fault) (sym o) (parts_faulty ps 1 (written_of ps 0 1 places words k.parts) fault b h))
+
+-- no part has one
+pub fine : (name : List ℕ) (ps : List Part) (places : List ℕ) (words : Words) (k : AreCut name ps places words)
+    (says : Written (command_form name ps) → Command) (offends : Written (command_form name ps) → List Offence) (c d : Read)
+    → offends (said_of name ps (written_of ps 0 1 places words k.parts)) ≡ parts_offend ps 1 (written_of ps 0 1 places words k.parts)
+    → AreFine ps 1 (written_of ps 0 1 places words k.parts) → c ≡ d → command_of d ≡ says (said_of name ps (written_of ps 0 1 places words k.parts)) → IsSound d
+    → IsRead (record { name = name; form = command_form name ps; says = says; offends = offends } ∷ []) words (Ok c)
+fine name ps places words k says offends c d o h e s i =
+    read_judged (record { name = name; form = command_form name ps; says = says; offends = offends }) words (has_of name ps places words k) d s i (Ok c)
+    (e, ap first_offence o ∙ parts_fine ps 1 (written_of ps 0 1 places words k.parts) h)
+
+-- ---- offences of commands, part by part
+
+counts : (a b : ℕ) → 1 + (a + b) ≡ 1 + a + b
+counts a b = omega arith
+
+pub mult_parts : (limit : Written (optional rows_words)) (form : Written (optional form_words)) (x : Written factors_words)
+    → mult_offends (tt, (limit, (form, x))) ≡ parts_offend (MaybeRows ∷ MaybeForm ∷ Factors ∷ []) 1 (limit, (form, x))
+mult_parts limit form x =
+    ap (λ k. row_limit_offences 1 limit ++ factor_offences 0 k (factor_numbers x))
+    (counts (length (words_of (optional rows_words) limit)) (length (words_of (optional form_words) form)))
+
+behind_list : (k : ℕ) (list : Words) → k + length list + 1 ≡ k + length (each (λ t. t ∷ []) list) + 1
+behind_list k list = ap (λ ws. k + length ws + 1) (sym (singles list))
+
+pub skew_parts : (limit : Written (optional rows_words)) (form : Written (optional form_words)) (outer inner : Words)
+    → skew_offends (tt, (limit, (form, (outer, (tt, inner)))))
+    ≡ parts_offend (MaybeRows ∷ MaybeForm ∷ Shape ∷ Slash ∷ Shape ∷ []) 1 (limit, (form, (outer, (tt, inner))))
+skew_parts limit form outer inner =
+    let a = length (words_of (optional rows_words) limit) in
+    let b = length (words_of (optional form_words) form) in
+    ap (λ k. row_limit_offences 1 limit ++ (part_offences k (numbers outer) ++ part_offences (k + length outer + 1) (numbers inner))) (counts a b)
+    ∙ ap (λ k. row_limit_offences 1 limit ++ (part_offences (1 + a + b) (numbers outer) ++ part_offences k (numbers inner))) (behind_list (1 + a + b) outer)
+
+pub coef_parts : (outer left right : Words)
+    → coef_offends (tt, (outer, (tt, (left, (tt, right))))) ≡ parts_offend (Shape ∷ Minus ∷ Shape ∷ Minus ∷ Shape ∷ []) 1 (outer, (tt, (left, (tt, right))))
+coef_parts outer left right =
+    let n = length (each (λ t. t ∷ []) outer) in
+    let e : 2 + length outer ≡ 1 + length outer + 1 = omega arith in
+    ap (λ k. part_offences 1 (numbers outer) ++ (part_offences k (numbers left) ++ part_offences (k + length left + 1) (numbers right)))
+    (e ∙ behind_list 1 outer)
+    ∙ ap (λ k. part_offences 1 (numbers outer) ++ (part_offences (1 + n + 1) (numbers left) ++ part_offences k (numbers right))) (behind_list (1 + n + 1) left)
+
+pub reduction_parts : (name rows bound : List ℕ) (x : Written factors_words)
+    → reduction_offends name (tt, (rows, (bound, x))) ≡ parts_offend (Bound ∷ Bound ∷ Factors ∷ []) 1 (rows, (bound, x))
+reduction_parts name rows bound x =
+    append_assoc (offences_by rows_rule 1 (decimal_value rows ∷ [])) (offences_by rows_rule 2 (decimal_value bound ∷ []))
+    (factor_offences 0 3 (factor_numbers x))
+
+-- two permutations of which at most so many letters may be written
+two_permutations : (most : ℕ) (left right : Written permutation_words)
+    → permutation_offences_within most 1 (letters left) ++ permutation_offences_within most (2 + length (letters left)) (letters right)
+    ≡ permutation_offences_within most 1 (letters left)
+    ++ permutation_offences_within most (1 + length (words_of permutation_words left) + 1) (letters right)
+two_permutations most (t, ts) right =
+    let a = length-map (t ∷ ts) decimal_value in
+    let b = ap length (singles ts) in
+    let e : 2 + length (letters (t, ts)) ≡ 1 + length (words_of permutation_words (t, ts)) + 1 = omega (arith, a, b) in
+    ap (λ k. permutation_offences_within most 1 (letters (t, ts)) ++ permutation_offences_within most k (letters right)) e
+
+pub schubmult_parts : (left right : Written permutation_words)
+    → schubmult_offends (tt, (left, (tt, right))) ≡ parts_offend (Letters ∷ Minus ∷ Letters ∷ []) 1 (left, (tt, right))
+schubmult_parts left right = two_permutations 16 left right
+
+pub dschubmult_parts : (left right : Written permutation_words)
+    → dschubmult_offends (tt, (left, (tt, right))) ≡ parts_offend (Doubled ∷ Minus ∷ Doubled ∷ []) 1 (left, (tt, right))
+dschubmult_parts left right = two_permutations 8 left right

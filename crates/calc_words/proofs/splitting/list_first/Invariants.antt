@@ -1,0 +1,8 @@
+use Rattle.std.proofs.Common.{map, take}
+use Rattle.std.specs.Prelude.{string_bytes}
+use Rattle.sym_model.specs.Form.{EachOf}
+use Rattle.calc_words.specs.FactorWords.{BeginsWithDigit}
+use Rattle.calc_words.proofs.splitting.list_first.Given as goal
+
+abbrev pub invariant-loop-count : goal.invariant-loop-count
+invariant-loop-count l = EachOf BeginsWithDigit (map string_bytes (take l.count l.words))

@@ -1,0 +1,118 @@
+-- The parts of the words of a command: their forms, what they offend by, and words that are cut into them (this project's own).
+use Rattle.std.specs.Prelude.{◌≡◌, ◌⊎◌, ℕ, ◌≤◌, ◌+◌, Bool, true, false, ◌&&◌, List, [], ◌∷◌, ◌++◌, drop, length, codes, slice_index_or, None}
+use Rattle.sym_model.specs.PrintedBlock.{decimal_value}
+use Rattle.sym_model.specs.CommandOffence.{Offence, first_offence, offences_by, rows_rule, lines_rule, seed_rule, letter_rule, part_offences, most_doubled, permutation_offences, permutation_offences_within, factor_offences}
+use Rattle.sym_model.specs.Form.{Form, empty, word, number, sequence, Written, May, words_of}
+use Rattle.sym_model.specs.WordForms.{the, optional, rows_words, form_words, partition_words, permutation_words, factors_words, numbers, letters, factor_numbers, row_limit_offences}
+use Rattle.calc_base.specs.declared.words.WordsFault.{WordsFault}
+use Rattle.word_laws.specs.OneReading.{are_apart, firsts, continuing}
+use Rattle.calc_words.specs.Reading.{IsFirst}
+use Rattle.calc_words.specs.declared.word_parts.Part.{Part}
+use Rattle.calc_words.specs.declared.word_parts.Part.TheVariants.{Minus, Slash, MaybeForm, Rows, MaybeRows, Bound, Lines, Seed, Shape, Word, Letters, Doubled, Factors}
+
+-- the form of a part
+abbrev pub form_of_part : Part → Form
+form_of_part Minus = the (codes "-")
+form_of_part Slash = the (codes "/")
+form_of_part MaybeForm = optional form_words
+form_of_part Rows = rows_words
+form_of_part MaybeRows = optional rows_words
+form_of_part Bound = word number
+form_of_part Lines = word number
+form_of_part Seed = word number
+form_of_part Shape = partition_words
+form_of_part Word = partition_words
+form_of_part Letters = permutation_words
+form_of_part Doubled = permutation_words
+form_of_part Factors = factors_words
+
+-- the form of parts, one after another
+abbrev pub form_of : List Part → Form
+form_of [] = empty
+form_of (p ∷ []) = form_of_part p
+form_of (p ∷ q ∷ ps) = sequence (form_of_part p) (form_of (q ∷ ps))
+
+-- the form of the words of a command: its name, and its parts
+abbrev pub command_form : List ℕ → List Part → Form
+command_form name [] = the name
+command_form name (p ∷ ps) = sequence (the name) (form_of (p ∷ ps))
+
+-- whether each word behind the words of a part tells that they end
+abbrev pub is_clear : List Part → Bool
+is_clear [] = true
+is_clear (p ∷ ps) = are_apart (continuing (form_of_part p)) (firsts (form_of ps)) && is_clear ps
+
+-- what a part offends by that begins at the word
+abbrev pub part_offends : (p : Part) → ℕ → Written (form_of_part p) → List Offence
+part_offends Minus k x = []
+part_offends Slash k x = []
+part_offends MaybeForm k x = []
+part_offends Rows k x = offences_by rows_rule (k + 1) (decimal_value x.1 ∷ [])
+part_offends MaybeRows k x = row_limit_offences k x
+part_offends Bound k x = offences_by rows_rule k (decimal_value x ∷ [])
+part_offends Lines k x = offences_by lines_rule k (decimal_value x ∷ [])
+part_offends Seed k x = offences_by seed_rule k (decimal_value x ∷ [])
+part_offends Shape k x = part_offences k (numbers x)
+part_offends Word k x = offences_by letter_rule k (numbers x)
+part_offends Letters k x = permutation_offences k (letters x)
+part_offends Doubled k x = permutation_offences_within most_doubled k (letters x)
+part_offends Factors k x = factor_offences 0 k (factor_numbers x)
+
+-- what parts offend by, the first of which begins at the word
+abbrev pub parts_offend : (ps : List Part) → ℕ → Written (form_of ps) → List Offence
+parts_offend [] k x = []
+parts_offend (p ∷ []) k x = part_offends p k x
+parts_offend (p ∷ q ∷ ps) k x =
+    part_offends p k x.0 ++ parts_offend (q ∷ ps) (k + length (words_of (form_of_part p) x.0)) x.1
+
+-- the i-th part begins at the word and has these words; the places are those of the first words, and of what stands behind the last
+abbrev pub IsPiece : List ℕ → List (List ℕ) → ℕ → ℕ → List (List ℕ) → Type 0
+IsPiece places words i k piece =
+    (slice_index_or places i 0 ≡ k) × (slice_index_or places (i + 1) 0 ≡ k + length piece) × (k ≤ length words)
+    × (rest : List (List ℕ)) × (drop k words ≡ piece ++ rest)
+
+-- from this word on the words are of the parts, and the places from the i-th on are those of the parts
+abbrev pub IsCut : List Part → ℕ → ℕ → List ℕ → List (List ℕ) → Type 0
+IsCut [] i k places words = drop k words ≡ []
+IsCut (p ∷ ps) i k places words =
+    (x : Written (form_of_part p)) × May (form_of_part p) x × IsPiece places words i k (words_of (form_of_part p) x)
+    × IsCut ps (i + 1) (k + length (words_of (form_of_part p) x)) places words
+
+-- what is written by the words of the parts
+abbrev pub written_of : (ps : List Part) (i k : ℕ) (places : List ℕ) (words : List (List ℕ)) → IsCut ps i k places words → Written (form_of ps)
+written_of [] i k places words h = tt
+written_of (p ∷ []) i k places words h = h.0
+written_of (p ∷ q ∷ ps) i k places words h =
+    (h.0, written_of (q ∷ ps) (i + 1) (k + length (words_of (form_of_part p) h.0)) places words h.3)
+
+-- the words are the name of a command and its parts
+pub record AreCut (name : List ℕ) (ps : List Part) (places : List ℕ) (words : List (List ℕ)) : Type 0 where
+  pub named : words ≡ name ∷ drop 1 words
+  pub parts : IsCut ps 0 1 places words
+
+-- whether the offences of a part are known to stand at its own words, and those of all but the last part
+abbrev pub is_bounded : Part → Bool
+is_bounded Factors = false
+is_bounded p = true
+
+abbrev pub are_bounded : List Part → Bool
+are_bounded [] = true
+are_bounded (p ∷ []) = true
+are_bounded (p ∷ q ∷ ps) = is_bounded p && are_bounded (q ∷ ps)
+
+-- the parts before one of them have no offence, and the fault is the first one of that
+abbrev pub IsFirstOf : (ps : List Part) → ℕ → Written (form_of ps) → WordsFault → Type 0
+IsFirstOf [] k x fault = ⊥
+IsFirstOf (p ∷ []) k x fault = IsFirst (first_offence (part_offends p k x)) fault
+IsFirstOf (p ∷ q ∷ ps) k x fault =
+    IsFirst (first_offence (part_offends p k x.0)) fault
+    ⊎ ((first_offence (part_offends p k x.0) ≡ None)
+    × IsFirstOf (q ∷ ps) (k + length (words_of (form_of_part p) x.0)) x.1 fault)
+
+-- no part has an offence
+abbrev pub AreFine : (ps : List Part) → ℕ → Written (form_of ps) → Type 0
+AreFine [] k x = Unit {0}
+AreFine (p ∷ []) k x = first_offence (part_offends p k x) ≡ None
+AreFine (p ∷ q ∷ ps) k x =
+    (first_offence (part_offends p k x.0) ≡ None)
+    × AreFine (q ∷ ps) (k + length (words_of (form_of_part p) x.0)) x.1

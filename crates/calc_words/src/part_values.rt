@@ -1,0 +1,151 @@
+//! What the parts of a command name, or their first offence.
+ghost use Rattle.std.specs.Prelude.{◌≡◌, ◌≤◌, ◌<◌, ◌+◌, ◌^◌, [], ◌∷◌, ℕ, List, map, length, string_bytes, codes};
+ghost use Rattle.sym_model.specs.CommandOffence.{first_offence, most_permuted};
+ghost use Rattle.sym_model.specs.Form.{Written, May, word, number, words_of};
+ghost use Rattle.sym_model.specs.Permutation.{kept};
+ghost use Rattle.sym_model.specs.PrintedBlock.{decimal_value};
+ghost use Rattle.sym_model.specs.WordForms.{optional, rows_words, form_words, partition_words, permutation_words, factors_words, partition, letters as letters_said, numbers as numbers_said, factors as factors_said, row_limit, is_one_line};
+ghost use Rattle.calc_words.specs.Parts.{part_offends};
+ghost use Rattle.calc_words.specs.Reading.{IsJudged};
+ghost use Rattle.calc_words.specs.declared.word_parts.Part.TheVariants.{Rows, MaybeRows, Bound, Lines, Seed, Shape, Word as WordPart, Letters, Doubled, Factors as FactorsPart};
+
+use crate::factors::read_factors;
+use crate::letters::read_letters;
+use crate::number_values::{lines_number, rows_number, seed_number};
+use crate::numbers::value_of;
+use crate::offence::syntax;
+use crate::partition_list::read_partition;
+use crate::permutation_list::{MOST_DOUBLED, MOST_PERMUTED, read_permutation};
+use crate::splitting::list_first;
+use calc_base::{Word, WordsFault};
+use partitions::{Factors, Partition};
+use perm_codes::Perm;
+use std::alloc::Global;
+
+/// Whether the word for the one-line form is there.
+pub(crate) fn maybe_form_of(words: &[String]) -> bool
+    ensures { (x : Written (optional form_words)) → map string_bytes words.now ≡ words_of (optional form_words) x → result ≡ is_one_line x }
+{
+    !words.is_empty()
+}
+
+/// The number of rows of `-r` and a number, which begin at the word `at`.
+pub(crate) fn rows_of(at: u64, words: &[String]) -> Result<u16, WordsFault>
+    requires { at + length words.now + 1 < 2 ^ 64 }
+    ensures { (k : ℕ) (x : Written rows_words) → (at ≡ k) × (map string_bytes words.now ≡ words_of rows_words x)
+        → IsJudged (λ n. n ≡ decimal_value x.1) (first_offence (part_offends Rows k x)) result }
+{
+    let Some(digits) = words.get(1) else {
+        return Err(syntax(at));
+    };
+    rows_number(at + 1, value_of(digits.as_bytes()))
+}
+
+/// The number of rows, where it is there.
+pub(crate) fn maybe_rows_of(at: u64, words: &[String]) -> Result<Option<u16>, WordsFault>
+    requires { at + length words.now + 1 < 2 ^ 64 }
+    ensures { (k : ℕ) (x : Written (optional rows_words)) → (at ≡ k) × (map string_bytes words.now ≡ words_of (optional rows_words) x)
+        → IsJudged (λ n. n ≡ row_limit x) (first_offence (part_offends MaybeRows k x)) result }
+{
+    let Some(digits) = words.get(1) else {
+        return Ok(None);
+    };
+    let rows = rows_number(at + 1, value_of(digits.as_bytes()))?;
+    Ok(Some(rows))
+}
+
+/// The number of rows or columns, or the level, that is the word `at`.
+pub(crate) fn bound_of(at: u64, words: &[String]) -> Result<u16, WordsFault>
+    ensures { (k : ℕ) (x : Written (word number)) → (at ≡ k) × (map string_bytes words.now ≡ words_of (word number) x)
+        → IsJudged (λ n. n ≡ decimal_value x) (first_offence (part_offends Bound k x)) result }
+{
+    let Some(digits) = words.first() else {
+        return Err(syntax(at));
+    };
+    rows_number(at, value_of(digits.as_bytes()))
+}
+
+/// The number of lines that is the word `at`.
+pub(crate) fn lines_of(at: u64, words: &[String]) -> Result<u16, WordsFault>
+    ensures { (k : ℕ) (x : Written (word number)) → (at ≡ k) × (map string_bytes words.now ≡ words_of (word number) x)
+        → IsJudged (λ n. n ≡ decimal_value x) (first_offence (part_offends Lines k x)) result }
+{
+    let Some(digits) = words.first() else {
+        return Err(syntax(at));
+    };
+    lines_number(at, value_of(digits.as_bytes()))
+}
+
+/// The seed that is the word `at`.
+pub(crate) fn seed_of(at: u64, words: &[String]) -> Result<u32, WordsFault>
+    ensures { (k : ℕ) (x : Written (word number)) → (at ≡ k) × (map string_bytes words.now ≡ words_of (word number) x)
+        → IsJudged (λ n. n ≡ decimal_value x) (first_offence (part_offends Seed k x)) result }
+{
+    let Some(digits) = words.first() else {
+        return Err(syntax(at));
+    };
+    seed_number(at, value_of(digits.as_bytes()))
+}
+
+/// The partition of numbers, of which the first is the word `at`.
+pub(crate) fn shape_of(alloc: Global, at: u64, words: &[String]) -> Result<Partition, WordsFault>
+    requires { at + length words.now + 1 < 2 ^ 64 }
+    ensures { (k : ℕ) (x : Written partition_words) → (at ≡ k) × (map string_bytes words.now ≡ words_of partition_words x)
+        → IsJudged (λ p. p ≡ partition x) (first_offence (part_offends Shape k x)) result }
+{
+    read_partition(alloc, at, words)
+}
+
+/// The letters of a word, of which the first is the word `at`.
+pub(crate) fn word_of(alloc: Global, at: u64, words: &[String]) -> Result<Word, WordsFault>
+    requires { at + length words.now + 1 < 2 ^ 64 }
+    ensures { (k : ℕ) (x : Written partition_words) → (at ≡ k) × (map string_bytes words.now ≡ words_of partition_words x)
+        → IsJudged (λ w. w ≡ numbers_said x) (first_offence (part_offends WordPart k x)) result }
+{
+    read_letters(alloc, at, words)
+}
+
+/// The permutation of letters, of which the first is the word `at`.
+pub(crate) fn letters_of(alloc: Global, at: u64, words: &[String]) -> Result<Perm, WordsFault>
+    requires { at + length words.now + 1 < 2 ^ 64 }
+    ensures { (k : ℕ) (x : Written permutation_words) → (at ≡ k) × (map string_bytes words.now ≡ words_of permutation_words x)
+        → IsJudged (λ w. w ≡ kept (letters_said x)) (first_offence (part_offends Letters k x)) result }
+{
+    if words.is_empty() {
+        return Err(syntax(at));
+    }
+    read_permutation(alloc, MOST_PERMUTED, at, words)
+}
+
+/// The same of a permutation whose double Schubert polynomial is a factor.
+pub(crate) fn doubled_of(alloc: Global, at: u64, words: &[String]) -> Result<Perm, WordsFault>
+    requires { at + length words.now + 1 < 2 ^ 64 }
+    ensures { (k : ℕ) (x : Written permutation_words) → (at ≡ k) × (map string_bytes words.now ≡ words_of permutation_words x)
+        → IsJudged (λ w. w ≡ kept (letters_said x)) (first_offence (part_offends Doubled k x)) result }
+{
+    if words.is_empty() {
+        return Err(syntax(at));
+    }
+    read_permutation(alloc, MOST_DOUBLED, at, words)
+}
+
+/// The words behind the first.
+fn behind_first(words: &[String]) -> &[String]
+    ensures later { (more : List (List ℕ)) → map string_bytes words.now ≡ codes "-" ∷ more → map string_bytes result.now ≡ more }
+    ensures fewer { length result.now ≤ length words.now }
+{
+    match words.split_first() {
+        Some((_, later)) => later,
+        None => words,
+    }
+}
+
+/// The factors, the first of which begins at the word `at`.
+pub(crate) fn factors_of(alloc: Global, at: u64, words: &[String]) -> Result<Factors, WordsFault>
+    requires { at + length words.now + 1 < 2 ^ 64 }
+    ensures { (k : ℕ) (x : Written factors_words) → May factors_words x → (at ≡ k) × (map string_bytes words.now ≡ words_of factors_words x)
+        → IsJudged (λ f. f ≡ factors_said x) (first_offence (part_offends FactorsPart k x)) result }
+{
+    let (first, rest) = list_first(words);
+    read_factors(alloc, at, first, behind_first(rest))
+}

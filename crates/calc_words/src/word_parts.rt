@@ -1,0 +1,174 @@
+//! The parts of the words of a command, and how many words at the front of others each of them takes.
+ghost use Rattle.std.specs.Prelude.{◌≡◌, ◌++◌, map, length, string_bytes, IfOk, IfErr, IsTrue, ◌↔◌};
+ghost use Rattle.sym_model.specs.Form.{EachOf, word, number};
+ghost use Rattle.sym_model.specs.WordForms.{the, optional, rows_words, form_words, partition_words, permutation_words, factors_words};
+ghost use Rattle.calc_words.specs.Cutting.{Takes, StopsIn};
+ghost use Rattle.calc_words.specs.FactorWords.{IsPieceWord};
+ghost use Rattle.calc_words.specs.NumberRuns.{BeginsOtherwise};
+ghost use Rattle.calc_words.specs.Parts.{form_of_part};
+
+use crate::numbers::is_number;
+use crate::splitting::{behind, first_number, numbers};
+
+/// A part of the words of a command.
+#[derive(Clone, Copy, Debug)]
+pub enum Part {
+    /// `-`.
+    Minus,
+    /// `/`.
+    Slash,
+    /// `-m`, or no word.
+    MaybeForm,
+    /// `-r` and a number of rows.
+    Rows,
+    /// `-r` and a number of rows, or no word.
+    MaybeRows,
+    /// A number of rows or columns, or a level.
+    Bound,
+    /// A number of lines.
+    Lines,
+    /// A seed.
+    Seed,
+    /// The numbers of a partition.
+    Shape,
+    /// The letters of a word.
+    Word,
+    /// The letters of a permutation, one at least.
+    Letters,
+    /// The same, of a permutation whose double Schubert polynomial is a factor.
+    Doubled,
+    /// Two partitions or more, with `-` between each two.
+    Factors,
+}
+
+/// Whether the first word is this one; else how many words are left from the wrong one on.
+fn the_word(words: &[String], text: &str) -> Result<usize, usize>
+    ensures ok { IfOk result (λ n. Takes (the text.now) (map string_bytes words.now) n) }
+    ensures wrong { IfErr result (λ left. StopsIn (the text.now) (map string_bytes words.now) left) }
+{
+    match behind(words, text) {
+        Some(_) => Ok(1),
+        None => Err(words.len()),
+    }
+}
+
+/// `-m`, or no word.
+fn maybe_form(words: &[String]) -> usize
+    ensures { Takes (optional form_words) (map string_bytes words.now) result }
+{
+    match behind(words, "-m") {
+        Some(_) => 1,
+        None => 0,
+    }
+}
+
+/// `-r` and a number.
+fn rows(words: &[String]) -> Result<usize, usize>
+    ensures ok { IfOk result (λ n. Takes rows_words (map string_bytes words.now) n) }
+    ensures wrong { IfErr result (λ left. StopsIn rows_words (map string_bytes words.now) left) }
+{
+    let Some(more) = behind(words, "-r") else {
+        return Err(words.len());
+    };
+    match first_number(more) {
+        Some(_) => Ok(2),
+        None => Err(more.len()),
+    }
+}
+
+/// `-r` and a number, or no word.
+fn maybe_rows(words: &[String]) -> Result<usize, usize>
+    ensures ok { IfOk result (λ n. Takes (optional rows_words) (map string_bytes words.now) n) }
+    ensures wrong { IfErr result (λ left. StopsIn (optional rows_words) (map string_bytes words.now) left) }
+{
+    let Some(more) = behind(words, "-r") else {
+        return Ok(0);
+    };
+    match first_number(more) {
+        Some(_) => Ok(2),
+        None => Err(more.len()),
+    }
+}
+
+/// One number.
+fn one_number(words: &[String]) -> Result<usize, usize>
+    ensures ok { IfOk result (λ n. Takes (word number) (map string_bytes words.now) n) }
+    ensures wrong { IfErr result (λ left. StopsIn (word number) (map string_bytes words.now) left) }
+{
+    match first_number(words) {
+        Some(_) => Ok(1),
+        None => Err(words.len()),
+    }
+}
+
+/// Numbers.
+fn list(words: &[String]) -> usize
+    ensures { Takes partition_words (map string_bytes words.now) result }
+{
+    let (list, _) = numbers(words);
+    list.len()
+}
+
+/// Numbers, one at least.
+fn letters(words: &[String]) -> Result<usize, usize>
+    ensures ok { IfOk result (λ n. Takes permutation_words (map string_bytes words.now) n) }
+    ensures wrong { IfErr result (λ left. StopsIn permutation_words (map string_bytes words.now) left) }
+{
+    let Some(_) = first_number(words) else {
+        return Err(words.len());
+    };
+    let (list, _) = numbers(words);
+    Ok(list.len())
+}
+
+/// Whether the word is a number or `-`.
+fn is_piece(word: &String) -> bool
+    ensures { IsTrue result ↔ IsPieceWord (string_bytes word.now) }
+{
+    is_number(word.as_bytes()) || word.as_str() == "-"
+}
+
+/// The numbers and `-` at the front, and the words behind them.
+fn pieces(words: &[String]) -> (&[String], &[String])
+    ensures parts { map string_bytes words.now ≡ map string_bytes result.0.now ++ map string_bytes result.1.now }
+    ensures pieces { EachOf IsPieceWord (map string_bytes result.0.now) }
+    ensures rest { BeginsOtherwise IsPieceWord (map string_bytes result.1.now) }
+{
+    for (count, word) in words.iter().enumerate() {
+        if !is_piece(word) {
+            return words.split_at(count);
+        }
+    }
+    words.split_at(words.len())
+}
+
+/// Two lists of numbers or more, with `-` between each two.
+fn factors(words: &[String]) -> Result<usize, usize>
+    ensures ok { IfOk result (λ n. Takes factors_words (map string_bytes words.now) n) }
+    ensures wrong { IfErr result (λ left. StopsIn factors_words (map string_bytes words.now) left) }
+{
+    let (_, rest) = numbers(words);
+    let Some(later) = behind(rest, "-") else {
+        return Err(rest.len());
+    };
+    let (_, rest) = pieces(later);
+    Ok(words.len() - rest.len())
+}
+
+/// How many words at the front are of the part; else how many words are left from the wrong one on.
+pub(crate) fn taken(part: Part, words: &[String]) -> Result<usize, usize>
+    ensures ok { IfOk result (λ n. Takes (form_of_part part) (map string_bytes words.now) n) }
+    ensures wrong { IfErr result (λ left. StopsIn (form_of_part part) (map string_bytes words.now) left) }
+{
+    match part {
+        Part::Minus => the_word(words, "-"),
+        Part::Slash => the_word(words, "/"),
+        Part::MaybeForm => Ok(maybe_form(words)),
+        Part::Rows => rows(words),
+        Part::MaybeRows => maybe_rows(words),
+        Part::Bound | Part::Lines | Part::Seed => one_number(words),
+        Part::Shape | Part::Word => Ok(list(words)),
+        Part::Letters | Part::Doubled => letters(words),
+        Part::Factors => factors(words),
+    }
+}

@@ -1,0 +1,105 @@
+-- What a table of whole numbers has at a label, and the lists that have its sums.
+use Rattle.std.proofs.Common.{◌≡◌, ◌⊎◌, inl, inr, ℕ, ◌+◌, ◌≤◌, Bool, true, false, cond, List, [], ◌∷◌, ◌++◌, refl, sym, ap, ◌∙◌, arith, ℤ, pos, negsuc, ◌+ℤ◌, ◌*ℤ◌}
+use Rattle.std.specs.Prelude.{Option, Some, nat_abs, nat_eq, ◌≤ℤ◌}
+use Rattle.std.specs.Cmp.{IsEquivalence}
+use Rattle.std.specs.Cmp.Lexicographic.{pointwise, nat_list_eq_equiv}
+use Rattle.std.specs.Option.{unwrap_or}
+use Rattle.std.specs.List.{IsDistinct}
+use Rattle.std.specs.Map.{lookup, keys_of}
+use Rattle.std.proofs.lemmas.Int.{ints}
+use Rattle.std.proofs.lemmas.Bool.{both_ways}
+use Rattle.std.proofs.lemmas.Map.{lookup-none}
+use Rattle.std.proofs.lemmas.Map.Keys.{IsDistinct-tail}
+use Rattle.std.proofs.lemmas.Map.Entries.{none_past_head}
+use Rattle.sym_model.specs.Sum.{Among}
+use Rattle.sym_model.specs.WholeTerms.{as_fractions, numerators, AreWhole}
+use Rattle.sym_model.specs.Polynomial.{Same, same, coefficient as coefficient_of}
+use Rattle.sym_model.proofs.Sums.{total_ext}
+use Rattle.sym_model.proofs.Ring.{product-one}
+use Rattle.sym_model.proofs.Exponents.{same_from, same_apart, same_or_not}
+use Rattle.sym_model.proofs.Polynomials.{at_only, coefficient_pair, same_from_pair, pair_determined}
+use Rattle.linear_combinations.specs.Entries.{coefficient}
+use Rattle.linear_combinations.specs.Gains.{WholeTermsOf, over, only, mass_at, Gains}
+use Rattle.linear_combinations.specs.Labels.{same_partition}
+use Rattle.linear_combinations.proofs.Gains.{over_at, over_append, over_only_within}
+use Rattle.linear_combinations.proofs.Totals.{found-among}
+use lib.IntN.{*ℤ-zero}
+
+module _ {L : Type 0} {eq : L → L → Bool} (laws : IsEquivalence eq) (same : (x y : L) → eq x y ≡ true → x ≡ y) where
+  -- the one number at a label is its coefficient
+  pub mass_at_found : (terms : WholeTermsOf L) → IsDistinct eq (keys_of terms) → (x : L) → mass_at eq x terms ≡ nat_abs (coefficient eq (pos 0) terms x)
+  mass_at_found [] distinct x = refl
+  mass_at_found (t ∷ terms) distinct x = by (eq x t.0) refl (mass_at_found terms (IsDistinct-tail eq t.0 (keys_of terms) distinct) x)
+    where
+      by : (b : Bool) → eq x t.0 ≡ b → mass_at eq x terms ≡ nat_abs (coefficient eq (pos 0) terms x)
+          → cond b (nat_abs t.1) 0 + mass_at eq x terms ≡ nat_abs (unwrap_or (cond b (Some t.1) (lookup (eq x) terms)) (pos 0))
+      by true p r =
+          let none = lookup-none (eq x) terms (none_past_head laws x t terms distinct p) in
+          let zero : mass_at eq x terms ≡ 0 = r ∙ ap (λ (o : Option ℤ). nat_abs (unwrap_or o (pos 0))) none in
+          omega arith
+      by false p r = omega arith
+
+  -- of all lists with its sums a table has the least at each label
+  pub least_at : (terms g : WholeTermsOf L) → IsDistinct eq (keys_of terms) → ((φ : L → ℤ) → over φ terms ≡ over φ g) → (x : L) → mass_at eq x terms ≤ mass_at eq x g
+  least_at terms g distinct sums x =
+      let a = mass_at_found terms distinct x in
+      let b = ap nat_abs (sym (over_at laws same terms distinct x) ∙ sums (only eq x)) in
+      let w = over_only_within eq x g in
+      omega arith
+
+-- where no number is negative, those at a label add up to what they come to
+pub counts_at : {L : Type 0} (eq : L → L → Bool) (x : L) (g : WholeTermsOf L) → ((t : L × ℤ) → Among t g → pos 0 ≤ℤ t.1) → over (only eq x) g ≡ pos (mass_at eq x g)
+counts_at eq x [] h = refl
+counts_at {L} eq x (t ∷ g) h = by (eq x t.0) t.1 (h t (inl refl)) (counts_at eq x g (λ u m. h u (inr m)))
+  where
+    by : (b : Bool) (c : ℤ) → pos 0 ≤ℤ c → over (only eq x) g ≡ pos (mass_at eq x g) → c *ℤ cond b (pos 1) (pos 0) +ℤ over (only eq x) g ≡ pos (cond b (nat_abs c) 0 + mass_at eq x g)
+    by true (pos n) l r = let e = product-one (pos n) in omega (arith, ints)
+    by true (negsuc n) l r = absurd (omega (arith, ints))
+    by false c l r = let e = *ℤ-zero c in omega (arith, ints)
+
+-- ---- whole coefficients as fractions
+
+pub numerators-as_fractions : {L : Type 0} (terms : WholeTermsOf L) → numerators (as_fractions terms) ≡ terms
+numerators-as_fractions [] = refl
+numerators-as_fractions (t ∷ terms) = ap (λ l. t ∷ l) (numerators-as_fractions terms)
+
+pub AreWhole-as_fractions : {L : Type 0} (terms : WholeTermsOf L) → AreWhole (as_fractions terms)
+AreWhole-as_fractions [] = tt
+AreWhole-as_fractions (t ∷ terms) = (refl, AreWhole-as_fractions terms)
+
+-- ---- labels that are lists of numbers
+
+only_same : (x y : List ℕ) → only (pointwise nat_eq) x y ≡ at_only x y
+only_same x y = by (pointwise nat_eq x y) refl (same_or_not y x)
+  where
+    by : (b : Bool) → pointwise nat_eq x y ≡ b → (y ≡ x) ⊎ (y ≡ x → ⊥) → cond b (pos 1) (pos 0) ≡ cond (same y x) (pos 1) (pos 0)
+    by true p (inl e) = sym (ap (λ b. cond b (pos 1) (pos 0)) (same_from y x e))
+    by true p (inr n) = absurd (n (sym (same_partition x y p)))
+    by false p (inl e) = absurd (both_ways (pointwise nat_eq x y) p (ap (pointwise nat_eq x) e ∙ nat_list_eq_equiv.refl x))
+    by false p (inr n) = sym (ap (λ b. cond b (pos 1) (pos 0)) (same_apart y x n))
+
+-- what a list comes to at a label
+pub coefficient_over : (g : WholeTermsOf (List ℕ)) (x : List ℕ) → coefficient_of g x ≡ over (only (pointwise nat_eq) x) g
+coefficient_over g x =
+    coefficient_pair g x ∙ total_ext (λ (t : List ℕ × ℤ). t.1 *ℤ at_only x t.0) (λ (t : List ℕ × ℤ). t.1 *ℤ only (pointwise nat_eq) x t.0) (λ t. ap (λ z. t.1 *ℤ z) (sym (only_same x t.0))) g
+
+-- of a table it is the coefficient
+pub coefficient_found : (terms : WholeTermsOf (List ℕ)) → IsDistinct (pointwise nat_eq) (keys_of terms) → (x : List ℕ) → coefficient_of terms x ≡ coefficient (pointwise nat_eq) (pos 0) terms x
+coefficient_found terms distinct x = coefficient_over terms x ∙ over_at nat_list_eq_equiv same_partition terms distinct x
+
+-- what it comes to at the label of a term is the number of the term
+pub coefficient_of_term : (terms : WholeTermsOf (List ℕ)) → IsDistinct (pointwise nat_eq) (keys_of terms) → (t : List ℕ × ℤ) → Among t terms → coefficient_of terms t.0 ≡ t.1
+coefficient_of_term terms distinct t m =
+    coefficient_found terms distinct t.0
+    ∙ ap (λ (o : Option ℤ). unwrap_or o (pos 0)) (found-among nat_list_eq_equiv same_partition terms distinct t m)
+
+-- lists with the same sums are the same, and the other way round
+pub same_sums : (f g : WholeTermsOf (List ℕ)) → ((φ : List ℕ → ℤ) → over φ f ≡ over φ g) → Same f g
+same_sums f g e = same_from_pair f g e
+
+pub sums_same : (f g : WholeTermsOf (List ℕ)) → Same f g → (φ : List ℕ → ℤ) → over φ f ≡ over φ g
+sums_same f g e φ = pair_determined f g φ e
+
+-- what a table has gained is added to it
+pub gains_same : (old gained new : WholeTermsOf (List ℕ)) → Gains old gained new → Same new (old ++ gained)
+gains_same old gained new a = same_sums new (old ++ gained) (λ φ. a.sums φ ∙ sym (over_append φ old gained))

@@ -1,0 +1,11 @@
+pub mod LowestTerms
+pub mod LabelTests
+pub mod Tables
+pub mod Steps
+pub mod Sorted
+pub mod Following
+pub mod Multiples
+pub mod Totals
+pub mod Gains
+pub mod Masses
+pub mod Found

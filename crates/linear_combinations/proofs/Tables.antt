@@ -1,0 +1,157 @@
+-- Tables of entries: the changes of a table, and the tests of its terms.
+use Rattle.std.proofs.Common.{◌≡◌, ℕ, zero as none_at, suc, Bool, true, false, ◌&&◌, cond, List, [], ◌∷◌, get_or, refl, sym, ap, ◌∙◌, subst, if◌then◌else◌}
+use Rattle.std.specs.Prelude.{Option, Some, None, is_some, position, slice_get}
+use Rattle.std.specs.Cmp.{IsEquivalence}
+use Rattle.std.specs.List.{IsDistinct}
+use Rattle.std.specs.Option.{unwrap_or}
+use Rattle.std.specs.Map.{lookup, keys_of}
+use Rattle.std.proofs.lemmas.Bool.{and_parts, and_from}
+use Rattle.std.proofs.lemmas.List.Quantifiers.{position-Some}
+use Rattle.std.proofs.lemmas.Map.{lookup-none}
+use Rattle.std.proofs.lemmas.Map.Keys.{IsDistinct-tail}
+use Rattle.std.proofs.lemmas.Map.Entries.{none_past_head}
+use Rattle.coeff_rings.specs.Fractions.{InLowestTerms}
+use Rattle.sym_model.specs.Expansion.{Fraction}
+use Rattle.sym_model.specs.Canonical.{is_reduced}
+use Rattle.linear_combinations.proofs.LowestTerms.{lowest-is_reduced}
+use Rattle.linear_combinations.specs.Entries.{coefficient, are_terms, AreHeld, IsCombination, HasMoreAt}
+
+-- where a look-up of an index finds nothing, a look-up of the coefficient does neither
+pub absent_now : {L R : Type 0} (test : L → Bool) (es now : List (L × R)) (place : Option ℕ) → es ≡ now → is_some place ≡ is_some (lookup test es) → place ≡ None → lookup test now ≡ None
+absent_now {L} {R} test es now place view found none = sym (ap (lookup test) view) ∙ nothing (lookup test es) (sym (ap is_some none) ∙ found)
+  where
+    nothing : (o : Option R) → false ≡ is_some o → o ≡ None
+    nothing None h = refl
+    nothing (Some c) h = cc
+
+module _ {L R : Type 0} {eq : L → L → Bool} (laws : IsEquivalence eq) (same : (x y : L) → eq x y ≡ true → x ≡ y) (is_label : L → Bool) (value : R → Fraction) where
+  -- what a look-up finds passes the test of a term
+  pub is_term-found : (es : List (L × R)) → are_terms value is_label es ≡ true → (k : L) (c : R) → lookup (eq k) es ≡ Some c → (is_reduced (value c) && is_label k) ≡ true
+  is_term-found [] h k c found = cc
+  is_term-found (e ∷ es) h k c found = by (eq k e.0) refl found (is_term-found es (and_parts _ _ h).1 k c)
+    where
+      parts : ((is_reduced (value e.1) && is_label e.0) ≡ true) × (are_terms value is_label es ≡ true)
+      parts = and_parts _ _ h
+
+      here : k ≡ e.0 → e.1 ≡ c → (is_reduced (value c) && is_label k) ≡ true
+      here p q = ap (λ x. is_reduced (value c) && is_label x) p ∙ ap (λ x. is_reduced (value x) && is_label e.0) (sym q) ∙ parts.0
+
+      by : (b : Bool) → eq k e.0 ≡ b → cond b (Some e.1) (lookup (eq k) es) ≡ Some c → (lookup (eq k) es ≡ Some c → (is_reduced (value c) && is_label k) ≡ true) → (is_reduced (value c) && is_label k) ≡ true
+      by true p found rest = here (same k e.0 p) cc
+      by false p found rest = rest found
+
+  -- and a list in which each look-up finds what passes is one of terms
+  pub are_terms-found : (es : List (L × R)) → IsDistinct eq (keys_of es) → ((k : L) (c : R) → lookup (eq k) es ≡ Some c → (is_reduced (value c) && is_label k) ≡ true) → are_terms value is_label es ≡ true
+  are_terms-found [] distinct h = refl
+  are_terms-found (e ∷ es) distinct h =
+      and_from _ _ (h e.0 e.1 (ap (λ b. cond b (Some e.1) (lookup (eq e.0) es)) (laws.refl e.0)))
+      (are_terms-found es (IsDistinct-tail eq e.0 (keys_of es) distinct) later)
+    where
+      later : (k : L) (c : R) → lookup (eq k) es ≡ Some c → (is_reduced (value c) && is_label k) ≡ true
+      later k c found = by (eq k e.0) refl
+        where
+          by : (b : Bool) → eq k e.0 ≡ b → (is_reduced (value c) && is_label k) ≡ true
+          by true p = let none = lookup-none (eq k) es (none_past_head laws k e es distinct p) in cc
+          by false p = h k c (ap (λ b. cond b (Some e.1) (lookup (eq k) es)) p ∙ found)
+
+  -- a table is a combination where its keys differ and each of its pairs is a term
+  pub IsCombination-found : (es : List (L × R)) → IsDistinct eq (keys_of es) → ((k : L) (c : R) → lookup (eq k) es ≡ Some c → (is_reduced (value c) && is_label k) ≡ true) → IsCombination eq is_label value es
+  IsCombination-found es distinct h = record { distinct = distinct; proper = are_terms-found es distinct h }
+
+  -- each coefficient is in lowest terms
+  pub lowest-coefficient : (zero : R) → InLowestTerms (value zero) → (es : List (L × R)) → are_terms value is_label es ≡ true → (k : L) → InLowestTerms (value (coefficient eq zero es k))
+  lowest-coefficient zero low [] h k = low
+  lowest-coefficient zero low (t ∷ es) h k = by (eq k t.0) (lowest-coefficient zero low es (and_parts _ _ h).1 k)
+    where
+      parts : (is_reduced (value t.1) && is_label t.0 ≡ true) × (are_terms value is_label es ≡ true)
+      parts = and_parts _ _ h
+
+      by : (b : Bool) → InLowestTerms (value (coefficient eq zero es k)) → InLowestTerms (value (unwrap_or (cond b (Some t.1) (lookup (eq k) es)) zero))
+      by true rest = lowest-is_reduced (value t.1) (and_parts _ _ parts.0).0
+      by false rest = rest
+
+  -- ---- one pair more, or one less
+
+  module _ (old new : List (L × R)) (k : L) where
+    -- with the pair put in, the list is a combination
+    pub IsCombination-put : (v : R) → IsCombination eq is_label value old → (is_reduced (value v) && is_label k) ≡ true → IsDistinct eq (keys_of new) → ((q : L) → lookup (eq q) new ≡ cond (eq k q) (Some v) (lookup (eq q) old)) → IsCombination eq is_label value new
+    IsCombination-put v was passes distinct finds = IsCombination-found new distinct (λ q w found. by q w (eq k q) refl (sym (finds q) ∙ found))
+      where
+        by : (q : L) (w : R) (b : Bool) → eq k q ≡ b → cond b (Some v) (lookup (eq q) old) ≡ Some w → (is_reduced (value w) && is_label q) ≡ true
+        by q w true p e =
+            let here : v ≡ w = cc in
+            ap (λ x. is_reduced (value w) && is_label x) (sym (same k q p)) ∙ ap (λ x. is_reduced (value x) && is_label k) (sym here) ∙ passes
+        by q w false p e = is_term-found old was.proper q w e
+
+    -- with the label taken out, it is one
+    pub IsCombination-taken : IsCombination eq is_label value old → IsDistinct eq (keys_of new) → ((q : L) → lookup (eq q) new ≡ cond (eq k q) None (lookup (eq q) old)) → IsCombination eq is_label value new
+    IsCombination-taken was distinct finds = IsCombination-found new distinct (λ q w found. by q w (eq k q) (sym (finds q) ∙ found))
+      where
+        by : (q : L) (w : R) (b : Bool) → cond b None (lookup (eq q) old) ≡ Some w → (is_reduced (value w) && is_label q) ≡ true
+        by q w true e = cc
+        by q w false e = is_term-found old was.proper q w e
+
+module _ {L R : Type 0} (eq : L → L → Bool) (zero : R) (sum : R → R → R) where
+  -- where what a look-up finds at k is the sum, the new list has so much more at k
+  pub HasMoreAt-found : (old new : List (L × R)) (k : L) (o : Option R) (c : R) → unwrap_or o zero ≡ sum (coefficient eq zero old k) c → ((q : L) → lookup (eq q) new ≡ cond (eq k q) o (lookup (eq q) old)) → HasMoreAt eq zero sum old k c new
+  HasMoreAt-found old new k o c total finds q = ap (λ x. unwrap_or x zero) (finds q) ∙ by (eq k q)
+    where
+      by : (b : Bool) → unwrap_or (cond b o (lookup (eq q) old)) zero ≡ (if b then sum (coefficient eq zero old k) c else coefficient eq zero old q)
+      by true = total
+      by false = refl
+
+  -- where the sum at a label is what it was, a list stays
+  pub HasMoreAt-zero : (same : (x y : L) → eq x y ≡ true → x ≡ y) (es : List (L × R)) (k : L) (c : R) → sum (coefficient eq zero es k) c ≡ coefficient eq zero es k → HasMoreAt eq zero sum es k c es
+  HasMoreAt-zero same es k c stays q = by (eq k q) refl
+    where
+      by : (b : Bool) → eq k q ≡ b → coefficient eq zero es q ≡ (if b then sum (coefficient eq zero es k) c else coefficient eq zero es q)
+      by true p = ap (coefficient eq zero es) (sym (same k q p)) ∙ sym stays
+      by false p = refl
+
+-- ---- coefficients that are held
+
+module _ {L R : Type 0} (eq : L → L → Bool) (zero : R) (is_held : R → Type 0) where
+  pub held_nothing : is_held zero → AreHeld eq zero is_held []
+  held_nothing h = record { at_label = λ k. h }
+
+  -- where a look-up at k finds what is held, and else what it found before
+  pub held_found : (old new : List (L × R)) (k : L) (o : Option R) → AreHeld eq zero is_held old → is_held (unwrap_or o zero)
+      → ((q : L) → lookup (eq q) new ≡ cond (eq k q) o (lookup (eq q) old)) → AreHeld eq zero is_held new
+  held_found old new k o was here finds = record { at_label = λ q. subst is_held (sym (ap (λ x. unwrap_or x zero) (finds q))) (by q (eq k q)) }
+    where
+      by : (q : L) (b : Bool) → is_held (unwrap_or (cond b o (lookup (eq q) old)) zero)
+      by q true = here
+      by q false = was.at_label q
+
+  -- equal coefficients are held
+  pub held_same : (old new : List (L × R)) → ((q : L) → coefficient eq zero new q ≡ coefficient eq zero old q) → AreHeld eq zero is_held old → AreHeld eq zero is_held new
+  held_same old new equal was = record { at_label = λ q. subst is_held (sym (equal q)) (was.at_label q) }
+
+-- ---- the pair at the place of a label
+
+module _ {L X : Type 0} where
+  key_at : (es : List (L × X)) (i : ℕ) (p : L × X) (d : L) → slice_get es i ≡ Some p → get_or (keys_of es) i d ≡ p.0
+  key_at [] i p d h = cc
+  key_at (e ∷ es) none_at p d h = let here : e ≡ p = cc in ap (λ (x : L × X). x.0) here
+  key_at (e ∷ es) (suc i) p d h = key_at es i p d h
+
+module _ {L R : Type 0} {eq : L → L → Bool} (same : (x y : L) → eq x y ≡ true → x ≡ y) (zero : R) (es : List (L × R)) (at : ℕ) (p : L × R) (here : slice_get es at ≡ Some p) where
+  -- the pair at the place of a label has that label
+  pub label_at : (k : L) → position (eq k) (keys_of es) ≡ Some at → k ≡ p.0
+  label_at k is = same k p.0 (subst (λ x. eq k x ≡ true) (key_at es at p p.0 here) (position-Some (eq k) (keys_of es) at p.0 is).1)
+
+  -- and its scalar is the label's coefficient
+  pub coefficient_at : (now : List (L × R)) → es ≡ now → lookup (eq p.0) es ≡ Some p.1 → (k : L) → position (eq k) (keys_of now) ≡ Some at → coefficient eq zero now k ≡ p.1
+  coefficient_at now view finds k =
+      subst (λ (t : List (L × R)). position (eq k) (keys_of t) ≡ Some at → coefficient eq zero t k ≡ p.1) view
+      (λ is. ap (λ x. unwrap_or (lookup (eq x) es) zero) (label_at k is) ∙ ap (λ o. unwrap_or o zero) finds)
+
+  -- where look-ups change at the pair's label alone, to the sum, the list has so much more at the place's label
+  pub more_at : (sum : R → R → R) (now : List (L × R)) → es ≡ now → lookup (eq p.0) es ≡ Some p.1 → (new : List (L × R)) (o : Option R) (x : R) → unwrap_or o zero ≡ sum p.1 x → ((q : L) → lookup (eq q) new ≡ cond (eq p.0 q) o (lookup (eq q) es))
+      → (k : L) → position (eq k) (keys_of now) ≡ Some at → HasMoreAt eq zero sum now k x new
+  more_at sum now view finds new o x is_sum changes k is =
+      let had : coefficient eq zero es p.0 ≡ p.1 = ap (λ o. unwrap_or o zero) finds in
+      let all : unwrap_or o zero ≡ sum (coefficient eq zero es p.0) x = is_sum ∙ ap (λ r. sum r x) (sym had) in
+      let more : HasMoreAt eq zero sum es p.0 x new = HasMoreAt-found eq zero sum es new p.0 o x all changes in
+      let label : k ≡ p.0 = label_at k (subst (λ (t : List (L × R)). position (eq k) (keys_of t) ≡ Some at) (sym view) is) in
+      subst (λ (t : List (L × R)). HasMoreAt eq zero sum t k x new) view (subst (λ l. HasMoreAt eq zero sum es l x new) (sym label) more)

@@ -1,0 +1,10 @@
+use Rattle.std.proofs.Common.{◌≡◌, None, drop}
+use Rattle.std.specs.Option.{option_copied}
+use Rattle.linear_combinations.specs.Entries.{each_follows}
+use Rattle.linear_combinations.proofs.terms.are_canonical.Given as goal
+
+-- all follow where those from here on follow
+abbrev pub invariant-loop-label : goal.invariant-loop-label
+invariant-loop-label g l =
+    each_follows g.L.Label.order g.L.Label.is_label g.R.Scalar.value None l.pairs
+    ≡ each_follows g.L.Label.order g.L.Label.is_label g.R.Scalar.value (option_copied l.previous) (drop l.label-index l.pairs)

@@ -1,0 +1,11 @@
+use Rattle.std.proofs.Common.{◌≡◌, ◌++◌, map}
+use Rattle.std.specs.Map.Iter.{deref_pair}
+use Rattle.linear_combinations.specs.Gains.{Gains, scaled}
+use Rattle.linear_combinations.proofs.whole.Lin+L+Int.add_multiple.Given as goal
+
+-- the multiples of the terms so far are added
+abbrev pub invariant-loop-label : goal.invariant-loop-label
+invariant-loop-label g l = record {
+  gains : Gains l.fn.self (scaled l.c (map deref_pair l.yielded)) l.self;
+  so_far : map deref_pair l.yielded ++ l.label-iterator ≡ l.initial.label-iterator;
+}

@@ -1,0 +1,48 @@
+-- What is added to a table of whole numbers: a list of labels with numbers, in which a label may stand again and again.
+use Rattle.std.specs.Prelude.{◌≡◌, ℕ, ◌+◌, ◌^◌, ◌≤◌, ℤ, pos, ◌+ℤ◌, ◌*ℤ◌, nat_abs, Bool, cond, List, [], ◌∷◌, ◌++◌, map}
+use Rattle.sym_model.specs.Sum.{total, Among}
+pub use Rattle.sym_model.specs.WholeTerms.{WholeTermsOf}
+
+-- the sum over the terms of coefficient times the value of a test function at the label
+abbrev pub over : {L : Type 0} → (L → ℤ) → WholeTermsOf L → ℤ
+over {L} φ terms = total (λ (t : L × ℤ). t.1 *ℤ φ t.0) terms
+
+-- the test function that is 1 at a label and 0 elsewhere
+abbrev pub only : {L : Type 0} → (L → L → Bool) → L → L → ℤ
+only eq x label = cond (eq x label) (pos 1) (pos 0)
+
+-- the sum of the absolute values of all coefficients
+abbrev pub mass : {L : Type 0} → WholeTermsOf L → ℕ
+mass [] = 0
+mass (t ∷ terms) = nat_abs t.1 + mass terms
+
+-- the sum of the absolute values of the coefficients that stand at a label
+abbrev pub mass_at : {L : Type 0} → (L → L → Bool) → L → WholeTermsOf L → ℕ
+mass_at eq x [] = 0
+mass_at eq x (t ∷ terms) = cond (eq x t.0) (nat_abs t.1) 0 + mass_at eq x terms
+
+-- each coefficient times c
+abbrev pub scaled : {L : Type 0} → ℤ → WholeTermsOf L → WholeTermsOf L
+scaled {L} c terms = map (λ (t : L × ℤ). (t.0, c *ℤ t.1)) terms
+
+-- the labels, each with the coefficient c
+abbrev pub each_with : {L : Type 0} → ℤ → List L → WholeTermsOf L
+each_with c [] = []
+each_with c (label ∷ labels) = (label, c) ∷ each_with c labels
+
+-- what each label stands for, times its coefficient
+abbrev pub replaced : {K L : Type 0} → (K → WholeTermsOf L) → WholeTermsOf K → WholeTermsOf L
+replaced image [] = []
+replaced image (t ∷ terms) = scaled t.1 (image t.0) ++ replaced image terms
+
+-- each label has the property
+abbrev pub HaveLabels : {L : Type 0} → (L → Type 0) → WholeTermsOf L → Type 0
+HaveLabels {L} P terms = (t : L × ℤ) → Among t terms → P t.0
+
+-- VALUE: the new list has the sums of the old one and of what is gained
+pub record Gains {L : Type 0} (old gained new : WholeTermsOf L) : Type 0 where
+  pub sums : (φ : L → ℤ) → over φ new ≡ over φ old +ℤ over φ gained
+
+-- OVERFLOW: at some label the old coefficient and what is gained there, all taken as positive, come to 2^127 or more
+abbrev pub Overflows : {L : Type 0} → (L → L → Bool) → WholeTermsOf L → WholeTermsOf L → Type 0
+Overflows {L} eq old gained = (x : L) × (2 ^ 127 ≤ nat_abs (over (only eq x) old) + mass_at eq x gained)

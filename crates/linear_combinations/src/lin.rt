@@ -1,0 +1,286 @@
+//! Finite linear combinations of labels.
+ghost use Rattle.std.specs.Prelude.{◌≡◌, ◌<◌, ◌↔◌, [], Some, None, length, position, slice_get, IsTrue, IfOk, OnOk, OnErr, IsErrOf};
+ghost use Rattle.std.specs.Prelude.{IsSorted};
+ghost use Rattle.indexmap.specs.IndexMap.{index_map_len, get, IsUnique, Updates};
+ghost use Rattle.indexmap.specs.Layout.{set_value_at};
+ghost use Rattle.std.specs.List.Sorted.{IsPermutation};
+ghost use Rattle.std.specs.Map.{keys_of, lookup};
+ghost use Rattle.std.specs.Map.Iter.{ShowsInOrder, deref_pair};
+ghost use Rattle.linear_combinations.specs.Entries.{coefficient, AreHeld, HasMoreAt, HasSameCoefficients, IsCanonicalList, IsCombination, IsMultipleOf, IsSumOf, IsRefused, RefusesSomeProduct, RefusesSomeSum};
+
+use crate::label::{Label, lies_in_limits};
+use crate::terms::Terms;
+use calc_base::{NoMemory, SumFault};
+use coeff_rings::{Ring, Scalar};
+use indexmap::IndexMap;
+use indexmap::map::Iter;
+use std::alloc::{AllocError, Global};
+use std::marker::Model;
+
+/// A finite map from labels to coefficients that are not 0. A contract sees it as a list of terms in no stated order:
+/// each label once, with the value of its coefficient.
+#[derive(Drop)]
+pub struct Lin<L: Label, R: Scalar> {
+    table: IndexMap<L, R>,
+}
+
+impl<L: Label, R: Scalar> Model for Lin<L, R> {
+    ghost use Rattle.std.specs.Prelude.{List};
+    ghost use Rattle.linear_combinations.specs.Entries.{IsTable};
+
+    ghost Value = { List (L × R) };
+
+    ghost view = { λ m. m.table.entries };
+
+    ghost invariant = { λ m. IsTable L.eq L.is_label R.zero R.value R.is_held m.table.entries };
+}
+
+impl<L: Label, R: Scalar> Lin<L, R> {
+    /// The empty map. It takes no memory.
+    pub fn new(alloc: Global) -> Lin<L, R>
+        ensures { result ≡ [] }
+    {
+        Lin {
+            table: IndexMap::new(alloc),
+        }
+    }
+
+    /// The coefficient of a label, 0 where the label is not there.
+    pub fn coefficient(&self, label: &L) -> R
+        ensures value { result ≡ coefficient L.eq R.zero self.now label.now }
+        ensures combination { IsCombination L.eq L.is_label R.value self.now }
+    {
+        match self.table.get(label) {
+            Some(c) => *c,
+            None => R::zero(),
+        }
+    }
+
+    /// The number of terms.
+    pub fn len(&self) -> usize
+        ensures len { result ≡ length self.now }
+        ensures combination { IsCombination L.eq L.is_label R.value self.now }
+        ensures held { AreHeld L.eq R.zero R.is_held self.now }
+    {
+        self.table.len()
+    }
+
+    /// Whether there are no terms.
+    pub fn is_empty(&self) -> bool
+        ensures { IsTrue result ↔ (length self.now ≡ 0) }
+    {
+        self.len() == 0
+    }
+
+    /// Adds `c` to the label's coefficient, and takes the label out where the sum is 0.
+    ///
+    /// It is refused as `Large` exactly where the ring refuses that sum. After a refusal the map is as it was.
+    pub fn add_term(&mut self, label: L, c: R) -> Result<(), SumFault>
+        ensures ok { OnOk result (HasMoreAt L.eq R.zero R.sum self.old label c self.new) }
+        ensures large { IsErrOf result SumFault.Large
+            ↔ IsRefused R.is_held R.checked_sum (coefficient L.eq R.zero self.old label) c }
+        ensures err { OnErr result (self.new ≡ self.old) }
+        ensures was { IsCombination L.eq L.is_label R.value self.old }
+        ensures combination { IsCombination L.eq L.is_label R.value self.new }
+        ensures held { AreHeld L.eq R.zero R.is_held self.new }
+    {
+        match self.table.get_index_of(&label) {
+            Some(at) => self.add_at(at, c),
+            None => self.add_new(label, c),
+        }
+    }
+
+    /// Does what `add_term` does, with a label that is copied only where it is new.
+    pub(crate) fn add_borrowed(&mut self, label: &L, c: R) -> Result<(), SumFault>
+        ensures ok { OnOk result (HasMoreAt L.eq R.zero R.sum self.old label.now c self.new) }
+        ensures large { IsErrOf result SumFault.Large
+            ↔ IsRefused R.is_held R.checked_sum (coefficient L.eq R.zero self.old label.now) c }
+        ensures was { IsCombination L.eq L.is_label R.value self.old }
+        ensures combination { IsCombination L.eq L.is_label R.value self.new }
+        ensures held { AreHeld L.eq R.zero R.is_held self.new }
+    {
+        match self.table.get_index_of(label) {
+            Some(at) => self.add_at(at, c),
+            None => self.add_new(label.copy()?, c),
+        }
+    }
+
+    /// Does what `add_term` does, with a label that is not there.
+    fn add_new(&mut self, label: L, c: R) -> Result<(), SumFault>
+        requires { lookup (L.eq label) self.old ≡ None }
+        ensures ok { OnOk result (HasMoreAt L.eq R.zero R.sum self.old label c self.new) }
+        ensures large { IsErrOf result SumFault.Large
+            ↔ IsRefused R.is_held R.checked_sum (coefficient L.eq R.zero self.old label) c }
+        ensures err { OnErr result (self.new ≡ self.old) }
+        ensures was { IsCombination L.eq L.is_label R.value self.old }
+        ensures combination { IsCombination L.eq L.is_label R.value self.new }
+        ensures held { AreHeld L.eq R.zero R.is_held self.new }
+    {
+        self.is_combination();
+        lies_in_limits(&label);
+        if c.is_zero() {
+            return Ok(());
+        }
+        self.table.insert(label, c)?;
+        Ok(())
+    }
+
+    /// Adds `c` to the coefficient of the label at an index, and takes the label out where the sum is 0.
+    fn add_at(&mut self, at: usize, c: R) -> Result<(), SumFault>
+        requires { at < length self.old }
+        ensures ok { (label : L) → position (L.eq label) (keys_of self.old) ≡ Some at
+            → OnOk result (HasMoreAt L.eq R.zero R.sum self.old label c self.new) }
+        ensures large { (label : L) → position (L.eq label) (keys_of self.old) ≡ Some at
+            → IsErrOf result SumFault.Large
+            ↔ IsRefused R.is_held R.checked_sum (coefficient L.eq R.zero self.old label) c }
+        ensures err { OnErr result (self.new ≡ self.old) }
+        ensures was { IsCombination L.eq L.is_label R.value self.old }
+        ensures combination { IsCombination L.eq L.is_label R.value self.new }
+        ensures held { AreHeld L.eq R.zero R.is_held self.new }
+    {
+        let (_, a) = pair_at(&self.table, at);
+        let sum = a.add(c).ok_or(SumFault::Large)?;
+        if sum.is_zero() {
+            take_at(&mut self.table, at);
+        } else {
+            put_at(&mut self.table, at, sum);
+        }
+        Ok(())
+    }
+
+    /// An equal map.
+    pub fn copy(&self) -> Result<Lin<L, R>, NoMemory>
+        ensures same { IfOk result (HasSameCoefficients L.eq R.zero self.now) }
+        ensures combination { IfOk result (IsCombination L.eq L.is_label R.value) }
+    {
+        let mut table = IndexMap::new(*self.table.allocator());
+        for (label, c) in &self.table {
+            table.insert(label.copy()?, *c)?;
+        }
+        Ok(Lin { table })
+    }
+
+    /// The sum of this map and another.
+    ///
+    /// It is refused as `Large` only where at some label the ring refuses the sum of the two coefficients, and then
+    /// there is no sum.
+    pub fn add_all(mut self, other: &Lin<L, R>) -> Result<Lin<L, R>, SumFault>
+        ensures sum { IfOk result (IsSumOf L.eq R.zero R.sum self other.now) }
+        ensures combination { IfOk result (IsCombination L.eq L.is_label R.value) }
+        ensures large { IsErrOf result SumFault.Large
+            → RefusesSomeSum L.eq R.zero R.is_held R.checked_sum self other.now }
+        ensures fits { OnOk result (¬ RefusesSomeSum L.eq R.zero R.is_held R.checked_sum self other.now) }
+    {
+        self.is_combination();
+        for (label, c) in &other.table {
+            self.add_borrowed(label, *c)?;
+        }
+        Ok(self)
+    }
+
+    /// The map with each coefficient times `c`. It takes no memory.
+    ///
+    /// It is refused as `Large` exactly where the ring refuses the product of some coefficient and `c`.
+    pub fn scale(self, c: R) -> Result<Lin<L, R>, SumFault>
+    where
+        R: Ring,
+        ensures product { IfOk result (IsMultipleOf L.eq R.zero R.product self c) }
+        ensures combination { IfOk result (IsCombination L.eq L.is_label R.value) }
+        ensures large { IsErrOf result SumFault.Large
+            ↔ RefusesSomeProduct R.is_held R.checked_product self c }
+        ensures inline { ¬ IsErrOf result SumFault.NoMemory }
+    {
+        let vanishes = c.is_zero();
+        let Lin { mut table } = self;
+        for at in 0..table.len() {
+            let (_, a) = pair_at(&table, at);
+            put_at(&mut table, at, a.mul(c).ok_or(SumFault::Large)?);
+        }
+        if vanishes {
+            return Ok(Lin::new(*table.allocator()));
+        }
+        Ok(Lin { table })
+    }
+
+    /// The terms in the printed order.
+    pub fn sorted_terms(self) -> Result<Terms<L, R>, NoMemory>
+        ensures same { IfOk result (HasSameCoefficients L.eq R.zero self) }
+        ensures canonical { IfOk result (IsCanonicalList L.order L.is_label R.value) }
+        ensures combination { IfOk result (IsCombination L.eq L.is_label R.value) }
+        ensures was { IsCombination L.eq L.is_label R.value self }
+        ensures held { IfOk result (AreHeld L.eq R.zero R.is_held) }
+    {
+        let Lin { table } = self;
+        let alloc = *table.allocator();
+        let mut pairs = pairs_of(alloc, table)?;
+        sort_labels(&mut pairs);
+        Ok(Terms::from_sorted(pairs))
+    }
+
+    /// The labels with their coefficients, in the order of the list that a contract sees.
+    pub fn iter(&self) -> Iter<'_, L, R>
+        ensures rest { result ≡ self.now }
+        ensures runs { ShowsInOrder (deref_pair {K = L} {X = R}) }
+        ensures combination { IsCombination L.eq L.is_label R.value self.now }
+    {
+        self.table.iter()
+    }
+
+    /// Does nothing when it runs: it tells a proof what the map is.
+    pub(crate) fn is_combination(&self)
+        ensures combination { IsCombination L.eq L.is_label R.value self.now }
+        ensures held { AreHeld L.eq R.zero R.is_held self.now }
+    {
+        let _ = self.table.len();
+    }
+}
+
+/// The label and the scalar at an index of a table.
+fn pair_at<L: Label, R: Scalar>(table: &IndexMap<L, R>, at: usize) -> (&L, R)
+    requires { at < index_map_len table.now }
+    ensures pair { slice_get table.now.entries at ≡ Some (result.0.now, result.1) }
+    ensures found { get L.eq table.now result.0.now ≡ Some result.1 }
+    ensures unique { IsUnique L.eq table.now }
+{
+    let _ = table.len();
+    let (label, c) = table.get_index(at).unwrap();
+    (label, *c)
+}
+
+/// Puts a scalar in the place of the one at an index of a table.
+fn put_at<L: Label, R: Scalar>(table: &mut IndexMap<L, R>, at: usize, c: R)
+    requires { at < index_map_len table.old }
+    ensures entries { table.new.entries ≡ set_value_at table.old.entries at c }
+    ensures updates { (p : L × R) → slice_get table.old.entries at ≡ Some p → Updates L.eq table.old table.new p.0 (Some c) }
+    ensures unique { IsUnique L.eq table.new }
+{
+    let _ = table.len();
+    table[at] = c;
+    let _ = table.len();
+}
+
+/// Takes the pair at an index out of a table.
+fn take_at<L: Label, R: Scalar>(table: &mut IndexMap<L, R>, at: usize)
+    ensures updates { (p : L × R) → slice_get table.old.entries at ≡ Some p → Updates L.eq table.old table.new p.0 None }
+    ensures unique { IsUnique L.eq table.new }
+{
+    table.swap_remove_index(at);
+}
+
+/// Sorts the pairs by the printed order of their labels.
+fn sort_labels<L: Label, R: Scalar>(pairs: &mut Vec<(L, R)>)
+    ensures permutation { IsPermutation pairs.old.items pairs.new.items }
+    ensures sorted { IsSorted (λ a b. L.order a.0 b.0) pairs.new.items }
+{
+    pairs.sort_unstable_by(|a, b| a.0.cmp_printed(&b.0));
+}
+
+/// The pairs in the order of the table, of which no two have the same label.
+fn pairs_of<L: Label, R: Scalar>(
+    alloc: Global,
+    table: IndexMap<L, R>,
+) -> Result<Vec<(L, R)>, AllocError>
+    ensures { IfOk result (λ pairs. pairs.items ≡ table.entries) }
+{
+    table.into_iter().collect(alloc)
+}

@@ -1,0 +1,122 @@
+//! Adders to tables of whole numbers: each says by one relation what is gained, and by one where it overflows.
+ghost use Rattle.std.specs.Prelude.{◌≡◌, ℤ, pos, neg_ℤ, [], ◌∷◌, FitsSigned, OnOk, IsErrOf};
+ghost use Rattle.std.specs.Int.{w128};
+ghost use Rattle.coeff_rings.specs.Fractions.{whole};
+ghost use Rattle.sym_model.specs.Sum.{Among};
+ghost use Rattle.linear_combinations.specs.Entries.{AreHeld, IsCanonicalList, IsCombination};
+ghost use Rattle.linear_combinations.specs.Gains.{Gains, Overflows, scaled, each_with, replaced};
+
+use crate::label::Label;
+use crate::lin::Lin;
+use crate::rule::Rule;
+use crate::terms::Terms;
+use calc_base::SumFault;
+use coeff_rings::{Int, Ring};
+
+impl<L: Label> Lin<L, Int> {
+    /// Adds a number at a label.
+    pub fn add_at_label(&mut self, label: &L, c: Int) -> Result<(), SumFault>
+        ensures gains { OnOk result (Gains self.old ((label.now, c) ∷ []) self.new) }
+        ensures large { IsErrOf result SumFault.Large → Overflows L.eq self.old ((label.now, c) ∷ []) }
+        ensures table { OnOk result (IsCombination L.eq L.is_label whole self.new) }
+        ensures held { OnOk result (AreHeld L.eq (pos 0) (FitsSigned w128) self.new) }
+    {
+        self.add_borrowed(label, c)
+    }
+
+    /// Adds a number at each of some labels.
+    pub fn add_each(&mut self, labels: &[L], c: Int) -> Result<(), SumFault>
+        ensures gains { OnOk result (Gains self.old (each_with c labels.now) self.new) }
+        ensures large { IsErrOf result SumFault.Large → Overflows L.eq self.old (each_with c labels.now) }
+        ensures table { OnOk result (IsCombination L.eq L.is_label whole self.new) }
+        ensures held { OnOk result (AreHeld L.eq (pos 0) (FitsSigned w128) self.new) }
+    {
+        for label in labels {
+            self.add_at_label(label, c)?;
+        }
+        self.is_combination();
+        Ok(())
+    }
+
+    /// Subtracts a number at each of some labels.
+    pub fn subtract_each(&mut self, labels: &[L], c: Int) -> Result<(), SumFault>
+        ensures gains { OnOk result (Gains self.old (each_with (neg_ℤ c) labels.now) self.new) }
+        ensures large { IsErrOf result SumFault.Large → Overflows L.eq self.old (each_with (neg_ℤ c) labels.now) }
+        ensures table { OnOk result (IsCombination L.eq L.is_label whole self.new) }
+        ensures held { OnOk result (AreHeld L.eq (pos 0) (FitsSigned w128) self.new) }
+    {
+        for label in labels {
+            let less = c.neg().ok_or(SumFault::Large)?;
+            self.add_at_label(label, less)?;
+        }
+        self.is_combination();
+        Ok(())
+    }
+
+    /// Adds `c` times another table.
+    pub fn add_multiple(&mut self, other: &Lin<L, Int>, c: Int) -> Result<(), SumFault>
+        ensures gains { OnOk result (Gains self.old (scaled c other.now) self.new) }
+        ensures large { IsErrOf result SumFault.Large → Overflows L.eq self.old (scaled c other.now) }
+        ensures table { OnOk result (IsCombination L.eq L.is_label whole self.new) }
+        ensures held { OnOk result (AreHeld L.eq (pos 0) (FitsSigned w128) self.new) }
+        ensures other { IsCombination L.eq L.is_label whole other.now }
+    {
+        for (label, a) in other.iter() {
+            let product = c.mul(*a).ok_or(SumFault::Large)?;
+            self.add_at_label(label, product)?;
+        }
+        self.is_combination();
+        Ok(())
+    }
+
+    /// Adds another table.
+    pub fn add_terms(&mut self, other: &Lin<L, Int>) -> Result<(), SumFault>
+        ensures gains { OnOk result (Gains self.old other.now self.new) }
+        ensures large { IsErrOf result SumFault.Large → Overflows L.eq self.old other.now }
+        ensures table { OnOk result (IsCombination L.eq L.is_label whole self.new) }
+        ensures held { OnOk result (AreHeld L.eq (pos 0) (FitsSigned w128) self.new) }
+        ensures other { IsCombination L.eq L.is_label whole other.now }
+    {
+        for (label, a) in other.iter() {
+            self.add_at_label(label, *a)?;
+        }
+        self.is_combination();
+        Ok(())
+    }
+
+    /// Adds `c` times the terms of a list.
+    pub fn add_list(&mut self, list: &Terms<L, Int>, c: Int) -> Result<(), SumFault>
+        ensures gains { OnOk result (Gains self.old (scaled c list.now) self.new) }
+        ensures large { IsErrOf result SumFault.Large → Overflows L.eq self.old (scaled c list.now) }
+        ensures table { OnOk result (IsCombination L.eq L.is_label whole self.new) }
+        ensures held { OnOk result (AreHeld L.eq (pos 0) (FitsSigned w128) self.new) }
+        ensures list { IsCanonicalList L.order L.is_label whole list.now }
+    {
+        for (label, a) in list.iter() {
+            let product = c.mul(*a).ok_or(SumFault::Large)?;
+            self.add_at_label(label, product)?;
+        }
+        self.is_combination();
+        Ok(())
+    }
+
+    /// Adds what a rule makes of a table.
+    pub fn add_by<K: Label, T: Rule<K, L>>(
+        &mut self,
+        rule: &T,
+        list: &Lin<K, Int>,
+    ) -> Result<(), SumFault>
+        requires { (t : K × ℤ) → Among t list.now → T.takes rule.now t.0 }
+        ensures gains { OnOk result (Gains self.old (replaced (T.image rule.now) list.now) self.new) }
+        ensures large { IsErrOf result SumFault.Large → Overflows L.eq self.old (replaced (T.image rule.now) list.now) }
+        ensures table { OnOk result (IsCombination L.eq L.is_label whole self.new) }
+        ensures held { OnOk result (AreHeld L.eq (pos 0) (FitsSigned w128) self.new) }
+        ensures list { IsCombination K.eq K.is_label whole list.now }
+    {
+        for (label, c) in list.iter() {
+            rule.add_image(label, *c, self)?;
+        }
+        self.is_combination();
+        Ok(())
+    }
+}

@@ -1,6 +1,0 @@
-use Rattle.std.proofs.Common.{◌≡◌, ◌++◌}
-use Rattle.sparse_polys.proofs.lin.Lin.copy.Given as goal
-
--- what is copied and what is left are all the pairs
-abbrev pub invariant-loop-label : goal.invariant-loop-label
-invariant-loop-label g l = l.table.entries ++ l.label-iterator ≡ l.initial.label-iterator

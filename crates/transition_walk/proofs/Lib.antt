@@ -1,0 +1,4 @@
+pub mod Shares
+pub mod JoinedLists
+pub mod Steps
+pub mod UnderWay

@@ -1,0 +1,204 @@
+-- What the transition rule puts in the place of a permutation that waits (specs/Waiting).
+--     step_value        the products add up to that of the permutation
+--     step_growth       they weigh no more than it
+--     step_waiting      they keep the bounds
+--     step_load         and are lower
+use Rattle.std.proofs.Common.{◌≡◌, ℕ, ◌+◌, ◌-◌, ◌*◌, ◌^◌, ◌<◌, ◌≤◌, Bool, true, List, [], ◌∷◌, ◌++◌, length, refl, sym, ap, ◌∙◌, subst, inl, inr, arith, ℤ, ◌+ℤ◌, ◌*ℤ◌}
+use Rattle.std.specs.List.{IsDistinct}
+use Rattle.std.proofs.lemmas.Int.{ints}
+use Rattle.std.proofs.lemmas.Bool.{and_parts}
+use Rattle.coeff_rings.specs.Fractions.{whole}
+use Rattle.sym_model.specs.Permutation.{IsTransition, times_swap, covers_down}
+use Rattle.sym_model.specs.PlaceOrders.{inversions}
+use Rattle.sym_model.specs.Sum.{total, Among}
+use Rattle.sym_model.proofs.Ring.{distributes_left}
+use Rattle.sym_model.proofs.Sums.{total_append, total_among, total_ext, total_add, total_exchange, total_scale, Among_from_append}
+use Rattle.schubert_laws.proofs.LowerPermutations.{transition_inversions, transition_lowers, transition_covers_lower}
+use Rattle.schubert_laws.proofs.Members.{short_cover, short_transition, place_within, cover_inversions}
+use Rattle.schubert_laws.proofs.Ranks.{rank_lower}
+use Rattle.linear_combinations.specs.Entries.{IsCombination}
+use Rattle.linear_combinations.specs.Gains.{WholeTermsOf, over, mass, replaced, HaveLabels}
+use Rattle.linear_combinations.proofs.Gains.{replaced_over}
+use Rattle.linear_combinations.proofs.Masses.{mass_replaced, labels_replaced}
+use Rattle.linear_combinations.proofs.Totals.{term-among}
+use Rattle.schubert_transition.specs.Todo.{load, weigh}
+use Rattle.schubert_transition.specs.Transitions.{IsShort, rank, weight}
+use Rattle.schubert_transition.proofs.Covers.{count_covers_down}
+use Rattle.schubert_transition.proofs.Ranks.{pow_below, weights_less}
+use Rattle.schubert_transition.proofs.TodoLists.{load_append}
+use Rattle.schubert_transition.proofs.Weights.{weigh_append, weigh_most}
+use Rattle.transition_walk.specs.Growth.{GrowsBy, share}
+use Rattle.transition_walk.specs.Waiting.{WithList, value_of, growth, IsWaiting, AreWaiting, each_waits, stepped}
+use Rattle.transition_walk.proofs.JoinedLists.{each_value, each_growth, each_load, each_among}
+use Rattle.transition_walk.proofs.Shares.{share_positive, share_step}
+use native.Mathlib.Nat.{mul-le-mul_left}
+use lib.IntN.{+ℤ_idr}
+
+-- each label of a table is one of its type
+pub are_labels : {L : Type 0} {eq : L → L → Bool} {is_label : L → Bool} (list : WholeTermsOf L) → IsCombination eq is_label whole list → HaveLabels (λ label. is_label label ≡ true) list
+are_labels {L} {eq} {is_label} list is t m = (and_parts _ (is_label t.0) (term-among is_label whole list is.proper t m)).1
+
+-- the empty list
+pub no_labels : {L : Type 0} (P : L → Type 0) (list : WholeTermsOf L) → list ≡ [] → HaveLabels P list
+no_labels {L} P list empty = subst (λ (l : WholeTermsOf L). HaveLabels P l) (sym empty) (λ t m. absurd m)
+
+pub no_terms : {L : Type 0} (eq : L → L → Bool) (is_label : L → Bool) (list : WholeTermsOf L) → list ≡ [] → IsCombination eq is_label whole list
+unfolding IsDistinct
+no_terms {L} eq is_label list empty = subst (λ (l : WholeTermsOf L). IsCombination eq is_label whole l) (sym empty) (record { distinct = tt; proper = refl })
+
+-- a sum over a table of sums
+over_sum : {L : Type 0} (f : L → ℤ) (g : List ℕ → L → ℤ) (xs : List (List ℕ)) (terms : WholeTermsOf L)
+    → over (λ e. f e +ℤ total (λ (x : List ℕ). g x e) xs) terms ≡ over f terms +ℤ total (λ (x : List ℕ). over (g x) terms) xs
+over_sum {L} f g xs terms =
+    total_ext (λ (t : L × ℤ). t.1 *ℤ (f t.0 +ℤ total (λ (x : List ℕ). g x t.0) xs)) (λ (t : L × ℤ). t.1 *ℤ f t.0 +ℤ total (λ (x : List ℕ). t.1 *ℤ g x t.0) xs)
+    (λ t. distributes_left t.1 (f t.0) (total (λ (x : List ℕ). g x t.0) xs) ∙ ap (λ z. t.1 *ℤ f t.0 +ℤ z) (sym (total_scale t.1 (λ (x : List ℕ). g x t.0) xs))) terms
+    ∙ total_add (λ (t : L × ℤ). t.1 *ℤ f t.0) (λ (t : L × ℤ). total (λ (x : List ℕ). t.1 *ℤ g x t.0) xs) terms
+    ∙ ap (λ z. over f terms +ℤ z) (total_exchange (λ (t : L × ℤ) (x : List ℕ). t.1 *ℤ g x t.0) terms xs)
+
+module _ {L : Type 0} (image : List ℕ → L → WholeTermsOf L) (r s : ℕ) (w : WithList L) where
+  pub step_value : (φ : List ℕ → L → ℤ)
+      → ((t : L × ℤ) → Among t w.factor → φ w.perm t.0
+      ≡ over (φ (times_swap r s w.perm)) (image (times_swap r s w.perm) t.0) +ℤ total (λ (x : List ℕ). φ x t.0) (covers_down r (times_swap r s w.perm)))
+      → value_of φ (stepped image r s w) ≡ over (φ w.perm) w.factor
+  step_value φ law =
+      let v = times_swap r s w.perm in
+      let a = total_append (λ (x : WithList L). over (φ x.perm) x.factor) (each_waits w.factor (covers_down r (times_swap r s w.perm)))
+      ((record { perm = times_swap r s w.perm; factor = replaced (image (times_swap r s w.perm)) w.factor }) ∷ []) in
+      let b = each_value φ w.factor (covers_down r (times_swap r s w.perm)) in
+      let c = replaced_over (image (times_swap r s w.perm)) (φ (times_swap r s w.perm)) w.factor in
+      let d = over_sum (λ e. over (φ (times_swap r s w.perm)) (image (times_swap r s w.perm) e)) φ (covers_down r (times_swap r s w.perm)) w.factor in
+      let e = total_among (λ (t : L × ℤ). t.1 *ℤ φ w.perm t.0)
+      (λ (t : L × ℤ). t.1 *ℤ (over (φ (times_swap r s w.perm)) (image (times_swap r s w.perm) t.0) +ℤ total (λ (x : List ℕ). φ x t.0) (covers_down r (times_swap r s w.perm)))) w.factor
+      (λ t m. ap (λ z. t.1 *ℤ z) (law t m)) in
+      let f = +ℤ_idr (over (φ (times_swap r s w.perm)) (replaced (image (times_swap r s w.perm)) w.factor)) in
+      omega (arith, ints)
+
+  -- ---- bounds
+
+  module _ (extent : L → ℕ) (extra n top : ℕ) (is : IsWaiting extent n top w) (high : top ≤ 255) (t : IsTransition w.perm r s) where
+    -- what is known of the permutation that is lower
+    record IsLowered : Type 0 where
+      lower : IsShort n (times_swap r s w.perm)
+      inverted : inversions w.perm ≡ inversions (times_swap r s w.perm) + 1
+      first : 1 ≤ r
+      place : r < n
+
+    lowered : IsLowered
+    lowered =
+        let place = place_within w.perm r s is.short.one_line t in
+        let p1 = place.1 in
+        let few = is.short.few in
+        record {
+          lower = short_transition n w.perm r s is.short t;
+          inverted = transition_inversions w.perm r s is.short.one_line t;
+          first = place.0;
+          place = omega arith;
+        }
+
+    pub cover_waits : (x : List ℕ) → Among x (covers_down r (times_swap r s w.perm)) → IsWaiting extent n top (record { perm = x; factor = w.factor })
+    cover_waits x m =
+        let k = lowered in
+        let i = cover_inversions r (times_swap r s w.perm) x m in
+        let j = k.inverted in
+        let f = k.place in
+        let g = is.inside in
+        record {
+          short = short_cover n r (times_swap r s w.perm) x k.lower (omega arith) m;
+          inside = omega arith;
+          labels = λ u q. let l = is.labels u q in omega arith;
+        }
+
+    module _ (takes : List ℕ → L → Type 0)
+        (law : (k : ℕ) (v : List ℕ) (label : L) → IsShort k v → 1 ≤ r → r ≤ k → k ≤ 254 → extent label ≤ k → GrowsBy extent (takes v) (image v) k extra label) where
+      grown : (u : L × ℤ) → Among u w.factor → GrowsBy extent (takes (times_swap r s w.perm)) (image (times_swap r s w.perm)) (top - inversions w.perm) extra u.0
+      grown u m =
+          let k = lowered in
+          let lower = k.lower in
+          let few = lower.few in
+          let inverted = k.inverted in
+          let place = k.place in
+          let inside = is.inside in
+          let l = is.labels u m in
+          law (top - inversions w.perm) (times_swap r s w.perm) u.0 (record { one_line = lower.one_line; few = omega arith }) k.first (omega arith) (omega arith) (omega arith)
+
+      pub step_growth : growth (share n (top + extra)) (stepped image r s w) ≤ mass w.factor * share n (top + extra) w.perm
+      step_growth =
+          let a = weigh_append (λ (x : WithList L). mass x.factor * share n (top + extra) x.perm) (each_waits w.factor (covers_down r (times_swap r s w.perm)))
+          ((record { perm = times_swap r s w.perm; factor = replaced (image (times_swap r s w.perm)) w.factor }) ∷ []) in
+          let b = each_growth (share n (top + extra)) w.factor (covers_down r (times_swap r s w.perm)) in
+          let c = mass_replaced (image (times_swap r s w.perm)) (top - inversions w.perm + extra) w.factor (λ u m. (grown u m).few) in
+          let d = share_step n r s (top + extra) (top - inversions w.perm + extra) (mass w.factor) w.perm is.short t (omega arith) in
+          let e = mul-le-mul_left (share n (top + extra) (times_swap r s w.perm)) c in
+          by (mass (replaced (image (times_swap r s w.perm)) w.factor)) (mass w.factor * (top - inversions w.perm + extra)) (share n (top + extra) (times_swap r s w.perm))
+          (growth (share n (top + extra)) (stepped image r s w)) _ _ _ e a b d
+        where
+          by : (a b s all x y z : ℕ) → s * a ≤ s * b → all ≡ x + (a * s + 0) → x ≡ y → b * s + y ≤ z → all ≤ z
+          by a b s all x y z e f g h =
+              let p : s * a ≡ a * s = omega arith in
+              let q : s * b ≡ b * s = omega arith in
+              omega arith
+
+      pub step_waiting : AreWaiting extent n top (stepped image r s w)
+      step_waiting x m = elim (Among_from_append x (each_waits w.factor (covers_down r (times_swap r s w.perm))) ((record { perm = times_swap r s w.perm; factor = replaced (image (times_swap r s w.perm)) w.factor }) ∷ []) m) [
+        | inl l ↦ each_among (IsWaiting extent n top) w.factor (covers_down r (times_swap r s w.perm)) cover_waits x l
+        | inr q ↦ elim q [
+          | inl e ↦
+              subst (IsWaiting extent n top) (sym e)
+              (let k = lowered in
+              let inverted = k.inverted in
+              let inside = is.inside in
+              record {
+                short = k.lower;
+                inside = omega arith;
+                labels = labels_replaced (image (times_swap r s w.perm)) (λ label. extent label + inversions (times_swap r s w.perm) ≤ top) w.factor
+                    (λ u i z j. let g = (grown u i).labels z j in omega arith);
+              })
+          | inr k ↦ absurd k
+        ]
+      ]
+
+      pub step_shares : 1 ≤ top → (x : WithList L) → Among x (stepped image r s w) → 1 ≤ share n (top + extra) x.perm
+      step_shares some x m = share_positive n (top + extra) x.perm (step_waiting x m).short (omega arith)
+
+-- the permutations that the rule makes weigh less than the one that they come of
+covers_weigh_less : (n r s : ℕ) (w : List ℕ) → n ≤ 254 → IsShort n w → IsTransition w r s → weigh weight (covers_down r (times_swap r s w)) + weight (times_swap r s w) < weight w
+covers_weigh_less n r s w small short t =
+    let o = short.one_line in
+    let few = short.few in
+    let place = place_within w r s o t in
+    let p0 = place.0 in
+    let p1 = place.1 in
+    let v = short_transition n w r s short t in
+    let vf = v.few in
+    let less : rank 256 (times_swap r s w) < rank 256 w = rank_lower 256 (times_swap r s w) w v.one_line (omega arith) (transition_lowers w r s o t) in
+    let first = pow_below (rank 256 (times_swap r s w)) (rank 256 w) less in
+    let covers = weigh_most weight (covers_down r (times_swap r s w)) (256 ^ (rank 256 w - 1)) (λ x m.
+    let xs = short_cover n r (times_swap r s w) x v (omega arith) m in
+    let xf = xs.few in
+    pow_below (rank 256 x) (rank 256 w) (rank_lower 256 x w xs.one_line (omega arith) (transition_covers_lower w r s o t x m))) in
+    let count = count_covers_down r (times_swap r s w) in
+    let more = mul-le-mul_left (256 ^ (rank 256 w - 1)) count in
+    let all = weights_less (rank 256 w) r (omega arith) p0 (omega arith) in
+    by (length (covers_down r (times_swap r s w))) (r - 1) (256 ^ (rank 256 w - 1)) (weigh weight (covers_down r (times_swap r s w))) (weight (times_swap r s w)) (weight w) covers more first all
+  where
+    by : (a b p c d e : ℕ) → c ≤ a * p → p * a ≤ p * b → d ≤ p → b * p + p < e → c + d < e
+    by a b p c d e h k l m =
+        let f : p * a ≡ a * p = omega arith in
+        let g : p * b ≡ b * p = omega arith in
+        omega arith
+
+pub step_load : {L : Type 0} (image : List ℕ → L → WholeTermsOf L) (r s : ℕ) (w : WithList L) → IsShort 254 w.perm → IsTransition w.perm r s → load (stepped image r s w) < weight w.perm
+step_load {L} image r s w short t =
+    let a = load_append (each_waits w.factor (covers_down r (times_swap r s w.perm))) ((record { perm = times_swap r s w.perm; factor = replaced (image (times_swap r s w.perm)) w.factor }) ∷ []) in
+    let b = each_load w.factor (covers_down r (times_swap r s w.perm)) in
+    let c = covers_weigh_less 254 r s w.perm (omega arith) short t in
+    omega arith
+
+-- what is put in its place, as it is computed
+pub stepped_as : {L T : Type 0} (image : T → L → WholeTermsOf L) (made : List ℕ → T) (r s : ℕ) (w : WithList L) (down : List (List ℕ)) (lower : List ℕ) (factor : T)
+    → lower ≡ times_swap r s w.perm → down ≡ covers_down r lower → factor ≡ made lower
+    → each_waits w.factor down ++ (record { perm = lower; factor = replaced (image factor) w.factor }) ∷ [] ≡ stepped (λ v. image (made v)) r s w
+stepped_as {L} {T} image made r s w down lower factor lower_is down_is factor_is =
+    ap (λ (xs : List (List ℕ)). each_waits w.factor xs ++ (record { perm = lower; factor = replaced (image factor) w.factor }) ∷ []) down_is
+    ∙ ap (λ (t : T). each_waits w.factor (covers_down r lower) ++ (record { perm = lower; factor = replaced (image t) w.factor }) ∷ []) factor_is
+    ∙ ap (λ (v : List ℕ). each_waits w.factor (covers_down r v) ++ (record { perm = v; factor = replaced (image (made v)) w.factor }) ∷ []) lower_is

@@ -1,0 +1,12 @@
+-- Number words, and with what words begin (this project's own).
+use Rattle.std.specs.Prelude.{◌≡◌, ℕ, true, List, [], ◌∷◌}
+use Rattle.sym_model.specs.Form.{is_number_word}
+
+-- the word is a number
+abbrev pub IsNumber : List ℕ → Type 0
+IsNumber text = is_number_word text ≡ true
+
+-- the first of the words, where there is one, is not of the kind
+abbrev pub BeginsOtherwise : (List ℕ → Type 0) → List (List ℕ) → Type 0
+BeginsOtherwise P [] = Unit {0}
+BeginsOtherwise P (text ∷ words) = P text → ⊥

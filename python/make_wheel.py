@@ -1,0 +1,174 @@
+#!/usr/bin/env python3
+"""Makes the wheel of the Python package: `python/make_wheel.py [FOLDER] [--program FILE] [--library FILE]`, into build/ without a folder.
+
+It is also the backend that pip calls for `pip install ./python`, of a checkout or of a released archive. The program and the library go
+into the wheel, each from where it is: given, in the folder, beside this one in an archive, or as the checkout has built it. Nothing but
+Python 3.8 is needed: a wheel of a package without dependencies is an archive with some small files about itself."""
+import argparse
+import base64
+import hashlib
+import os
+import re
+import subprocess
+import sys
+import tarfile
+import zipfile
+
+HERE = os.path.dirname(os.path.abspath(__file__))
+TOP = os.path.dirname(HERE)
+BUILD = os.path.join(TOP, "build")
+PREBUILT = os.path.join(TOP, "prebuilt")
+PROGRAMS = [f"{TOP}/calc-static", f"{TOP}/calc", f"{TOP}/crates/calc/out/calc"]
+LIBRARIES = [f"{TOP}/libyorqanish.so", f"{BUILD}/libyorqanish.so"]
+# The oldest glibc that a tag of pip names, and the tag's older name.
+OLDEST, OLDEST_TAG = 17, "manylinux_2_17_x86_64.manylinux2014_x86_64"
+
+
+def text_of(path):
+    with open(path, encoding="utf-8") as file:
+        return file.read()
+
+
+def content_of(path):
+    with open(path, "rb") as file:
+        return file.read()
+
+
+def version():
+    """The version of the checkout or of the archive, or of what a source archive has of it."""
+    return text_of(next(it for it in (f"{TOP}/VERSION", f"{HERE}/yorqanish/VERSION") if os.path.exists(it))).strip()
+
+
+def binary(paths):
+    """The first of the files that is there and no script."""
+    return next((it for it in paths if it and os.path.isfile(it) and content_of(it)[:4] == b"\x7fELF"), None)
+
+
+def prebuilt(name):
+    """The file of a checkout's prebuilt/, if that was made of the sources that are here."""
+    if not os.path.isfile(f"{PREBUILT}/MADE_OF"):
+        return None
+    recorded = dict(line.split(" ", 1) for line in text_of(f"{PREBUILT}/MADE_OF").splitlines())
+    sources = subprocess.run(["sh", f"{TOP}/release/digest"], stdout=subprocess.PIPE, universal_newlines=True, check=False).stdout.strip()
+    return f"{PREBUILT}/{name}" if recorded.get("sources") == sources else None
+
+
+def tag_of(binaries):
+    """Where the wheel runs: by the newest glibc that its binaries ask for."""
+    if not binaries:
+        return "py3-none-any"
+    minors = [int(it) for path in binaries for it in re.findall(rb"GLIBC_2\.(\d+)", content_of(path))]
+    newest = max([OLDEST, *minors])
+    return f"py3-none-{OLDEST_TAG if newest == OLDEST else f'manylinux_2_{newest}_x86_64'}"
+
+
+def fields():
+    """The fields of METADATA, of the project's table."""
+    project = text_of(f"{HERE}/pyproject.toml")
+    said = dict(re.findall(r'^([a-z-]+) = "(.*)"$', project, re.MULTILINE))
+    lists = {name: re.findall(r'"(.*?)"', it) for name, it in re.findall(r"^([a-z]+) = \[(.*?)\]$", project, re.MULTILINE | re.DOTALL)}
+    return [
+        "Metadata-Version: 2.1",
+        f"Name: {said['name']}",
+        f"Version: {version()}",
+        f"Summary: {said['description']}",
+        f"Author: {lists['authors'][0]}",
+        "License: MIT",
+        "License-File: LICENSE",
+        f"Keywords: {','.join(lists['keywords'])}",
+        *(f"Classifier: {it}" for it in lists["classifiers"]),
+        f"Requires-Python: {said['requires-python']}",
+        "Description-Content-Type: text/markdown",
+    ]
+
+
+def metadata():
+    return "\n".join(fields()) + "\n\n" + text_of(f"{HERE}/README.md")
+
+
+def contents(program, library, tag):
+    """The files of the wheel, by their names in it."""
+    folder = f"{HERE}/yorqanish"
+    files = {f"yorqanish/{name}": content_of(f"{folder}/{name}") for name in sorted(os.listdir(folder)) if name.endswith((".py", ".typed"))}
+    files["yorqanish/VERSION"] = f"{version()}\n".encode()
+    if program:
+        files["yorqanish/calc"] = content_of(program)
+    if library:
+        files["yorqanish/libyorqanish.so"] = content_of(library)
+    about = f"yorqanish-{version()}.dist-info"
+    files[f"{about}/METADATA"] = metadata().encode()
+    pure = "true" if tag.endswith("any") else "false"
+    tags = [f"py3-none-{it}" for it in tag[len("py3-none-") :].split(".")]
+    files[f"{about}/WHEEL"] = "\n".join(
+        ["Wheel-Version: 1.0", "Generator: make_wheel", f"Root-Is-Purelib: {pure}", *(f"Tag: {it}" for it in tags), ""]
+    ).encode()
+    licence = next((it for it in (f"{TOP}/LICENSE", f"{HERE}/LICENSE") if os.path.exists(it)), None)
+    if licence:
+        files[f"{about}/LICENSE"] = content_of(licence)
+    record = "".join(f"{name},sha256={digest(it)},{len(it)}\n" for name, it in files.items())
+    files[f"{about}/RECORD"] = (record + f"{about}/RECORD,,\n").encode()
+    return files
+
+
+def digest(content):
+    return base64.urlsafe_b64encode(hashlib.sha256(content).digest()).rstrip(b"=").decode()
+
+
+def make(out, program=None, library=None):
+    """Makes the wheel in a folder; its name. A file that is named has to be there."""
+    for path in (program, library):
+        if path and not binary([path]):
+            raise SystemExit(f"make_wheel: {path} is no program and no library")
+    program = binary([program, f"{out}/calc", prebuilt("calc"), *PROGRAMS])
+    library = binary([library, f"{out}/libyorqanish.so", prebuilt("libyorqanish.so"), *LIBRARIES])
+    for path, what in ((program, "the program calc"), (library, "libyorqanish.so")):
+        if not path:
+            print(f"make_wheel: {what} is not built, and is left out", file=sys.stderr)
+    tag = tag_of([it for it in (program, library) if it])
+    name = f"yorqanish-{version()}-{tag}.whl"
+    with zipfile.ZipFile(os.path.join(out, name), "w", zipfile.ZIP_DEFLATED) as wheel:
+        for file, content in contents(program, library, tag).items():
+            # (a fixed date, so that the same sources make the same wheel)
+            entry = zipfile.ZipInfo(file, (2020, 1, 1, 0, 0, 0))
+            entry.external_attr = (0o100755 if file == "yorqanish/calc" else 0o100644) << 16
+            wheel.writestr(entry, content, zipfile.ZIP_DEFLATED)
+    return name
+
+
+# ---- what pip calls
+
+def build_wheel(wheel_directory, config_settings=None, metadata_directory=None):
+    return make(wheel_directory)
+
+
+def build_sdist(sdist_directory, config_settings=None):
+    """The source archive: this folder, with the version and the licence, and the binaries if they are there."""
+    name = f"yorqanish-{version()}"
+    files = {it: f"{HERE}/{it}" for it in ("README.md", "pyproject.toml", "make_wheel.py")}
+    names = (it for it in sorted(os.listdir(f"{HERE}/yorqanish")) if it.endswith((".py", ".typed")))
+    files.update({f"yorqanish/{it}": f"{HERE}/yorqanish/{it}" for it in names})
+    files.update({"yorqanish/VERSION": f"{TOP}/VERSION", "LICENSE": f"{TOP}/LICENSE"})
+    with tarfile.open(os.path.join(sdist_directory, f"{name}.tar.gz"), "w:gz", format=tarfile.PAX_FORMAT) as archive:
+        for inside, path in files.items():
+            archive.add(path, f"{name}/{inside}")
+        path = os.path.join(sdist_directory, "PKG-INFO")
+        with open(path, "w", encoding="utf-8") as file:
+            file.write(metadata())
+        archive.add(path, f"{name}/PKG-INFO")
+        os.remove(path)
+    return f"{name}.tar.gz"
+
+
+def main():
+    words = argparse.ArgumentParser(description="Makes the wheel of the Python package.")
+    words.add_argument("folder", nargs="?", default=BUILD)
+    words.add_argument("--program", help="the program calc (else as it is found)")
+    words.add_argument("--library", help="libyorqanish.so (else as it is found)")
+    given = words.parse_args()
+    out = os.path.abspath(given.folder)
+    os.makedirs(out, exist_ok=True)
+    print(os.path.join(out, make(out, given.program, given.library)))
+
+
+if __name__ == "__main__":
+    main()

@@ -1,0 +1,145 @@
+"""The kinds of answers that are lists of terms: how the labels of each are read, looked up, and written."""
+from __future__ import annotations
+
+from functools import lru_cache
+from typing import Any, Callable, Dict, NamedTuple, Tuple
+
+from ._arguments import Numbers, numbers, partition, whole, without_zeros
+
+
+class Kind(NamedTuple):
+    """`read` reads a printed label, `find` makes a label of what is asked for, `plain` and `latex` write one; `letter` is the basis."""
+
+    read: Callable[[str], Any]
+    find: Callable[[Any], Any]
+    plain: Callable[[str, Any], str]
+    latex: Callable[[str, Any], str]
+
+
+# ---- reading what is printed (labels recur from answer to answer)
+
+@lru_cache(1 << 16)
+def listed(label: str) -> Numbers:
+    """The numbers of a label: `(2,1)` is (2, 1)."""
+    if label[:1] != "(" or label[-1:] != ")":
+        raise ValueError(f"{label!r} is not a label")
+    inner = label[1:-1]
+    return tuple(map(int, inner.split(","))) if inner else ()
+
+
+def two(label: str) -> "Tuple[Numbers, Numbers]":
+    first, second = label.split(" ")
+    return listed(first), listed(second)
+
+
+def power(label: str) -> "Tuple[int, Numbers]":
+    first, second = label.split("  ")
+    if first[:2] != "q^":
+        raise ValueError(f"{label!r} is not a label")
+    return int(first[2:]), listed(second)
+
+
+# ---- looking labels up
+
+def one_list(label: Any) -> Any:
+    """A label of one number may be asked for by the number: a[2] is a[(2,)]."""
+    return (label,) if hasattr(label, "__index__") and not hasattr(label, "__iter__") else label
+
+
+def a_partition(label: Any) -> Numbers:
+    parts = partition(one_list(label), "the label")
+    if any(a < b for a, b in zip(parts, parts[1:])):
+        raise ValueError(f"the label: {label!r} is not a partition")
+    return parts
+
+
+def exponents(label: Any) -> Numbers:
+    return without_zeros(numbers(one_list(label), "the label"))
+
+
+def a_permutation(label: Any) -> Numbers:
+    letters = numbers(one_list(label), "the label")
+    end = len(letters)
+    if not end or sorted(letters) != list(range(1, end + 1)):
+        raise ValueError(f"the label: {label!r} is not a permutation")
+    while end > 1 and letters[end - 1] == end:
+        end -= 1
+    return letters[:end]
+
+
+def both(first: Callable[[Any], Any], second: Callable[[Any], Any]) -> Callable[[Any], Any]:
+    """How a label of two parts is looked up."""
+
+    def find(label: Any) -> Any:
+        if isinstance(label, (str, bytes)) or not hasattr(label, "__iter__"):
+            raise TypeError(f"the label: {label!r} is not a pair")
+        parts = tuple(label)
+        if len(parts) != 2:
+            raise ValueError(f"the label: {label!r} is not a pair")
+        return first(parts[0]), second(parts[1])
+
+    return find
+
+
+# ---- one-line forms
+
+def atom(letter: str, label: Numbers) -> str:
+    return f"{letter}[{','.join(map(str, label))}]"
+
+
+def powers_of(letter: str, label: Numbers) -> str:
+    """A monomial by its exponents; nothing if they are all 0."""
+    return "*".join(f"{letter}{i}" + (f"^{e}" if e > 1 else "") for i, e in enumerate(label, 1) if e)
+
+
+def after(front: str, label: str) -> str:
+    return f"{front}*{label}" if front else label
+
+
+def power_of_q(exponent: int) -> str:
+    return "" if exponent == 0 else "q" if exponent == 1 else f"q^{exponent}"
+
+
+# ---- LaTeX
+
+def indexed(letter: str, label: Numbers) -> str:
+    return f"{letter}_{{{','.join(map(str, label)) or chr(92) + 'emptyset'}}}"
+
+
+def product(letter: str, label: Numbers) -> str:
+    """A monomial by its exponents; nothing if they are all 0."""
+    return " ".join(f"{letter}_{{{i}}}" + (f"^{{{e}}}" if e > 1 else "") for i, e in enumerate(label, 1) if e)
+
+
+def permuted(label: Numbers) -> str:
+    return f"\\mathfrak{{S}}_{{{' '.join(map(str, label))}}}"
+
+
+def powered(label: "Tuple[int, Numbers]") -> str:
+    q = "" if label[0] == 0 else "q " if label[0] == 1 else f"q^{{{label[0]}}} "
+    return q + indexed("\\sigma", label[1])
+
+
+KINDS: Dict[str, Kind] = {
+    "symmetric": Kind(listed, a_partition, atom, indexed),
+    "pairs": Kind(
+        two,
+        both(a_partition, a_partition),
+        lambda letter, it: f"{atom('s', it[0])}#{atom('s', it[1])}",
+        lambda letter, it: f"{indexed('s', it[0])} \\otimes {indexed('s', it[1])}",
+    ),
+    "powers": Kind(
+        power,
+        both(lambda it: whole(it, "the power of q"), a_partition),
+        lambda letter, it: after(power_of_q(it[0]), atom("s", it[1])),
+        lambda letter, it: powered(it),
+    ),
+    "monomials": Kind(listed, exponents, lambda letter, it: powers_of("x", it), lambda letter, it: product("x", it)),
+    "permutations": Kind(listed, a_permutation, lambda letter, it: atom("X", it), lambda letter, it: permuted(it)),
+    "shifts": Kind(
+        two,
+        both(a_permutation, exponents),
+        lambda letter, it: after(powers_of("y", it[1]), atom("X", it[0])),
+        lambda letter, it: f"{product('y', it[1])} {permuted(it[0])}".strip(),
+    ),
+}

@@ -1,0 +1,136 @@
+"""Compiles the proved crates as `rt ci` left them: for library/build, release/prove and release/prebuilt, and for tests/prebuilt."""
+import functools
+import hashlib
+import os
+import shutil
+import subprocess
+import sys
+import tempfile
+
+TOP = os.path.abspath(os.path.join(os.path.dirname(os.path.abspath(__file__)), ".."))
+SOURCES = ("src", "specs", "proofs")
+# What each program and each library for C is linked with of the kit, beside its C library.
+PROGRAM, LIBRARY = ("c/libos_c.a", "c/liblibc_c.a"), ("c/liblibc_c.a",)
+
+# The kit's clang, in front of which the LLVM module is kept.
+KEEPING = """#!/bin/sh
+for it in "$@"; do case "$it" in *.bc | *.ll) cp "$it" "{kept}" ;; esac; done
+exec "{clang}" "$@"
+"""
+
+
+def run(*words, **how):
+    subprocess.run([str(word) for word in words], check=True, **how)
+
+
+def said_by(*words):
+    return subprocess.run(words, capture_output=True, text=True, check=True).stdout.strip()
+
+
+@functools.cache
+def kit():
+    """The folder of the kit."""
+    return os.path.dirname(said_by("rt", "doc"))
+
+
+def kit_name():
+    """The kit's name, which is the last line that it says of itself."""
+    return said_by("rt", "version").splitlines()[-1]
+
+
+def crate(name):
+    """The crate, as the kit's own commands see it."""
+    if f"{kit()}/bin" not in sys.path:
+        sys.path.insert(0, f"{kit()}/bin")
+    import rtlib
+
+    return rtlib.Crate(f"{TOP}/crates/{name}", TOP, {})
+
+
+def files_of(folder):
+    """The files that a check of the crate reads."""
+    for kind in SOURCES:
+        for place, _, names in os.walk(f"{folder}/{kind}"):
+            yield from (os.path.join(place, name) for name in names)
+
+
+def is_older(made, name):
+    """Whether what was made of the crate is older than a source of it."""
+    time = os.path.getmtime(made)
+    return any(os.path.getmtime(file) > time for file in files_of(f"{TOP}/crates/{name}"))
+
+
+def lacks(name):
+    """The libraries below the crate that are not there, or older than a source of theirs."""
+    return [it.name for it in crate(name).below() if not os.path.exists(it.rlib) or is_older(it.rlib, it.name)]
+
+
+def toolchain(room, kept):
+    """The kit's toolchain, but for a clang that keeps the module."""
+    tools = f"{room}/toolchain/bin"
+    os.makedirs(tools)
+    os.symlink(f"{kit()}/toolchain/lib", f"{room}/toolchain/lib")
+    for name in os.listdir(f"{kit()}/toolchain/bin"):
+        os.symlink(os.path.realpath(f"{kit()}/toolchain/bin/{name}"), f"{tools}/{name}")
+    os.remove(f"{tools}/clang")
+    with open(f"{tools}/clang", "w", encoding="utf-8") as script:
+        script.write(KEEPING.format(kept=kept, clang=f"{kit()}/toolchain/bin/clang"))
+    os.chmod(f"{tools}/clang", 0o755)
+    return f"{room}/toolchain"
+
+
+def compile_crate(name, to, module=None):
+    """Proves a program, or a static library, over the proved libraries below it, and compiles it to an object, or to an archive of
+    one. The LLVM module that the kit hands to clang on the way is kept, where a path for it is given."""
+    with tempfile.TemporaryDirectory() as room:
+        tools = toolchain(room, module) if module else f"{kit()}/toolchain"
+        words = [*crate(name).words([], keeps=False), "--toolchain", tools, "--backend", "llvm", "-o", to]
+        run(f"{kit()}/bin/rattle", "build", *words, cwd=f"{TOP}/crates/{name}", stdout=sys.stderr, stdin=subprocess.DEVNULL)
+
+
+def link_program(made, program):
+    """Links the object of a program as `rt ci` does, with the kit's own C library."""
+    words = ["--target", "x86_64-unknown-linux-gnu", "--toolchain", f"{kit()}/toolchain", "-o", program, made]
+    run(f"{kit()}/bin/rattle-link", *words, *(f"{kit()}/{it}" for it in PROGRAM), stdout=sys.stderr)
+
+
+def link_static(made, program):
+    """Links the object of a program with the system's static C library."""
+    run("gcc", "-static-pie", "-s", "-Wl,--build-id=none", "-o", program, made, *(f"{kit()}/{it}" for it in PROGRAM))
+
+
+def link_library(made, library, exports):
+    """Links the archive of a static library as a shared one, by the kit's own linker and with its own C library, so that the same
+    sources and the same kit make the same bytes on any machine."""
+    how = f"-shared -soname {os.path.basename(library)} --hash-style=gnu --build-id=none --gc-sections --strip-all -z defs -z relro -z now"
+    parts = ["--whole-archive", made, "--no-whole-archive", *(f"{kit()}/{it}" for it in LIBRARY)]
+    system = [f"{kit()}/toolchain/lib/{it}" for it in ("libc.so.6", "libgcc.a")]
+    run(f"{kit()}/toolchain/bin/ld.lld", *how.split(), f"--version-script={exports}", "-o", library, *parts, *system)
+
+
+def sum_of(*paths):
+    """The SHA-256 of files, one after the other."""
+    sum = hashlib.sha256()
+    for path in paths:
+        with open(path, "rb") as file:
+            sum.update(file.read())
+    return sum.hexdigest()
+
+
+def digest():
+    """The digest of the sources, of crates/ and crates.txt."""
+    return said_by(f"{TOP}/release/digest")
+
+
+def static_parts():
+    """A sum of what this machine adds to a static program: its linker, and the files of its C library and compiler."""
+    names = "libc.a libgcc.a libgcc_eh.a rcrt1.o crti.o crtbeginS.o crtendS.o crtn.o".split()
+    files = [said_by("gcc", f"-print-file-name={name}") for name in names]
+    return sum_of(*files, os.path.realpath(shutil.which("ld")))
+
+
+def page_parts():
+    """A sum of what goes into the page beside the C library: its own sources, and the version of the tool that lowers its module."""
+    names = sorted(set(os.listdir(f"{TOP}/web")) - {"browse.py", "cases.mjs", "__pycache__"})
+    version = said_by("wasm-opt", "--version") if shutil.which("wasm-opt") else "none"
+    return f"{sum_of(*(f'{TOP}/web/{name}' for name in names))} {version}"

@@ -1,0 +1,69 @@
+"""What the tests of the Python package share. Each test is a function `test_..` of a file of this folder without parameters, which
+tests/python_package calls in a process of its own, so that one that hangs stops no other."""
+import os
+import subprocess
+import sys
+import time
+from contextlib import contextmanager
+
+TOP = os.path.abspath(os.path.join(os.path.dirname(os.path.abspath(__file__)), "../.."))
+PROGRAM = os.environ["YORQANISH_CALC"]
+LIBRARY = os.environ.get("YORQANISH_LIBRARY", "")
+
+
+class Skipped(Exception):
+    """What the test needs is not there."""
+
+
+def need(module):
+    """The module of another package, or this test is skipped."""
+    try:
+        return __import__(module)
+    except ImportError:
+        raise Skipped(f"there is no {module}") from None
+
+
+def printed(lines):
+    """The blocks that the program itself prints for these lines, without the package."""
+    done = subprocess.run([PROGRAM, "batch"], input="\n".join(lines) + "\n", capture_output=True, encoding="ascii", timeout=60)
+    return done.stdout.split("--\n")
+
+
+def terms(block):
+    """The terms of a block of partitions, read without the package."""
+    read = (line.split("  ") for line in block.splitlines() if line != "0")
+    return {tuple(int(n) for n in label.strip("()").split(",") if n): int(c) for c, label in read}
+
+
+def same(got, wanted):
+    assert got == wanted, f"{got!r} is not {wanted!r}"
+
+
+@contextmanager
+def raises(kind, *words):
+    """The body raises this kind of error, with these words in its message."""
+    try:
+        yield
+    except kind as error:
+        missing = [it for it in words if it not in str(error)]
+        assert not missing, f"{error} does not say {missing}"
+    else:
+        raise AssertionError(f"no {kind} was raised")
+
+
+@contextmanager
+def within(seconds):
+    """The body takes at most this long."""
+    began = time.perf_counter()
+    yield
+    took = time.perf_counter() - began
+    assert took <= seconds, f"it took {took:.2f} s, and {seconds} s were allowed"
+
+
+def main(tests):
+    """Runs the test that the command line names."""
+    try:
+        tests[sys.argv[1]]()
+    except Skipped as why:
+        print(why)
+        sys.exit(77)

@@ -1,0 +1,114 @@
+"""The package as it is installed: by pip from a checkout and from an archive of it, with the program and the library in it."""
+import os
+import shutil
+import subprocess
+import sys
+import tempfile
+import zipfile
+
+from common import LIBRARY, PROGRAM, TOP, Skipped, main, same
+
+TRIED = """
+import os, yorqanish
+from yorqanish import Calculator
+calc = Calculator()
+print(yorqanish.__version__, os.path.basename(calc._way.path), repr(calc.mult([1], [1])))
+"""
+
+
+def run(*words, **how):
+    done = subprocess.run([str(it) for it in words], capture_output=True, text=True, **how)
+    assert done.returncode == 0, done.stdout[-800:] + done.stderr[-1500:]
+    return done.stdout
+
+
+def bare():
+    """An environment in which nothing of the checkout is found, and nothing can be fetched."""
+    return {"PATH": "/usr/bin:/bin", "HOME": "/nonexistent", "PIP_NO_INDEX": "1", "PIP_DISABLE_PIP_VERSION_CHECK": "1", "PIP_NO_CACHE_DIR": "1"}
+
+
+def checkout(room):
+    """What a checkout has of the package, with the program and the library where they are built."""
+    top = os.path.join(room, "checkout")
+    os.makedirs(f"{top}/crates/calc/out")
+    shutil.copytree(f"{TOP}/python", f"{top}/python", ignore=shutil.ignore_patterns("__pycache__", "build"))
+    for name in ("VERSION", "LICENSE", "calc"):
+        shutil.copy(f"{TOP}/{name}", top)
+    shutil.copy(PROGRAM, f"{top}/crates/calc/out/calc")
+    if LIBRARY:
+        os.mkdir(f"{top}/build")
+        shutil.copy(LIBRARY, f"{top}/build")
+    return top
+
+
+def version():
+    with open(f"{TOP}/VERSION", encoding="ascii") as file:
+        return file.read().strip()
+
+
+def installs(room, source):
+    """pip installs the source into a folder of its own, without a network, and the package answers there by its own program."""
+    there = f"{room}/there"
+    run(sys.executable, "-m", "pip", "install", "--target", there, source, env=bare(), cwd=room)
+    env = {**bare(), "PYTHONPATH": there}
+    same(run(sys.executable, "-c", TRIED, env=env, cwd=room), f"{version()} calc {{(2,): 1, (1, 1): 1}}\n")
+    if LIBRARY:
+        by_library = TRIED.replace("Calculator()", "Calculator(library=True)")
+        same(run(sys.executable, "-c", by_library, env=env, cwd=room), f"{version()} libyorqanish.so {{(2,): 1, (1, 1): 1}}\n")
+    said = "from importlib.metadata import metadata as m; it = m('yorqanish'); print(it['Version'], it['Author'], it['License'], sep=', ')"
+    same(run(sys.executable, "-c", said, env=env, cwd=room), f"{version()}, The Yorqanish authors, MIT\n")
+
+
+def test_a_checkout_is_installed():
+    with tempfile.TemporaryDirectory() as room:
+        installs(room, f"{checkout(room)}/python")
+
+
+def test_a_released_archive_is_installed():
+    """As an archive has it: the program and the library beside the folder python/."""
+    with tempfile.TemporaryDirectory() as room:
+        top = checkout(room)
+        shutil.rmtree(f"{top}/crates")
+        os.remove(f"{top}/calc")
+        shutil.copy(PROGRAM, f"{top}/calc")
+        if LIBRARY:
+            shutil.move(f"{top}/build/libyorqanish.so", top)
+        installs(room, f"{top}/python")
+
+
+def test_a_wheel_is_installed():
+    """The wheel's tag is of no newer system than its binaries ask for; the same sources make the same wheel; a source archive makes one."""
+    with tempfile.TemporaryDirectory() as room:
+        top, outs = checkout(room), []
+        for name in ("one", "two"):
+            path = run(sys.executable, f"{top}/python/make_wheel.py", f"{room}/{name}").strip()
+            with open(path, "rb") as file:
+                outs.append(file.read())
+        assert outs[0] == outs[1] and "-py3-none-manylinux_2_" in path, path
+        with zipfile.ZipFile(path) as wheel:
+            assert {"yorqanish/calc", "yorqanish/__init__.py", "yorqanish/py.typed", "yorqanish/VERSION"} <= set(wheel.namelist())
+        installs(room, path)
+
+
+def test_the_tag_of_the_library_alone():
+    """The library needs no more than glibc 2.14, so that its wheel runs where pip knows manylinux2014."""
+    if not LIBRARY:
+        raise Skipped("there is no library")
+    with tempfile.TemporaryDirectory() as room:
+        top = checkout(room)
+        shutil.rmtree(f"{top}/crates")
+        name = os.path.basename(run(sys.executable, f"{top}/python/make_wheel.py", f"{room}/out").strip())
+        same(name, f"yorqanish-{version()}-py3-none-manylinux_2_17_x86_64.manylinux2014_x86_64.whl")
+
+
+def test_a_source_archive_has_what_a_wheel_needs():
+    with tempfile.TemporaryDirectory() as room:
+        top = checkout(room)
+        run(sys.executable, "-c", f"import make_wheel; make_wheel.build_sdist({room!r})", cwd=f"{top}/python")
+        run("tar", "xf", f"{room}/yorqanish-{version()}.tar.gz", cwd=room)
+        name = run(sys.executable, "-c", f"import make_wheel; print(make_wheel.build_wheel({room!r}))", cwd=f"{room}/yorqanish-{version()}")
+        same(name.strip(), f"yorqanish-{version()}-py3-none-any.whl")
+
+
+if __name__ == "__main__":
+    main(globals())

@@ -1,0 +1,247 @@
+// What tests/page tries in the open page, beside whose scripts this runs. Each check gives a value; tests/page compares it.
+(() => {
+  const pause = (ms = 20) => new Promise((next) => setTimeout(next, ms));
+  const all = (what, of = document) => [...of.querySelectorAll(what)];
+  const textsOf = (what, of) => all(what, of).map((it) => it.textContent);
+
+  /** Whether something is so within a minute. */
+  const until = async (test) => {
+    for (const end = performance.now() + 60000; performance.now() < end; await pause()) if (test()) return true;
+    return false;
+  };
+
+  const run = (text) => {
+    at("line").value = text;
+    at("run").click();
+  };
+
+  /** The latest answer, after a number of answers more have come. */
+  const more = async (count, action) => {
+    const before = all("article").length;
+    await action();
+    await until(() => all("article").length >= before + count);
+    return all("article")[0];
+  };
+  const answer = (text) => more(1, () => run(text));
+  const press = (place, name) => all("button", place).find((it) => it.textContent === name).click();
+
+  /** The names of what is not so. */
+  const failing = () => {
+    const names = [];
+    return { names, ok: (name, isSo) => isSo || names.push(name) };
+  };
+  const isWide = () => document.documentElement.scrollWidth > innerWidth;
+
+  const checks = {
+    ready: () => until(() => !at("run").disabled),
+
+    async texts(lines) {
+      const texts = [];
+      for (const line of lines) texts.push((await answer(line)).querySelector("pre").textContent);
+      return texts;
+    },
+
+    async refusals(lines) {
+      const found = [];
+      for (const line of lines) {
+        const it = await answer(line), mark = it.querySelector("mark");
+        found.push([line, it.querySelector(".said").textContent, mark && mark.textContent]);
+      }
+      return found;
+    },
+
+    /** The lines of cases that are refused with no sentence of their own, and those that are answered and would be changed. */
+    sentences(cases) {
+      const isBad = (told) => !told || told.sentence === SENTENCES.offence || /undefined|[{}]/.test(told.sentence);
+      const wrong = ([line, status, text]) => (status < 2 ? readTyped(line).line !== line : isBad(explained(line, status, text)));
+      return cases.filter(wrong).map(([line]) => line.slice(0, 80));
+    },
+
+    statuses: () => [[4, "! Large\n"], [5, ""], [7, ""], [-1, ""]].map(([it, text]) => explained("mult 1 - 1", it, text).sentence),
+
+    async typed(lines) {
+      const found = [];
+      for (const line of lines) {
+        const it = await answer(line);
+        found.push([line, it.querySelector("h3").textContent, it.querySelector(".note").textContent, it.className]);
+      }
+      run("$ calc");
+      return [found, at("state").textContent];
+    },
+
+    async several(first, pasted) {
+      const paste = new Event("paste", { cancelable: true });
+      paste.clipboardData = { getData: () => pasted };
+      at("line").value = "";
+      at("line").dispatchEvent(paste);
+      await more(3, () => run(`${first};${at("line").value}`));
+      return textsOf("article pre").slice(0, 3);
+    },
+
+    help() {
+      const row = (it) => {
+        const details = it.querySelector("details"), closed = details.offsetHeight;
+        details.open = true;
+        return [it.querySelector("h3 code").textContent, details.offsetHeight > closed, details.textContent, textsOf("[data-line]", it)];
+      };
+      const rows = all("#commands li").map(row);
+      return [rows, isWide()];
+    },
+
+    async queue(long) {
+      const { names, ok } = failing();
+      run(long);
+      run(`coef 1 - 1 -; coef 2 - 1 - 1; ${long}`);
+      ok("it is seen", !at("queue").hidden && all("#waiting li").length === 3);
+      press(all("#waiting li")[0], "Remove");
+      ok("one is removed", all("#waiting li").length === 2);
+      ok("the time passes", await until(() => !at("progress").hidden && parseFloat(at("elapsed").textContent) > 0.3));
+      ok("the state says it", at("state").textContent.endsWith("is running."));
+      return names;
+    },
+
+    /** What comes after Escape was pressed. */
+    async stopped() {
+      const { names, ok } = failing();
+      ok("it stops", await until(() => textsOf("article header span").some((it) => it.startsWith("stopped"))));
+      ok("the next one runs", await until(() => textsOf("article h3")[0] === "coef 2 - 1 - 1"));
+      ok("its answer", textsOf("article pre")[0] === "1\n");
+      await until(() => at("waiting").children.length === 0 && !at("stop").disabled);
+      run("coef 1 - 1 -; coef 1 - 1 -");
+      at("clear").click();
+      ok("it is cleared", at("queue").hidden && all("#waiting li").length === 0);
+      await more(1, () => at("stop").click());
+      ok("the button stops", at("stop").disabled && at("progress").hidden);
+      ok("a new module answers", (await answer("coef 3 2 1 - 2 1 - 2 1")).querySelector("pre").textContent === "2\n");
+      return names;
+    },
+
+    async counts(lines) {
+      const found = [];
+      for (const line of lines) found.push((await answer(line)).querySelector("header span").textContent.split(",")[0]);
+      return found;
+    },
+
+    /** A long answer: what is shown, what is said of it, what is downloaded and by which name, and all of it. */
+    async large(line) {
+      const it = await answer(line), pre = it.querySelector("pre"), part = it.querySelector(".part");
+      const found = [pre.textContent, part.firstChild.textContent, textsOf(".drawn .part", it).join("")];
+      const make = URL.createObjectURL, click = HTMLAnchorElement.prototype.click;
+      let blob, name;
+      URL.createObjectURL = (made) => ((blob = made), "about:blank");
+      HTMLAnchorElement.prototype.click = function () {
+        name = this.download;
+      };
+      press(part, "Download");
+      URL.createObjectURL = make;
+      HTMLAnchorElement.prototype.click = click;
+      press(part, "Show more");
+      return [...found, await blob.text(), name, pre.textContent, part.hidden];
+    },
+
+    async drawings() {
+      const { names, ok } = failing();
+      const wide = (await answer("mult 21 - 21")).querySelector(".drawn");
+      ok("wide drawings scroll in themselves", !isWide() && (innerWidth > 600 || wide.scrollWidth > wide.clientWidth));
+      for (const line of ["growth 8 7 6 5 4 3 2 1", "expand -m p s[9,5]", `rsk ${"65535 ".repeat(60)}`]) {
+        await answer(line);
+        ok(`the page is wide after ${line}`, !isWide());
+      }
+      const five = await answer("rsk 65535 10000 65535");
+      const width = Number(/h(\d+)/.exec(five.querySelector("svg path").getAttribute("d"))[1]);
+      ok("five digits fit", all("svg text", five).every((it) => it.getBBox().width <= width - 2));
+      const named = async (line) => all(".drawn [role=img]", await answer(line)).map((it) => it.getAttribute("aria-label"));
+      const found = [];
+      for (const line of ["mult 3 2 1 -", "mult -", "rsk 3 1 2"]) found.push(...(await named(line)));
+      ok("each drawing has a name", all("svg, .drawn table").every((it) => it.getAttribute("aria-label")));
+      return [names, found];
+    },
+
+    async copies(asked) {
+      let copied;
+      const clipboard = { writeText: async (text) => void (copied = text) };
+      Object.defineProperty(navigator, "clipboard", { configurable: true, value: clipboard });
+      const found = [], got = async () => {
+        await pause(0);
+        found.push(copied);
+      };
+      for (const [line, name] of asked) {
+        press(await answer(line), name);
+        await got();
+      }
+      press(all("article")[0], "Copy link");
+      await got();
+      at("cite").click();
+      await got();
+      return [...found, at("citation").textContent, at("state").textContent];
+    },
+
+    about: () => at("about").textContent,
+
+    /** The texts with a contrast below 4.5 and the borders below 3, with what they are on. */
+    async colours() {
+      await answer("$ calc mult 1 2 - 1");
+      await answer("mult -r 2 1 - 1 - 1 - 1");
+      const rgb = (text) => text.match(/[\d.]+/g).map(Number);
+      const linear = (v) => (v <= 0.04045 ? v / 12.92 : ((v + 0.055) / 1.055) ** 2.4);
+      const light = (text) => {
+        const [r, g, b] = rgb(text).map((it) => linear(it / 255));
+        return 0.2126 * r + 0.7152 * g + 0.0722 * b + 0.05;
+      };
+      const contrast = (a, b) => Math.max(light(a), light(b)) / Math.min(light(a), light(b));
+      const ground = (it) => {
+        const colour = getComputedStyle(it).backgroundColor;
+        return rgb(colour)[3] === 0 ? ground(it.parentElement) : colour;
+      };
+      const name = (it) => `${it.localName} ${it.className} ${it.textContent.slice(0, 20)}`;
+      const edge = (it) => Math.min(...[it, it.parentElement].map((on) => contrast(getComputedStyle(it).borderTopColor, ground(on))));
+      const faint = all("input, button, .bar").filter((it) => edge(it) < 3);
+      const texts = all("p, pre, h1, h2, h3, a, span, li, code, td, th, mark, summary, button, figcaption, blockquote");
+      const weak = texts.filter((it) => it.textContent.trim() && contrast(getComputedStyle(it).color, ground(it)) < 4.5);
+      return [[...faint, ...weak].map(name).slice(0, 5), matchMedia("(prefers-color-scheme: dark)").matches];
+    },
+
+    /** What speaks by itself, what has no name or no place in the order of the keys, and what moves. */
+    access() {
+      const live = all("[aria-live], [role=status], [role=alert], [role=log]").map((it) => it.id);
+      const parts = all("button, a, input, summary, pre, .drawn");
+      const unnamed = parts.filter((it) => !it.textContent.trim() && !it.getAttribute("aria-label"));
+      const unreached = parts.filter((it) => it.tabIndex < 0);
+      const moves = getComputedStyle(document.querySelector(".bar"), "::before").animationName;
+      return [live, unnamed.length, unreached.length, moves, matchMedia("(prefers-reduced-motion: reduce)").matches];
+    },
+
+    focus(what) {
+      document.querySelector(what).focus();
+      return all("article").length;
+    },
+    focused: () => document.activeElement.id || document.activeElement.localName,
+    answered: (count) => until(() => all("article").length === count),
+    isOpen: (what) => document.querySelector(what).open,
+    close: (what) => void (document.querySelector(what).open = false),
+
+    async questions() {
+      const found = [];
+      for (const it of all("#questions [data-line]")) {
+        const got = await more(1, () => it.click());
+        const question = it.closest("li").querySelector("h3").textContent;
+        found.push([question, it.dataset.line, got.querySelector("pre").textContent, got.querySelector(".meaning").textContent]);
+      }
+      return [found, at("line").value];
+    },
+
+    async links() {
+      const go = (hash) => more(1, () => void (location.hash = hash));
+      const first = (await go("#coef%202%20-%201%20-%201")).querySelector("h3").textContent;
+      const count = all("article").length;
+      location.hash = "#about";
+      await pause(200);
+      const none = all("article").length - count;
+      return [first, none, (await go("#%E0%A4")).className];
+    },
+
+    firstAnswer: async () => (await until(() => all("article").length > 0)) && performance.getEntriesByName("answer")[0].startTime,
+  };
+
+  globalThis.check = async (name, ...given) => JSON.stringify((await checks[name](...given)) ?? null);
+})();
