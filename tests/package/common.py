@@ -9,6 +9,8 @@ from contextlib import contextmanager
 TOP = os.path.abspath(os.path.join(os.path.dirname(os.path.abspath(__file__)), "../.."))
 PROGRAM = os.environ["YORQANISH_CALC"]
 LIBRARY = os.environ.get("YORQANISH_LIBRARY", "")
+# Whether times are held to their goals, as in tests/transcripts.py; what takes longer than this hangs, on however busy a machine.
+CLOCKS, HANGS = os.environ.get("YORQANISH_CLOCKS") == "1", 120
 
 
 class Skipped(Exception):
@@ -53,11 +55,19 @@ def raises(kind, *words):
 
 @contextmanager
 def within(seconds):
-    """The body takes at most this long."""
-    began = time.perf_counter()
+    """The body does not hang; where clocks are asked for, it takes at most this long."""
+    began, allowed = time.perf_counter(), seconds if CLOCKS else HANGS
     yield
     took = time.perf_counter() - began
-    assert took <= seconds, f"it took {took:.2f} s, and {seconds} s were allowed"
+    assert took <= allowed, f"it took {took:.2f} s, and {allowed} s were allowed"
+
+
+def comes(is_so):
+    """Waits until something is so."""
+    until = time.monotonic() + HANGS
+    while not is_so():
+        assert time.monotonic() < until, "it did not come"
+        time.sleep(0.02)
 
 
 def main(tests):

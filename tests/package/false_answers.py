@@ -265,7 +265,7 @@ def foreign_program(room, body):
 
 FOREIGN = {
     "one that ends": "exit 1",
-    "one that hangs": "sleep 100",
+    "one that hangs": "sleep 1000",
     "one that echoes": "cat",
     "one that chatters": "yes 2",
     "one that answers everything by a number": "while read line; do echo 0; done",

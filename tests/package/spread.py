@@ -1,13 +1,16 @@
 """Batches over several processes: the same blocks in the same order as those of one batch."""
+import heapq
+import itertools
 import os
 import random
 import sys
 import time
-from concurrent.futures import ProcessPoolExecutor, ThreadPoolExecutor
+from concurrent.futures import Future, ProcessPoolExecutor, ThreadPoolExecutor
+from types import SimpleNamespace
 
-from common import LIBRARY, PROGRAM, main, need, printed, raises, same, within
+from common import CLOCKS, LIBRARY, PROGRAM, Skipped, main, need, printed, raises, same, within
 
-from yorqanish import Calculator, Refusal
+from yorqanish import Calculator, Refusal, _batch
 
 CALC = Calculator(program=PROGRAM)
 STAIRS = " ".join(map(str, range(6, 0, -1)))
@@ -89,20 +92,90 @@ def test_progress():
         same(told, list(range(1, len(LINES) + 1)))
 
 
-def test_heavy_and_light_lines_are_balanced():
-    """Heavy lines that stand together among thousands of light ones are shared out: no process has more than a few of them in a row."""
-    heavy = f"mult {STAIRS} - {STAIRS}"
-    lines = ["mult 1 - 1"] * 3000 + [heavy] * 16 + ["mult 1 - 1"] * 3000
+# Heavy lines that stand together among thousands of light ones.
+HEAVY = f"mult {STAIRS} - {STAIRS}"
+MIXED = ["mult 1 - 1"] * 3000 + [HEAVY] * 16 + ["mult 1 - 1"] * 3000
 
+
+def test_no_process_is_given_many_heavy_lines_at_once():
+    """Of heavy neighbours each of four processes is given its part, however fast the machine is."""
+    given, piece = [], _batch.piece
+
+    def noted(way, lines, seconds):
+        given.append(lines.count(HEAVY))
+        return piece(way, lines, seconds)
+
+    _batch.piece = noted
+    same(sum(1 for it in CALC.batch(MIXED, workers=4) if it.refusal is None), len(MIXED))
+    assert sum(given) >= 16 and max(given) <= 4, given
+
+
+class Simulated:
+    """Four processes with clocks of their own, on which a line takes as long as it is told to. It stands for the queue of what is finished,
+    so that pieces finish in the order of these clocks."""
+
+    def __init__(self, cost):
+        self.cost, self.now = cost, 0.0
+        self.free, self.ends, self.lines, self.finished = [0.0] * 4, [], [[] for _ in range(4)], []
+        self.number = itertools.count()
+
+    def monotonic(self):
+        return self.now
+
+    def blocks(self, lines, seconds):
+        self.now += 0.0001 + sum(map(self.cost, lines))
+        return [line.decode() for line in lines]
+
+    def submit(self, lines):
+        """Runs a piece on the process that is free first."""
+        main, which = self.now, self.free.index(min(self.free))
+        self.now = max(main, self.free[which])
+        done = _batch.piece(self, lines, None)
+        self.lines[which] += [it.line for it in done.outcomes]
+        self.free[which], future = self.now, Future()
+        heapq.heappush(self.ends, (self.now, next(self.number), future, done))
+        self.now = main
+        return future
+
+    def put(self, slot):
+        self.finished.append(slot)
+
+    def get(self):
+        while not self.finished:
+            end, _, future, done = heapq.heappop(self.ends)
+            self.now = max(self.now, end)
+            future.set_result(done)
+        return self.finished.pop(0)
+
+
+def in_a_row(lines):
+    """How many heavy lines stand together at most."""
+    return max(map(len, "".join("h" if it == HEAVY else "." for it in lines).split(".")))
+
+
+def test_heavy_and_light_lines_are_balanced():
+    """By clocks that are simulated four processes need little more than a quarter of the time of one, and each has its part of the heavy lines."""
+    for light, heavy in ((0.00005, 0.08), (0.00005, 1.0), (0.0005, 0.08), (0.00001, 0.01)):
+        four = Simulated(lambda line: heavy if line == HEAVY.encode() else light)
+        _batch.time = SimpleNamespace(monotonic=four.monotonic)
+        spread = _batch.Spread(four.submit, iter(MIXED), 5, 4)
+        spread._finished = four
+        same([it.text for it in spread.outcomes()], MIXED)
+        alone = 6000 * light + 16 * heavy
+        rows = [in_a_row(lines) for lines in four.lines]
+        assert max(four.free) < 0.3 * alone and max(rows) <= 5, (light, heavy, alone, four.free, rows)
+
+
+def test_four_processes_need_less_time_than_one():
     def seconds(workers):
         began = time.perf_counter()
-        count = sum(1 for it in CALC.batch(lines, workers=workers) if it.refusal is None)
-        same(count, len(lines))
+        same(sum(1 for it in CALC.batch(MIXED, workers=workers) if it.refusal is None), len(MIXED))
         return time.perf_counter() - began
 
     alone, shared = seconds(1), seconds(4)
-    print(f"one process {alone:.2f} s, four {shared:.2f} s")
-    assert os.cpu_count() < 4 or os.getloadavg()[0] > 3 or shared < 0.5 * alone, (alone, shared)
+    if not CLOCKS or os.cpu_count() < 4:
+        raise Skipped(f"one process {alone:.2f} s, four {shared:.2f} s")
+    assert shared < 0.5 * alone, (alone, shared)
 
 
 def test_a_batch_is_lazy():

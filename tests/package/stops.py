@@ -8,7 +8,7 @@ import threading
 import time
 from itertools import islice
 
-from common import LIBRARY, PROGRAM, Skipped, main, raises, same, within
+from common import LIBRARY, PROGRAM, Skipped, comes, main, raises, same, within
 
 from yorqanish import Calculator, NoCalculator
 
@@ -18,11 +18,42 @@ LONG_LINE = f"mult {' '.join(map(str, LONG))} - {' '.join(map(str, LONG))}"
 CALC = Calculator(program=PROGRAM)
 
 
+def seen(pid):
+    """The name of a process, its state, its parent, and its time on a processor in hundredths of a second; nothing if it is gone."""
+    try:
+        with open(f"/proc/{pid}/stat", encoding="ascii", errors="replace") as file:
+            name, rest = file.read().split("(", 1)[1].rsplit(") ", 1)
+    except OSError:
+        return None
+    words = rest.split()
+    return name, words[0], int(words[1]), (int(words[11]) + int(words[12])) * 100 // os.sysconf("SC_CLK_TCK")
+
+
 def running():
-    """The processes of the program that this one has started."""
-    found = subprocess.run(["ps", "-o", "pid=,comm=,stat=", "--ppid", str(os.getpid())], capture_output=True, text=True).stdout
-    name = os.path.basename(PROGRAM)[:15]
-    return [line for line in found.splitlines() if line.split()[1] == name]
+    """The processes of the program that this one has started, and how long each was on a processor."""
+    found = {int(pid): seen(pid) for pid in os.listdir("/proc") if pid.isdecimal()}
+    mine = (os.path.basename(PROGRAM)[:15], os.getpid())
+    return {pid: it[3] for pid, it in found.items() if it and (it[0], it[2]) == mine}
+
+
+def once_busy(action):
+    """Does something in a thread of its own as soon as a process of the program has computed for 0.3 s from now on."""
+    before = running()
+
+    def wait():
+        comes(lambda: any(spent - before.get(pid, 0) >= 30 for pid, spent in running().items()))
+        action()
+
+    threading.Thread(target=wait, daemon=True).start()
+
+
+def interrupt():
+    os.kill(os.getpid(), signal.SIGINT)
+
+
+def kill():
+    for pid in running():
+        os.kill(pid, signal.SIGKILL)
 
 
 def works_on(calc=CALC):
@@ -34,32 +65,28 @@ def test_a_time_limit_ends_a_command():
         with within(1.5), raises(TimeoutError, "0.5 s", "mult 13"):
             CALC.mult(LONG, LONG, timeout=0.5)
         works_on()
-    same(len(running()), 1)
-    limited = Calculator(program=PROGRAM, timeout=0.3)
-    with within(1.5), raises(TimeoutError):
+    comes(lambda: len(running()) == 1)
+    limited = Calculator(program=PROGRAM, timeout=5)
+    with within(6), raises(TimeoutError):
         limited.mult(LONG, LONG)
     works_on(limited)
 
 
-def interrupted_after(seconds):
-    threading.Timer(seconds, lambda: os.kill(os.getpid(), signal.SIGINT)).start()
-
-
 def test_ctrl_c_ends_a_command():
     for _ in range(3):
-        interrupted_after(0.5)
+        once_busy(interrupt)
         with within(1.5), raises(KeyboardInterrupt):
             CALC.mult(LONG, LONG)
         works_on()
-    same(len(running()), 1)
+    comes(lambda: len(running()) == 1)
 
 
 def test_ctrl_c_of_a_terminal():
     """It reaches all processes of a group at once: what runs beside is not disturbed, and no answer is lost."""
     script = (
-        "import os, signal, threading\nfrom yorqanish import Calculator\ncalc = Calculator()\n"
-        "threading.Timer(0.5, lambda: os.killpg(0, signal.SIGINT)).start()\n"
-        f"try: calc.mult({LONG}, {LONG})\n"
+        "import os, signal, threading\nfrom yorqanish import Calculator\ncalc = Calculator()\ntry:\n"
+        "    threading.Timer(0.5, lambda: os.killpg(0, signal.SIGINT)).start()\n"
+        f"    calc.mult({LONG}, {LONG})\n"
         "except KeyboardInterrupt: print(calc.coef((2,), (1,), (1,)))\n"
     )
     with within(4):
@@ -69,60 +96,66 @@ def test_ctrl_c_of_a_terminal():
 
 def test_ctrl_c_ends_a_batch():
     for how in ({}, {"workers": 3}):
-        interrupted_after(0.7)
         done = []
         with within(2), raises(KeyboardInterrupt):
             for it in CALC.batch(["mult 1 - 1"] * 100 + [LONG_LINE] * 50, **how):
                 done.append(it.text)
+                if len(done) == 1:
+                    once_busy(interrupt)
         assert 1 <= len(done) <= 100 and set(done) == {"1  (2)\n1  (1,1)\n"}, len(done)
         works_on()
-        time.sleep(0.3)
-        assert len(running()) <= 1, running()
+        comes(lambda: len(running()) <= 1)
 
 
 def test_a_time_limit_for_each_line_of_a_batch():
     for how in ({}, {"workers": 2}):
-        with within(3):
-            got = list(CALC.batch(["mult 1 - 1", LONG_LINE, "mult 1 2 - 1", "mult 2 - 1"], timeout=0.5, **how))
+        with within(6.5):
+            got = list(CALC.batch(["mult 1 - 1", LONG_LINE, "mult 1 2 - 1", "mult 2 - 1"], timeout=5, **how))
         same([type(it.refusal).__name__ for it in got], ["NoneType", "TimeoutError", "ShapeRefusal", "NoneType"])
         same(got[3].answer[3], 1)
 
 
 def test_a_program_that_is_killed():
     """The command says so, and the next call has a program."""
-    def kill():
-        for line in running():
-            os.kill(int(line.split()[0]), signal.SIGKILL)
-
-    threading.Timer(0.5, kill).start()
+    once_busy(kill)
     with within(1.5), raises(NoCalculator, "-9"):
         CALC.mult(LONG, LONG)
     works_on()
-    threading.Timer(0.5, kill).start()
+    once_busy(kill)
     with within(2.5):
-        got = list(CALC.batch(["mult 1 - 1", LONG_LINE, "mult 2 - 1"], timeout=1))
+        got = list(CALC.batch(["mult 1 - 1", LONG_LINE, "mult 2 - 1"], timeout=100))
     same([type(it.refusal).__name__ for it in got], ["NoneType", "Ended", "NoneType"])
 
 
 def test_closing_ends_what_other_threads_run():
     calc = Calculator(program=PROGRAM)
-    threading.Timer(0.5, calc.close).start()
+    once_busy(calc.close)
     with within(1.5), raises(NoCalculator, "closed"):
         calc.mult(LONG, LONG)
     with raises(NoCalculator, "closed"):
         calc.mult([1], [1])
-    time.sleep(0.1)
-    same(len(running()), 1)
+    comes(lambda: len(running()) == 1)
 
 
 def test_threads_work_at_the_same_time():
     """A command that takes long holds up no other thread."""
-    thread = threading.Thread(target=lambda: list(CALC.batch([LONG_LINE], timeout=3)))
+    calc, ended, is_busy = Calculator(program=PROGRAM), [], threading.Event()
+
+    def long():
+        with raises(NoCalculator, "closed"):
+            calc.mult(LONG, LONG)
+        ended.append(True)
+
+    thread = threading.Thread(target=long)
+    once_busy(is_busy.set)
     thread.start()
-    time.sleep(0.2)
+    is_busy.wait()
     with within(1):
-        works_on()
+        works_on(calc)
+    same(ended, [])
+    calc.close()
     thread.join()
+    same(ended, [True])
 
 
 STAIRS = tuple(range(30, 0, -1)), tuple(range(29, 0, -1))
@@ -137,15 +170,13 @@ def test_tableaux_come_as_they_are_listed():
         same([t[28:] for t in first], [((1,), (1,)), ((1,), (2,)), ((2,), (1,)), ((2,), (2,)), ((2,), (3,))])
         same(next(calc.tab((3, 2, 1), (2, 1), after=((1,), (1,), (2,)))), ((1,), (2,), (1,)))
         same(list(calc.tab([2], [3])), [])
-    time.sleep(0.2)
-    same(len(running()), 1)
+    comes(lambda: len(running()) == 1)
 
 
 def test_a_list_of_tableaux_that_breaks_off_is_no_whole_list():
     listed = CALC.tab(*STAIRS)
     next(listed)
-    for line in running():
-        os.kill(int(line.split()[0]), signal.SIGKILL)
+    kill()
     with raises(NoCalculator, "-9"):
         for _ in listed:
             pass
@@ -157,12 +188,9 @@ def test_an_expression_longer_than_a_line():
         CALC.expand("m", "+".join(["1"] * 2049))
 
 
-def ends_soon(pid):
-    for _ in range(20):
-        if not os.path.exists(f"/proc/{pid}") or open(f"/proc/{pid}/stat").read().split(") ")[1][0] == "Z":
-            return True
-        time.sleep(0.1)
-    return False
+def has_ended(pid):
+    it = seen(pid)
+    return it is None or it[1] == "Z"
 
 
 def test_nothing_is_left_behind():
@@ -171,17 +199,17 @@ def test_nothing_is_left_behind():
     works_on(calc)
     same(len(running()), 2)
     del calc
-    same(len(running()), 1)
+    comes(lambda: len(running()) == 1)
     script = (
         "import os\nfrom yorqanish import Calculator\ncalc = Calculator()\nchild = os.fork()\n"
         "calc.coef((2,), (1,), (1,))\n"
         "if child: os.waitpid(child, 0)\n"
         "print(*[it.process.pid for it in calc._way._idle], flush=True)\n"
     )
-    done = subprocess.run([sys.executable, "-c", script], capture_output=True, text=True, timeout=20)
+    done = subprocess.run([sys.executable, "-c", script], capture_output=True, text=True)
     pids = done.stdout.split()
     same((len(pids), done.stderr), (2, ""))
-    assert all(ends_soon(pid) for pid in pids)
+    comes(lambda: all(map(has_ended, pids)))
 
 
 def test_a_python_that_is_killed():
@@ -193,8 +221,8 @@ def test_a_python_that_is_killed():
         "of_a_thread(calc.coef, (2,), (1,), (1,)).join()\n"
         "for _ in range(2): of_a_thread(calc.mult, long, long)\n"
         f"listed = calc.tab(*{STAIRS})\nnext(listed)\n"
-        "time.sleep(0.3)\nchild = os.fork()\nif not child: time.sleep(60)\n"
-        "print(child, *[it.process.pid for it in calc._way._open], flush=True)\ntime.sleep(60)\n"
+        "while len(calc._way._open) < 3: time.sleep(0.01)\nchild = os.fork()\nif not child: time.sleep(1000)\n"
+        "print(child, *[it.process.pid for it in calc._way._open], flush=True)\ntime.sleep(1000)\n"
     )
     parent = subprocess.Popen([sys.executable, "-c", script], stdout=subprocess.PIPE, text=True)
     fork, *pids = map(int, parent.stdout.readline().split())
@@ -202,11 +230,11 @@ def test_a_python_that_is_killed():
         assert len(pids) == 3 and all(os.path.exists(f"/proc/{it}") for it in pids), pids
         parent.kill()
         with within(1):
-            assert all(ends_soon(it) for it in pids), pids
+            comes(lambda: all(map(has_ended, pids)))
     finally:
         parent.kill()
         for it in (fork, *pids):
-            if not ends_soon(it):
+            if not has_ended(it):
                 os.kill(it, signal.SIGKILL)
 
 
