@@ -1,23 +1,5 @@
-//! Expressions expanded in Schur polynomials with no way through m, and from there in m where that is faster.
-//!
-//! What is proved:
-//!
-//! `to_monomial` is passed on. `to_schur`: the list is the expression in s, in every number of
-//! variables: strips and rim hooks act for factors in h, e and p, other products are taken pair by
-//! pair by the Littlewood-Richardson rule, and where a number on the way is too large the
-//! expression goes through m; `Large` only where the weight for the target s is 2^127 or more.
-//! `to_monomial_by_schurs`: the list is the expression in m, in every number of variables; `Large`
-//! only where the weight for the target m is 2^127 or more.
+//! Expressions expanded in a basis: the calls of `expand_in_monomials` and `expand_in_schurs`, passed on.
 #![tactic(auto)]
 
-mod atoms;
-mod conversion;
-mod expansion;
-mod monomials;
-mod operand;
-mod products;
-mod strips;
-
-pub use expansion::to_schur;
-pub use monomial_expand::to_monomial;
-pub use monomials::to_monomial_by_schurs;
+pub use expand_in_monomials::to_monomial;
+pub use expand_in_schurs::{to_monomial_by_schurs, to_schur};

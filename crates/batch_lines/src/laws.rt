@@ -25,9 +25,9 @@ pub fn lines_read_law()
         → (pending ++ all ≡ []) × (behind ++ rest ≡ []) }
 {}
 
-/// The blocks of more lines stand behind those of the lines before them; the text of a batch with one block more ends in the
-/// line `--`, where it has a block before, and that block; and all lines were answered where those before and that one were.
-/// It does nothing when it runs.
+/// The blocks of further lines come after those of the lines before them. One more block adds to the text of a batch the
+/// line `--`, if a block came before, and then that block. All lines were answered if those before and this one were.
+/// A law: it does nothing when it runs.
 pub fn blocks_law()
     ensures blocks { (entries : List Entry) (lines more : List BatchLine) (blocks others : List Block)
         → AreBlocks entries lines blocks → AreBlocks entries more others → AreBlocks entries (lines ++ more) (blocks ++ others) }

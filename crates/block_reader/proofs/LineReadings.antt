@@ -1,5 +1,5 @@
 -- A line is read by the block that it comes to.
-use Rattle.std.proofs.Common.{◌≡◌, ◌≢◌, ℕ, List, Some, None, true, false, refl, sym, ap, ◌∙◌, subst}
+use Rattle.std.proofs.Common.{◌≡◌, ◌≢◌, ℕ, List, Some, None, Result, Ok, Err, IfOk, true, false, refl, sym, ap, ◌∙◌, subst}
 use Rattle.std.proofs.lemmas.Bool.{and_parts}
 use Rattle.std.proofs.lemmas.Option.{same_Some}
 use Rattle.sym_model.specs.Expansion.{Basis, Terms}
@@ -8,13 +8,14 @@ use Rattle.sym_model.specs.Answer.{Answer as PlainAnswer, answer, answer_text, I
 use Rattle.sym_model.specs.PrintedBlock.{block_by, read_by}
 use Rattle.sym_model.specs.PrintedForm.{as_line, text_in, answer_text_in, read_in}
 use Rattle.printing_laws.proofs.Blocks.{read_by-block}
+use Rattle.printing_laws.proofs.LineExpressions.{is_expression}
 use Rattle.printing_laws.proofs.LegibleKinds.{legible, is_label-short}
 use Rattle.printing_laws.proofs.OneLines.{are_readable}
 use Rattle.printing_laws.proofs.PrintedForms.{read_in-tells}
 use Rattle.expansion_printer.specs.declared.answer.Answer.{Answer}
 use Rattle.expansion_printer.specs.declared.answer.Answer.TheVariants.{Number, Expansion, Product, Pairs, Powers, Permutations, Polynomial, Shifts}
 use Rattle.expansion_printer.specs.Answers.{kind_of_answer, plain_answer}
-use Rattle.block_reader.specs.Lines.{HasAtoms, block_from}
+use Rattle.block_reader.specs.Lines.{HasAtoms, IsLineOfExpression, block_from}
 use Rattle.block_reader.proofs.Blocks.{line-rewritten}
 use Rattle.block_reader.proofs.BlockReadings.{none_else}
 
@@ -70,3 +71,17 @@ not_line basis kind atoms text (answer k found) e printable same other =
     none_else (read_in (as_line basis) kind text) (λ terms h.
     other (subst (λ j. (ts : Terms (Label j)) → IsPrintable (answer j ts) → block_by (label_rules j) ts ≡ block_from true text → text_in (as_line basis) j ts ≡ text) (sym e)
     (same_line basis kind atoms text terms h) found printable same))
+
+-- ---- the expression on a line
+
+line_expression : (basis : Basis) (a : PlainAnswer) → HasAtoms (plain_kind a) → IsPrintable a → IsLineOfExpression basis a
+line_expression basis (answer expansion terms) atoms p = is_expression true basis terms p.0 p.1
+line_expression basis (answer product terms) atoms p = is_expression false basis terms p.0 p.1
+line_expression basis (answer _ terms) atoms p = absurd atoms
+
+-- the same of what is answered
+pub answered_expression : {E : Type 0} (basis : Basis) (result : Result Answer E) (found : Answer) → HasAtoms (kind_of_answer found)
+    → IfOk result (λ a. a ≡ found) → IfOk result (λ a. IsPrintable (plain_answer a)) → IfOk result (λ a. IsLineOfExpression basis (plain_answer a))
+answered_expression basis (Ok a) found atoms is printable =
+    line_expression basis (plain_answer a) (subst HasAtoms (sym (plain_kind-is a ∙ ap kind_of_answer is)) atoms) printable
+answered_expression basis (Err fault) found atoms is printable = tt

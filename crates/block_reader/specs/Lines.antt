@@ -1,12 +1,21 @@
 -- The block that a one-line form comes to, byte by byte (this project's own).
 use Rattle.std.specs.Prelude.{ℕ, ◌==◌, nat_le, Bool, true, false, ◌&&◌, ◌||◌, List, [], ◌∷◌, ◌++◌, codes, cond}
+use Rattle.sym_model.specs.Answer.{Answer, answer}
+use Rattle.sym_model.specs.Expansion.{Basis}
 use Rattle.sym_model.specs.Kind.{Kind, expansion, product}
+use Rattle.printing_laws.specs.LineExpression.{IsExpression}
 
 -- the kinds whose labels are partitions alone, which stand on one line as atoms
 abbrev pub HasAtoms : Kind → Type 0
 HasAtoms expansion = Unit {0}
 HasAtoms product = Unit {0}
 HasAtoms _ = ⊥
+
+-- the one-line form of the answer is an expression, and what that denotes is the list of the answer
+abbrev pub IsLineOfExpression : Basis → Answer → Type 0
+IsLineOfExpression basis (answer expansion terms) = IsExpression basis terms
+IsLineOfExpression basis (answer product terms) = IsExpression basis terms
+IsLineOfExpression basis _ = ⊥
 
 -- whether a byte leaves no trace: `+`, `*`, a letter, and LF where no number was read since the last atom
 abbrev pub is_dropped : Bool → ℕ → Bool

@@ -1,14 +1,13 @@
-//! Printed blocks and one-line forms, read back as answers.
+//! Printed blocks and one-line forms, read back as answers. The answer that is read is printed again, and the bytes are compared;
+//! a line is rewritten as a block first.
 //!
 //! What is proved:
 //!
 //! `read_back`: the answer of a kind whose block a text is. It has that kind, prints to the same
-//! bytes and is canonical; `NotPrinted` comes only where the text is no block of that kind. It
-//! prints the answer into a sink in memory whose only fault is that memory is refused, and
-//! compares. `read_one_line`: the expansion or product whose one-line form in a basis a text is. It
-//! has that kind, prints to the same bytes and is canonical; `NotPrinted` comes only where the text
-//! is no such form. It rewrites the line as a block, reads that with `read_back`, prints the answer
-//! and compares.
+//! bytes and is canonical; `NotPrinted` comes only where the text is no block of that kind.
+//! `read_one_line`: the expansion or product whose one-line form in a basis a text is. It has that
+//! kind, prints to the same bytes and is canonical, and the text without its LF is an expression
+//! that denotes the list of the answer; `NotPrinted` comes only where the text is no such form.
 #![tactic(auto)]
 
 mod coefficients;

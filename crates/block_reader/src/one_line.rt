@@ -3,9 +3,9 @@ ghost use Rattle.std.specs.Prelude.{◌≡◌, ◌≢◌, None, IfOk, IsErrOf, M
 ghost use Rattle.std.specs.Bool.{OnFalse};
 ghost use Rattle.sym_model.specs.Answer.{IsPrintable};
 ghost use Rattle.sym_model.specs.PrintedForm.{as_line, answer_text_in, read_in};
-ghost use Rattle.calc_expressions.specs.Trees.{basis_of};
+ghost use Rattle.expression_reading.specs.Trees.{basis_of};
 ghost use Rattle.expansion_printer.specs.Answers.{kind_of, kind_of_answer, plain_answer};
-ghost use Rattle.block_reader.specs.Lines.{HasAtoms};
+ghost use Rattle.block_reader.specs.Lines.{HasAtoms, IsLineOfExpression};
 
 use crate::rewriting::as_block;
 use crate::{ReadBackFault, read_back};
@@ -26,6 +26,9 @@ pub fn read_one_line(
     ensures kind { IfOk result (λ answer. kind_of_answer answer ≡ kind_of kind) }
     ensures prints { IfOk result (λ answer. answer_text_in (as_line (basis_of basis)) (plain_answer answer) ≡ text.now) }
     ensures printable { IfOk result (λ answer. IsPrintable (plain_answer answer)) }
+
+    // The text without its LF is an expression, and what that denotes is the list of the answer.
+    ensures expression { IfOk result (λ answer. IsLineOfExpression (basis_of basis) (plain_answer answer)) }
     ensures not_printed { IsErrOf result ReadBackFault.NotPrinted
         → read_in (as_line (basis_of basis)) (kind_of kind) text.now ≡ None }
 {

@@ -3,12 +3,17 @@ use Rattle.std.proofs.Common.{ℕ, List, Option, inl, inr, ◌⊎◌, refl}
 use Rattle.std.specs.Prelude.{ℤ}
 use Rattle.sym_model.specs.Answer.{Answer as PlainAnswer}
 use Rattle.sym_model.specs.BatchOutcome.{AnswersWith}
-use Rattle.sym_model.specs.Command.{Command, tab, rsk, unrsk, rect, growth, batch, work}
+use Rattle.sym_model.specs.Command.{Command, quantum, fusion, tab, rsk, unrsk, rect, growth, batch, work}
 use Rattle.sym_model.specs.Ending.{Ending, done}
+use Rattle.sym_model.specs.Form.{EachOf}
 use Rattle.sym_model.specs.Headline.{ReadsBack}
 use Rattle.sym_model.specs.LargeAnswer.{IsDefinedCoefficient, HasWeight}
 use Rattle.sym_model.specs.Outcome.{Answers, Expands, MayBeLarge}
 use Rattle.sym_model.specs.Target.{Meets}
+use Rattle.product_laws.specs.FactorSteps.{ArePartitions}
+use Rattle.reduction_laws.proofs.TextsInSteps.{quantum_reads-steps, fusion_reads-steps}
+use Rattle.calc_words.specs.WrittenLimits.{IsWritten, KeepsLimits}
+use Rattle.word_laws.proofs.LongestPrefixes.{each_in}
 use Rattle.calc_language.specs.BuiltCommands.{batch_entries}
 use Rattle.calc_replies.specs.Computed.{Tells}
 use Rattle.calc_app.specs.Top.{IsInput, Says, SaysOver}
@@ -20,7 +25,7 @@ pub record NamesExpansion (command : Command) : Type 0 where
   pub over : (input text : List ℕ) (ending : Ending) → Answers command text ending → AnswersWith batch_entries input command text ending
   pub alone : (input text : List ℕ) (ending : Ending) → AnswersWith batch_entries input command text ending → Answers command text ending
   pub untold : (text : List ℕ) → Tells command text → ⊥
-  pub says : (text : List ℕ) → ReadsBack command text → Says command text
+  pub says : (text : List ℕ) → KeepsLimits command → ReadsBack command text → Says command text
   pub says_over : (left : Option (List ℕ)) (text : List ℕ) → Says command text → SaysOver left command text
 
 -- it tells lines
@@ -48,6 +53,10 @@ not_large : (command : Command) → ((c : ℤ) → IsDefinedCoefficient command 
 not_large command h k (inl large) = h large.0 large.1
 not_large command h k (inr heavy) = k heavy.0 heavy.1
 
+-- the factors of words are partitions
+are_partitions : (factors : List (List ℕ)) → EachOf IsWritten factors → ArePartitions factors
+are_partitions factors written parts among = (each_in IsWritten parts factors written among).partition
+
 -- every command is one of the three
 pub kind : (command : Command) → NamesExpansion command ⊎ TellsLines command ⊎ RunsOthers command
 kind (tab outer inner last) = inr (inl (record { answers = λ t h. (h, refl); over = λ i t e h. h; alone = λ i t e h. h; unnamed = λ a h. h; small = not_large (tab outer inner last) (λ c h. h) (λ w h. h); says = λ t h. h; says_over = λ l t h. h }))
@@ -57,4 +66,22 @@ kind (rect outer inner rows) = inr (inl (record { answers = λ t h. (h, refl); o
 kind (growth w) = inr (inl (record { answers = λ t h. (h, refl); over = λ i t e h. h; alone = λ i t e h. h; unnamed = λ a h. h; small = not_large (growth w) (λ c h. h) (λ w h. h); says = λ t h. h; says_over = λ l t h. h }))
 kind batch = inr (inr (record { unanswered = λ t e h. h; unnamed = λ a h. h; small = not_large batch (λ c h. h) (λ w h. h); untold = λ t h. h; says_over = λ l i t is h. (i, is, h) }))
 kind (work lines seed) = inr (inr (record { unanswered = λ t e h. h; unnamed = λ a h. h; small = not_large (work lines seed) (λ c h. h) (λ w h. h); untold = λ t h. h; says_over = λ l i t is h. h.0 }))
-kind command = inl (record { answers = λ t e h. h; expands = λ t e h. h; over = λ i t e h. h; alone = λ i t e h. h; untold = λ t h. h; says = λ t h. h; says_over = λ l t h. h })
+kind (quantum rows columns factors) = inl (record {
+  answers = λ t e h. h;
+  expands = λ t e h. h;
+  over = λ i t e h. h;
+  alone = λ i t e h. h;
+  untold = λ t h. h;
+  says = λ t l h. (h, quantum_reads-steps rows columns factors t l.0.positive l.2.some (are_partitions factors l.2.written) h);
+  says_over = λ l t h. h;
+})
+kind (fusion rows level factors) = inl (record {
+  answers = λ t e h. h;
+  expands = λ t e h. h;
+  over = λ i t e h. h;
+  alone = λ i t e h. h;
+  untold = λ t h. h;
+  says = λ t l h. (h, fusion_reads-steps rows level factors t l.0.positive l.2.some (are_partitions factors l.2.written) h);
+  says_over = λ l t h. h;
+})
+kind command = inl (record { answers = λ t e h. h; expands = λ t e h. h; over = λ i t e h. h; alone = λ i t e h. h; untold = λ t h. h; says = λ t l h. h; says_over = λ l t h. h })

@@ -8,12 +8,17 @@ use Rattle.calc_base.proofs.PutsLaws.{Appends-told}
 use Rattle.calc_base.specs.Sink.{SinkSeen, Appends}
 use Rattle.calc_base.specs.Source.{SourceSeen}
 use Rattle.calc_language.specs.BuiltCommands.{command_entries, batch_entries}
+use Rattle.calc_language.proofs.Entries.{kept_by_all}
+use Rattle.calc_words.specs.WrittenLimits.{KeepsLimits}
+use Rattle.word_laws.proofs.LongestPrefixes.{some_in, some_out}
+use Rattle.sym_model.proofs.Sums.{Among-append_left}
 use Rattle.sym_model.specs.BatchLine.{BatchLine, too_long, passed_over, spoken, batch_line, lines_of}
 use Rattle.sym_model.specs.BatchOutcome.{Block, AreBlocks, are_done, batch_ending, RunsInput}
 use Rattle.sym_model.specs.Command.{Command, batch}
 use Rattle.sym_model.specs.CommandOffence.{Offence}
 use Rattle.sym_model.specs.Ending.{Ending, done, some_refused, syntax, range, past}
-use Rattle.sym_model.specs.Entry.{SpellsWithoutOffence, HasFirstOffence}
+use Rattle.sym_model.specs.Entry.{Entry, SpellsFreely, SpellsWithoutOffence, HasFirstOffence}
+use Rattle.sym_model.specs.Grammar.{batch_entry, work_entry}
 use Rattle.sym_model.specs.Outcome.{IsLineOutcome}
 use Rattle.sym_model.specs.SyntaxPlace.{IsSyntaxPlace}
 use Rattle.calc_replies.specs.declared.outcome.Outcome.{Outcome}
@@ -201,10 +206,16 @@ lines_end old new source now Untouched status.NoMemory l = inr (inr (inl (inl re
 
 -- ---- what the blocks of lines say
 
+kept_in_line : (words : List (List ℕ)) (command : Command) → SpellsWithoutOffence batch_entries words command → KeepsLimits command
+kept_in_line words command spelled =
+    let spells : Entry → Type 0 = λ e. SpellsFreely e words command in
+    let at = some_out spells batch_entries spelled in
+    kept_by_all words command (some_in spells at.0 command_entries (Among-append_left at.0 batch_entries (batch_entry ∷ work_entry ∷ []) at.1) at.2)
+
 line_says : (words : List (List ℕ)) (text : List ℕ) → IsLineOutcome batch_entries words text done → SaysLine words text
 line_says words text (inl wrong) = let clash : done ≡ syntax = wrong.1 in cc
 line_says words text (inr (inl offends)) = absurd (not_done offends.offence.2 offends.ends)
-line_says words text (inr (inr comes)) = record { command = comes.0; spelled = comes.1; says = answers_say comes.0 text comes.2 }
+line_says words text (inr (inr comes)) = record { command = comes.0; spelled = comes.1; says = answers_say comes.0 text (kept_in_line words comes.0 comes.1) comes.2 }
 
 say_lines : (lines : List BatchLine) (blocks : List Block) → AreBlocks batch_entries lines blocks → SayLines lines blocks
 say_lines [] [] are = tt

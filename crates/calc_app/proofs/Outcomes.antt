@@ -9,6 +9,8 @@ use Rattle.calc_base.proofs.PutsLaws.{Appends-told}
 use Rattle.calc_base.specs.Sink.{SinkSeen, Appends, AppendsPrefix}
 use Rattle.calc_base.specs.Source.{SourceSeen}
 use Rattle.calc_language.specs.BuiltCommands.{command_entries, batch_entries}
+use Rattle.calc_language.proofs.Entries.{kept_by_all}
+use Rattle.calc_words.specs.WrittenLimits.{KeepsLimits}
 use Rattle.calc_language.specs.Reading.{IsFaultOf}
 use Rattle.expansion_printer.specs.declared.answer.Answer.{Answer}
 use Rattle.expansion_printer.specs.Answers.{plain_answer}
@@ -227,21 +229,21 @@ expands_say command text (inl expands) =
 expands_say command text (inr refused) = let clash : done ≡ past = refused.2 in cc
 
 -- the text of a command that was answered says what the command names
-pub answers_say : (command : Command) (text : List ℕ) → Answers command text done → Says command text
-answers_say command text answers = by (kind command)
+pub answers_say : (command : Command) (text : List ℕ) → KeepsLimits command → Answers command text done → Says command text
+answers_say command text keeps answers = by (kind command)
   where
     by : NamesExpansion command ⊎ TellsLines command ⊎ RunsOthers command → Says command text
-    by (inl k) = k.says text (expands_say command text (k.expands text done answers))
+    by (inl k) = k.says text keeps (expands_say command text (k.expands text done answers))
     by (inr (inl k)) = k.says text answers
     by (inr (inr k)) = absurd (k.unanswered text done answers)
 
-answers_with_say : (told : Option (List ℕ)) (input : List ℕ) (command : Command) (text : List ℕ) → IsInput told input
+answers_with_say : (told : Option (List ℕ)) (input : List ℕ) (command : Command) (text : List ℕ) → IsInput told input → KeepsLimits command
     → AnswersWith batch_entries input command text done → SaysOver told command text
-answers_with_say told input command text is_input answers = by (kind command)
+answers_with_say told input command text is_input keeps answers = by (kind command)
   where
     by : NamesExpansion command ⊎ TellsLines command ⊎ RunsOthers command → SaysOver told command text
-    by (inl k) = k.says_over told text (answers_say command text (k.alone input text done answers))
-    by (inr (inl k)) = k.says_over told text (answers_say command text (k.alone input text done answers))
+    by (inl k) = k.says_over told text (answers_say command text keeps (k.alone input text done answers))
+    by (inr (inl k)) = k.says_over told text (answers_say command text keeps (k.alone input text done answers))
     by (inr (inr k)) = k.says_over told input text is_input answers
 
 pub not_done : (kind : offences.OffenceKind) → done ≡ ending_of kind → ⊥
@@ -266,7 +268,7 @@ headline old new source now Untouched words answer leaves ended before told =
       appended = appended;
       command = comes.0;
       spelled = comes.1;
-      says = answers_with_say source.left input comes.0 text is_input comes.2;
+      says = answers_with_say source.left input comes.0 text is_input (kept_by_all words comes.0 comes.1) comes.2;
     }
 
 -- ---- each refusal by its own line

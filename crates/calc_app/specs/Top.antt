@@ -1,5 +1,5 @@
 -- What the top call promises, by cases on the status that it answers (this project's own).
-use Rattle.std.specs.Prelude.{◌≡◌, ◌≢◌, ◌⊎◌, ◌≤◌, ℕ, List, [], ◌∷◌, ◌++◌, length, Bool, true, codes, map, Option, Some, IfSome}
+use Rattle.std.specs.Prelude.{◌≡◌, ◌≢◌, ◌⊎◌, ◌+◌, ◌≤◌, ℕ, List, [], ◌∷◌, ◌++◌, length, Bool, true, codes, map, Option, Some, IfSome}
 use Rattle.calc_base.specs.declared.status.Status.{Status}
 use Rattle.calc_base.specs.declared.status.Status.TheVariants.{Done, SomeRefused, Syntax, Range, Past, SinkFault, SourceFault, NoMemory}
 use Rattle.calc_base.specs.Fault.{Rose}
@@ -11,7 +11,7 @@ use Rattle.batch_lines.specs.Feeds.{HasNoFeed}
 use Rattle.batch_lines.specs.Reading.{Took, most_pending}
 use Rattle.sym_model.specs.BatchLine.{BatchLine, too_long, passed_over, spoken, batch_line, lines_of}
 use Rattle.sym_model.specs.BatchOutcome.{Block, AreBlocks, batch_text, RunsInput, RunsWorkload, IsOutcomeOf}
-use Rattle.sym_model.specs.Command.{Command, tab, rsk, unrsk, rect, growth, batch, work}
+use Rattle.sym_model.specs.Command.{Command, quantum, fusion, tab, rsk, unrsk, rect, growth, batch, work}
 use Rattle.sym_model.specs.CommandOffence.{Offence}
 use Rattle.sym_model.specs.Ending.{Ending, done, some_refused, syntax, range, past}
 use Rattle.sym_model.specs.Entry.{SpellsWithoutOffence, HasFirstOffence}
@@ -22,6 +22,7 @@ use Rattle.sym_model.specs.Headline.{ReadsBack}
 use Rattle.sym_model.specs.Outcome.{Answers, MayBeLarge, ending_of}
 use Rattle.sym_model.specs.RefusalText.{refusal_line, offence_line}
 use Rattle.sym_model.specs.SyntaxPlace.{IsSyntaxPlace}
+use Rattle.reduction_laws.specs.PrintedSteps.{ReadsReducedInSteps, ReadsReflectedInSteps}
 
 -- ---- which text is defined
 
@@ -133,8 +134,13 @@ pub record HidesNoFault (old new : SinkSeen) (source now : SourceSeen) (status :
 -- ---- the headline
 
 -- what the text of a command that runs no lines says: of `tab`, `rsk`, `unrsk`, `rect` and `growth` it is what is defined for
--- them; of the others it reads back as a canonical list of terms, which is what the command names
+-- them; of the others it reads back as a canonical list of terms, which is what the command names; of `quantum` and `fusion`
+-- that list is also what reducing after each factor gives
 abbrev pub Says : Command → List ℕ → Type 0
+Says (quantum rows columns factors) text =
+    ReadsBack (quantum rows columns factors) text × ReadsReducedInSteps rows (rows + columns) factors text
+Says (fusion rows level factors) text =
+    ReadsBack (fusion rows level factors) text × ReadsReflectedInSteps rows (rows + level) factors text
 Says (tab outer inner last) text = Answers (tab outer inner last) text done
 Says (rsk w) text = Answers (rsk w) text done
 Says (unrsk p q) text = Answers (unrsk p q) text done

@@ -36,7 +36,8 @@ pub fn run<S: Source, K: Sink>(
     sink: &mut K,
 ) -> Status
     // Where the answer is `Done`, the text read back is a canonical list of terms, and that list is what the command that the
-    // words spell names, by the defining polynomials; of commands on tableaux the text is what is defined for them.
+    // words spell names, by the defining polynomials; of `quantum` and `fusion` it is also what reducing after each factor gives.
+    // Of commands on tableaux the text is what is defined for them.
     ensures headline { result ≡ Status.Done → (before : List ℕ) → (K.seen sink.old).written ≡ Some before
         → PrintsAnswerTo (map string_bytes words.now) before (S.seen source.old).left (K.seen sink.new).written }
 

@@ -1,7 +1,7 @@
 -- What a command says (this project's own).
 use Rattle.std.specs.Prelude.{◌≡◌}
 use Rattle.sym_model.specs.Command.{Command as PlainCommand, mult, skew, coef, coprod, quantum, fusion, expand, schubert, schubmult, tab, rsk, unrsk, rect, growth, plethysm, dschubmult, stanley, batch, work}
-use Rattle.calc_expressions.specs.Trees.{basis_of, tree_of}
+use Rattle.expression_reading.specs.Trees.{basis_of, tree_of}
 use Rattle.calc_commands.specs.Pairs.{IsPair}
 use Rattle.calc_commands.specs.declared.command.Command.{Command}
 use Rattle.calc_commands.specs.declared.command.Command.TheVariants.{Mult, Skew, Coef, Coprod, Quantum, Fusion, Expand, Schubert, Schubmult, Tab, Rsk, Unrsk, Rect, Growth, Plethysm, Dschubmult, Stanley, Batch, Work}

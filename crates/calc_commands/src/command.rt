@@ -1,7 +1,7 @@
 //! A command.
 
 use calc_base::Word;
-use calc_expressions::{Basis, Formula};
+use expression_reading::{Basis, Formula};
 use partitions::{Factors, Partition};
 use perm_codes::Perm;
 use skew_shapes::{Standard, Tableau};

@@ -12,7 +12,6 @@ use Rattle.sym_model.proofs.Exponents.{same_true, same_from, same_apart}
 use Rattle.sym_model.proofs.Sums.{Among_from_append, Among-append_left}
 use Rattle.word_laws.specs.Words.{Words}
 use Rattle.word_laws.specs.Reading.{forms_of}
-use Rattle.word_laws.proofs.ComputedExamples.{can_be_all}
 use Rattle.word_laws.proofs.LongestPrefixes.{CanBe}
 use Rattle.calc_base.specs.declared.words.WordsFault.{WordsFault}
 use Rattle.calc_base.specs.declared.words.WordsFault.TheVariants.{Syntax}
@@ -23,12 +22,15 @@ use Rattle.calc_words.proofs.Joining.{joined_read}
 use Rattle.calc_words.proofs.WrittenCommands.{all_keep, some_keeps}
 use Rattle.calc_language.specs.BuiltCommands.{command_entries, batch_entries}
 use Rattle.calc_language.specs.Reading.{command_of, entry_named, IsReadAs, IsRead, IsWithinItsLimits}
-use Rattle.calc_language.proofs.NamedEntries.{IsLed, are_named_apart, each_among, one_named, led_named, unnamed, wordless, clash}
+use Rattle.calc_language.proofs.NamedEntries.{IsLed, are_named_apart, each_among, one_named, led_named, unnamed, clash}
 
 -- ---- entries by their names
 
 some_same : (e f : Entry) → Some f ≡ Some e → f ≡ e
 some_same e f h = cc
+
+first_is : (w v : List ℕ) (ws vs : Words) → w ∷ ws ≡ v ∷ vs → w ≡ v
+first_is w v ws vs e = cc
 
 -- the entry that is found is one of them
 found : (w : List ℕ) (entries : List Entry) (e : Entry) → entry_named w entries ≡ Some e → Among e entries × (w ≡ e.name)
@@ -79,7 +81,7 @@ named_among all entries t w words rest r is here there h = by (entry_named w all
     by None s k =
         wrong_first entries words r
         (subst (λ ws. IsSyntaxPlace entries ws 0 0) (sym is)
-        (unnamed entries t.led t.can t.some w rest (λ e m. same_apart e.name w (λ q. none_found w all s e (there e m) (sym q))))) k
+        (unnamed entries t.led t.can t.some (w ∷ rest) (λ e m b. none_found w all s e (there e m) (first_is w e.name rest b.0 b.1)))) k
     by (Some e) s k =
         let f = found w all e s in
         let m = here e f.0 f.1 in
@@ -92,7 +94,7 @@ named_among all entries t w words rest r is here there h = by (entry_named w all
 pub commands_told : AreTold command_entries
 commands_told = record {
   led = search (inl, inr) parts 64;
-  can = can_be_all;
+  can = search parts 64;
   some = omega arith;
   apart = refl;
 }
@@ -140,7 +142,7 @@ read_in_line w words rest r is b k h = named_among command_entries batch_entries
 pub no_words : (words : Words) (r : Result Command WordsFault) (entries : List Entry) → AreTold entries → words ≡ [] → r ≡ Err (Syntax (record { word = 0; byte = 0 }))
     → IsReadBy entries words r
 no_words words r entries t is h =
-    wrong_first entries words r (subst (λ ws. IsSyntaxPlace entries ws 0 0) (sym is) (wordless entries t.led t.can t.some)) h
+    wrong_first entries words r (subst (λ ws. IsSyntaxPlace entries ws 0 0) (sym is) (unnamed entries t.led t.can t.some [] (λ e m b. let k = b.1 in cc))) h
 
 -- words without an offence keep the limits
 pub kept_by_all : (words : Words) (c : PlainCommand) → SpellsWithoutOffence command_entries words c → KeepsLimits c
@@ -161,8 +163,8 @@ pub elsewhere : (w : List ℕ) (words rest : Words) (r : Result Command WordsFau
 elsewhere w words rest r is apart h =
     wrong_first batch_entries words r
     (subst (λ ws. IsSyntaxPlace batch_entries ws 0 0) (sym is)
-    (unnamed batch_entries lines_told.led lines_told.can lines_told.some w rest
-    (λ e m. same_apart e.name w (λ q. none_found w batch_entries (none_named w batch_entries apart) e m (sym q))))) h
+    (unnamed batch_entries lines_told.led lines_told.can lines_told.some (w ∷ rest)
+    (λ e m b. none_found w batch_entries (none_named w batch_entries apart) e m (first_is w e.name rest b.0 b.1)))) h
 
 not_it : (w a b : List ℕ) → w ≡ a → same a b ≡ false → w ≡ b → ⊥
 not_it w a b h s q = clash (same a b) s (same_from a b (sym h ∙ q))

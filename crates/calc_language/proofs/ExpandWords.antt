@@ -15,7 +15,7 @@ use Rattle.sym_model.specs.Entry.{Entry, HasFirstOffence}
 use Rattle.sym_model.specs.Grammar.{all_bases, expand_entry}
 use Rattle.calc_language.specs.BuiltCommands.{IsTarget}
 use Rattle.sym_model.specs.SyntaxPlace.{IsSyntaxPlace}
-use Rattle.calc_words.proofs.Standing.{not_same}
+use Rattle.calc_words.proofs.ReadingFacts.{not_same}
 use Rattle.word_laws.specs.Words.{Words}
 use Rattle.word_laws.specs.Reading.{is_expression, forms_of}
 use Rattle.word_laws.proofs.LongestPrefixes.{CanBe}
@@ -24,14 +24,14 @@ use Rattle.word_laws.proofs.Stands.{Stands, stands_next, wrong_word, wrong_expre
 use Rattle.calc_base.specs.declared.words.Basis.{Basis as Letter}
 use Rattle.calc_base.specs.declared.words.WordsFault.{WordsFault}
 use Rattle.calc_base.specs.declared.words.WordsFault.TheVariants.{Syntax}
-use Rattle.calc_expressions.specs.declared.formula.Formula.{Formula}
-use Rattle.calc_expressions.specs.declared.reading.ExpressionFault.{ExpressionFault}
-use Rattle.calc_expressions.specs.declared.reading.ExpressionFault.TheVariants.{Syntax as Wrong, Literal as Wide, Range as Past, Shape as Misshapen, NoMemory as Full}
-use Rattle.calc_expressions.specs.Reading.{IsRead as IsReadAs, IsExpression, IsWrongByte}
+use Rattle.expression_reading.specs.declared.formula.Formula.{Formula}
+use Rattle.expression_reading.specs.declared.reading.ExpressionFault.{ExpressionFault}
+use Rattle.expression_reading.specs.declared.reading.ExpressionFault.TheVariants.{Syntax as Wrong, Literal as Wide, Range as Past, Shape as Misshapen, NoMemory as Full}
+use Rattle.expression_reading.specs.Reading.{IsRead as IsReadAs, IsExpression, IsWrongByte}
 use Rattle.calc_commands.specs.declared.command.Command.TheVariants.{Expand}
 use Rattle.calc_words.specs.NumberRuns.{BeginsOtherwise}
 use Rattle.calc_words.specs.Reading.{IsRead as IsReadBy}
-use Rattle.calc_expressions.specs.Trees.{basis_of}
+use Rattle.expression_reading.specs.Trees.{basis_of}
 use Rattle.calc_commands.specs.declared.command.Command.{Command}
 use Rattle.calc_language.specs.ExpandFront.{form_written, front, IsBehindForm}
 use Rattle.calc_language.specs.Reading.{placed}

@@ -1,17 +1,16 @@
 -- Lists of commands whose first word is the name: each is told by it, and words with another first word go wrong there.
-use Rattle.std.proofs.Common.{◌≡◌, ℕ, ◌<◌, Bool, true, false, not, ◌&&◌, ◌||◌, cond, List, [], ◌∷◌, ◌++◌, map, length, refl, sym, ap, ◌∙◌, subst, arith, ◌⊎◌, inl, inr}
+use Rattle.std.proofs.Common.{◌≡◌, ℕ, zero, suc, take, ◌≤◌, ◌<◌, Bool, true, false, not, ◌&&◌, ◌||◌, List, [], ◌∷◌, ◌++◌, map, length, refl, sym, ap, ◌∙◌, subst, arith, ◌⊎◌, inl, inr}
 use Rattle.sym_model.specs.Sum.{Among}
 use Rattle.sym_model.specs.GoodTableau.{is_among}
 use Rattle.sym_model.specs.Polynomial.{same}
 use Rattle.sym_model.proofs.Exponents.{same_from}
-use Rattle.sym_model.specs.Form.{Form, empty, sequence, EachOf, Has, Awaits, is_skippable, derivatives, after_word, has_skippable, awaits_next, some_awaits_next}
-use Rattle.sym_model.specs.Entry.{Entry}
+use Rattle.sym_model.specs.Form.{Form, sequence, EachOf, Has, Begins, Awaits}
+use Rattle.sym_model.specs.Entry.{Entry, SpellsBy, BeginsCommand}
 use Rattle.sym_model.specs.SyntaxPlace.{IsSyntaxPlace}
 use Rattle.sym_model.specs.WordForms.{the}
 use Rattle.word_laws.specs.Words.{Words}
-use Rattle.word_laws.specs.Reading.{is_expression, forms_of}
-use Rattle.word_laws.proofs.LongestPrefixes.{CanBe}
-use Rattle.word_laws.proofs.Stands.{wrong_word, ends_early}
+use Rattle.word_laws.specs.Reading.{forms_of}
+use Rattle.word_laws.proofs.LongestPrefixes.{CanBe, some_words, some_out}
 use Rattle.calc_words.specs.Joined.{Named}
 use Rattle.calc_words.proofs.Joining.{first_spells, first_awaits}
 
@@ -96,51 +95,33 @@ led_named e (inr s) = record {
       subst P (sym s) (λ words h. absurd h);
 }
 
--- ---- words that begin with no name
+-- ---- words that begin with no name, or of which there is none
 
--- the form goes on with no other word than this
-led_stops : (name w : List ℕ) (g : Form) → same name w ≡ false → derivatives is_expression (sequence (the name) g) w ≡ []
-led_stops name w g h = ap (λ b. map (λ f. sequence f g) (cond b (empty ∷ []) []) ++ []) h
-
-entry_stops : (e : Entry) → IsLed e → (w : List ℕ) → same e.name w ≡ false → derivatives is_expression e.form w ≡ []
-entry_stops e (inl s) w h =
-    let P : Form → Type 0 = λ f. derivatives is_expression f w ≡ [] in subst P (sym s) (led_stops e.name w (behind e.form) h)
-entry_stops e (inr s) w h =
-    let P : Form → Type 0 = λ f. derivatives is_expression f w ≡ [] in subst P (sym s) (ap (λ b. cond b (empty ∷ []) []) h)
-
-all_stop : (entries : List Entry) → EachOf IsLed entries → (w : List ℕ) → ((e : Entry) → Among e entries → same e.name w ≡ false)
-    → after_word is_expression (forms_of entries) w ≡ []
-all_stop [] l w h = refl
-all_stop (e ∷ entries) l w h =
-    ap (λ fs. fs ++ after_word is_expression (forms_of entries) w) (entry_stops e l.0 w (h e (inl refl)))
-    ∙ all_stop entries l.1 w (λ f m. h f (inr m))
-
-none_awaits : (entries : List Entry) → EachOf IsLed entries → some_awaits_next (forms_of entries) ≡ false
-none_awaits [] l = refl
-none_awaits (e ∷ entries) l = ap (λ b. b || some_awaits_next (forms_of entries)) (by l.0) ∙ none_awaits entries l.1
+pub unnamed : (entries : List Entry) → EachOf IsLed entries → CanBe (forms_of entries) → 0 < length entries → (words : Words)
+    → ((e : Entry) → Among e entries → BeginsAs e.name words → ⊥) → IsSyntaxPlace entries words 0 0
+unnamed entries l c n words h = record {
+  no_command = λ command s.
+      let f = some_out (λ e. SpellsBy e words command) entries s in
+      h f.0 f.1 ((led f.0 f.1).spells words f.2.has);
+  word_is = record { within = omega arith; begins = some_begins entries c n; longest = λ j k b. by j words k (λ e m. h e m) b };
+  byte_is = inr ((λ a. let f = some_out (λ e. Awaits e.form []) entries a.awaited in let m = (led f.0 f.1).awaits [] f.2 in nothing f.0.name m.0 m.1), refl);
+}
   where
-    by : IsLed e → awaits_next e.form ≡ false
-    by (inl s) = ap awaits_next s
-    by (inr s) = ap awaits_next s
+    led : (e : Entry) → Among e entries → Named e
+    led e m = led_named e (each_among IsLed entries l e m)
 
-none_skips : (entries : List Entry) → EachOf IsLed entries → has_skippable (forms_of entries) ≡ false
-none_skips [] l = refl
-none_skips (e ∷ entries) l = ap (λ b. b || has_skippable (forms_of entries)) (by l.0) ∙ none_skips entries l.1
-  where
-    by : IsLed e → is_skippable e.form ≡ false
-    by (inl s) = ap is_skippable s
-    by (inr s) = ap is_skippable s
+    some_begins : (es : List Entry) → CanBe (forms_of es) → 0 < length es → BeginsCommand es []
+    some_begins [] c n = absurd (omega (arith, n))
+    some_begins (e ∷ es) c n = inl (some_words e.form c.0)
 
--- the first word is no name
-pub unnamed : (entries : List Entry) → EachOf IsLed entries → CanBe (forms_of entries) → 0 < length entries → (w : List ℕ) (ws : Words)
-    → ((e : Entry) → Among e entries → same e.name w ≡ false) → IsSyntaxPlace entries (w ∷ ws) 0 0
-unnamed [] l c n w ws h = absurd (omega (arith, n))
-unnamed (e ∷ entries) l c n w ws h =
-    wrong_word (e ∷ entries) c n (w ∷ ws) [] w ws e.form (forms_of entries) (record { words_are = refl; still = refl })
-    (all_stop (e ∷ entries) l w h) (none_awaits (e ∷ entries) l)
+    nothing : (name : List ℕ) (rest : Words) → [] ≡ name ∷ rest → ⊥
+    nothing name rest e = cc
 
--- there is no word
-pub wordless : (entries : List Entry) → EachOf IsLed entries → CanBe (forms_of entries) → 0 < length entries → IsSyntaxPlace entries [] 0 0
-wordless [] l c n = absurd (omega (arith, n))
-wordless (e ∷ entries) l c n =
-    ends_early (e ∷ entries) c n [] [] e.form (forms_of entries) (record { words_are = refl; still = refl }) (none_skips (e ∷ entries) l)
+    by : (j : ℕ) (ws : Words) → j ≤ length ws → ((e : Entry) → Among e entries → BeginsAs e.name ws → ⊥) → BeginsCommand entries (take j ws) → j ≤ 0
+    by zero ws k h b = omega arith
+    by (suc j) [] k h b = absurd (omega (arith, k))
+    by (suc j) (w ∷ ws) k h b =
+        let f = some_out (λ e. Begins e.form (w ∷ take j ws)) entries b in
+        let m = (led f.0 f.1).spells ((w ∷ take j ws) ++ f.2.0) f.2.1 in
+        let first : w ≡ f.0.name = cc in
+        absurd (h f.0 f.1 (ws, ap (λ v. v ∷ ws) first))

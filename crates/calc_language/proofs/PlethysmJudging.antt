@@ -17,12 +17,12 @@ use Rattle.word_laws.specs.JudgedRows.{earlier}
 use Rattle.word_laws.proofs.EarlierOffences.{first_of_both}
 use Rattle.word_laws.proofs.FirstOffences.{first_none}
 use Rattle.calc_base.specs.declared.words.WordsFault.{WordsFault}
-use Rattle.calc_expressions.specs.declared.formula.Formula.{Formula}
-use Rattle.calc_expressions.specs.declared.reading.ExpressionFault.{ExpressionFault}
-use Rattle.calc_expressions.specs.declared.reading.ExpressionFault.TheVariants.{Syntax as Wrong, Literal as Wide, Range as Past, Shape as Misshapen, NoMemory as Full}
-use Rattle.calc_expressions.specs.Reading.{IsReadBy}
-use Rattle.calc_expressions.specs.Trees.{tree_of}
-use Rattle.calc_expressions.proofs.SignJudging.{inner-ends_last}
+use Rattle.expression_reading.specs.declared.formula.Formula.{Formula}
+use Rattle.expression_reading.specs.declared.reading.ExpressionFault.{ExpressionFault}
+use Rattle.expression_reading.specs.declared.reading.ExpressionFault.TheVariants.{Syntax as Wrong, Literal as Wide, Range as Past, Shape as Misshapen, NoMemory as Full}
+use Rattle.expression_reading.specs.Reading.{IsReadBy}
+use Rattle.expression_reading.specs.Trees.{tree_of}
+use Rattle.expression_reading.proofs.SignJudging.{inner-ends_last}
 use Rattle.calc_words.specs.Reading.{IsRead as IsReadAs, IsFirst, IsJudged}
 use Rattle.calc_words.proofs.Commands.{read_standing, judged_err, judged_on}
 use Rattle.calc_words.proofs.FirstOffences.{AllBefore, none-append}

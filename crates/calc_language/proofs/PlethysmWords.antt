@@ -1,5 +1,5 @@
 -- Where words of `plethysm` go wrong, word by word.
-use Rattle.std.proofs.Common.{◌≡◌, ℕ, ◌<◌, Bool, true, false, cond, List, [], ◌∷◌, ◌++◌, length, map, refl, ap, ◌∙◌, subst, arith, inl, inr, sym}
+use Rattle.std.proofs.Common.{◌≡◌, ℕ, ◌<◌, Bool, true, false, cond, List, [], ◌∷◌, ◌++◌, length, map, refl, ap, subst, arith, inl, inr, sym}
 use Rattle.std.specs.Prelude.{codes}
 use Rattle.sym_model.specs.Expansion.{Basis, monomials, elementaries, completes, power_sums, schurs}
 use Rattle.sym_model.specs.Phrase.{Phrase, SpellsPhrase, letter}
@@ -17,8 +17,8 @@ use Rattle.calc_base.specs.declared.words.WordsFault.{WordsFault}
 use Rattle.calc_base.specs.declared.words.WordsFault.TheVariants.{Syntax}
 use Rattle.calc_words.specs.NumberRuns.{BeginsOtherwise}
 use Rattle.calc_words.specs.Reading.{IsRefusal}
-use Rattle.calc_words.proofs.Standing.{not_same}
-use Rattle.calc_expressions.specs.Reading.{IsWrongByte}
+use Rattle.calc_words.proofs.ReadingFacts.{not_same}
+use Rattle.expression_reading.specs.Reading.{IsWrongByte}
 use Rattle.calc_language.proofs.ExpandWords.{no_expression}
 
 -- the command alone
@@ -93,86 +93,47 @@ stands_fifth t z y rest f g s r =
     (ap kept_inner (tells_expressions.complete y g r))
 
 -- words that do not begin with the name
-otherwise : (words : Words) → BeginsOtherwise (λ t. t ≡ name) words → IsSyntaxPlace alone words 0 0
+pub otherwise : (words : Words) → BeginsOtherwise (λ t. t ≡ name) words → IsSyntaxPlace alone words 0 0
 otherwise [] b = ends_early alone can_all some_entry [] [] (plethysm_entry all_bases).form [] (stands_first []) refl
 otherwise (x ∷ xs) b =
     wrong_word alone can_all some_entry (x ∷ xs) [] x xs (plethysm_entry all_bases).form [] (stands_first (x ∷ xs)) (ap kept_first (not_same name x b)) refl
 
-no_letter : IsSyntaxPlace alone (name ∷ []) 1 0
+pub no_letter : IsSyntaxPlace alone (name ∷ []) 1 0
 no_letter = ends_early alone can_all some_entry (name ∷ []) (name ∷ []) after_name [] (stands_second []) refl
 
-no_target : (y : List ℕ) (xs : Words) → is_letter_of all_bases y ≡ false → IsSyntaxPlace alone (name ∷ y ∷ xs) 1 0
+pub no_target : (y : List ℕ) (xs : Words) → is_letter_of all_bases y ≡ false → IsSyntaxPlace alone (name ∷ y ∷ xs) 1 0
 no_target y xs n =
     wrong_word alone can_all some_entry (name ∷ y ∷ xs) (name ∷ []) y xs after_name [] (stands_second (y ∷ xs)) (ap kept_target n) refl
 
-no_outer : (t : Basis) → IsSyntaxPlace alone (name ∷ letter t ∷ []) 2 0
+pub no_outer : (t : Basis) → IsSyntaxPlace alone (name ∷ letter t ∷ []) 2 0
 no_outer t = ends_early alone can_all some_entry (name ∷ letter t ∷ []) (name ∷ letter t ∷ []) after_target [] (stands_third t []) refl
 
-outer_wrong : (t : Basis) (z : List ℕ) (xs : Words) (byte : ℕ) → IsWrongByte z byte → IsSyntaxPlace alone (name ∷ letter t ∷ z ∷ xs) 2 byte
+pub outer_wrong : (t : Basis) (z : List ℕ) (xs : Words) (byte : ℕ) → IsWrongByte z byte → IsSyntaxPlace alone (name ∷ letter t ∷ z ∷ xs) 2 byte
 outer_wrong t z xs byte p =
     wrong_expression alone can_all some_entry (name ∷ letter t ∷ z ∷ xs) (name ∷ letter t ∷ []) z xs after_target [] byte (stands_third t (z ∷ xs))
     (ap kept_outer (no_expression z p.0)) refl p.1
 
-no_inner : (t : Basis) (z : List ℕ) (f : Phrase) → SpellsPhrase z f → IsSyntaxPlace alone (name ∷ letter t ∷ z ∷ []) 3 0
+pub no_inner : (t : Basis) (z : List ℕ) (f : Phrase) → SpellsPhrase z f → IsSyntaxPlace alone (name ∷ letter t ∷ z ∷ []) 3 0
 no_inner t z f s =
     ends_early alone can_all some_entry (name ∷ letter t ∷ z ∷ []) (name ∷ letter t ∷ z ∷ []) after_outer [] (stands_fourth t z [] f s) refl
 
-inner_wrong : (t : Basis) (z y : List ℕ) (xs : Words) (f : Phrase) (byte : ℕ) → SpellsPhrase z f → IsWrongByte y byte
+pub inner_wrong : (t : Basis) (z y : List ℕ) (xs : Words) (f : Phrase) (byte : ℕ) → SpellsPhrase z f → IsWrongByte y byte
     → IsSyntaxPlace alone (name ∷ letter t ∷ z ∷ y ∷ xs) 3 byte
 inner_wrong t z y xs f byte s p =
     wrong_expression alone can_all some_entry (name ∷ letter t ∷ z ∷ y ∷ xs) (name ∷ letter t ∷ z ∷ []) y xs after_outer [] byte
     (stands_fourth t z (y ∷ xs) f s) (ap kept_inner (no_expression y p.0)) refl p.1
 
-a_word_more : (t : Basis) (z y v : List ℕ) (xs : Words) (f g : Phrase) → SpellsPhrase z f → SpellsPhrase y g
+pub a_word_more : (t : Basis) (z y v : List ℕ) (xs : Words) (f g : Phrase) → SpellsPhrase z f → SpellsPhrase y g
     → IsSyntaxPlace alone (name ∷ letter t ∷ z ∷ y ∷ v ∷ xs) 4 0
 a_word_more t z y v xs f g s r =
     wrong_word alone can_all some_entry (name ∷ letter t ∷ z ∷ y ∷ v ∷ xs) (name ∷ letter t ∷ z ∷ y ∷ []) v xs empty []
     (stands_fifth t z y (v ∷ xs) f g s r) refl refl
 
--- the refusals at these places
-at_place : (words : Words) (w b : ℕ) (fault : WordsFault) → fault ≡ Syntax (record { word = w; byte = b }) → IsSyntaxPlace alone words w b → IsRefusal alone words fault
-at_place words w b fault e p = subst (λ f. IsRefusal alone words f) (sym e) p
-
-pub refused_otherwise : (words : Words) (fault : WordsFault) → BeginsOtherwise (λ t. t ≡ name) words → fault ≡ Syntax (record { word = 0; byte = 0 })
-    → IsRefusal alone words fault
-refused_otherwise words fault b e = at_place words 0 0 fault e (otherwise words b)
-
--- the words behind the name
-pub refused_alone : (words rest : Words) (fault : WordsFault) → words ≡ name ∷ rest → rest ≡ [] → fault ≡ Syntax (record { word = 1; byte = 0 })
-    → IsRefusal alone words fault
-refused_alone words rest fault h k e = subst (λ ws. IsRefusal alone ws fault) (sym (h ∙ ap (λ (ws : Words). name ∷ ws) k)) (at_place (name ∷ []) 1 0 fault e no_letter)
-
-pub refused_target : (words rest xs : Words) (y : List ℕ) (fault : WordsFault) → words ≡ name ∷ rest → rest ≡ y ∷ xs → is_letter_of all_bases y ≡ false
-    → fault ≡ Syntax (record { word = 1; byte = 0 }) → IsRefusal alone words fault
-refused_target words rest xs y fault h k n e =
-    subst (λ ws. IsRefusal alone ws fault) (sym (h ∙ ap (λ (ws : Words). name ∷ ws) k)) (at_place (name ∷ y ∷ xs) 1 0 fault e (no_target y xs n))
-
 -- the words behind the letter of the target
-abbrev behind_target : Basis → Words → Words
+abbrev pub behind_target : Basis → Words → Words
 behind_target t words = name ∷ letter t ∷ words
 
-pub refused_outer : (words : Words) (fault : WordsFault) → words ≡ [] → fault ≡ Syntax (record { word = 2; byte = 0 }) → (t : Basis) → IsRefusal alone (behind_target t words) fault
-refused_outer words fault h e t = subst (λ ws. IsRefusal alone (behind_target t ws) fault) (sym h) (at_place (behind_target t []) 2 0 fault e (no_outer t))
-
-pub refused_outer_byte : (words xs : Words) (z : List ℕ) (byte : ℕ) (fault : WordsFault) → words ≡ z ∷ xs → IsWrongByte z byte
-    → fault ≡ Syntax (record { word = 2; byte = byte }) → (t : Basis) → IsRefusal alone (behind_target t words) fault
-refused_outer_byte words xs z byte fault h p e t =
-    subst (λ ws. IsRefusal alone (behind_target t ws) fault) (sym h) (at_place (behind_target t (z ∷ xs)) 2 byte fault e (outer_wrong t z xs byte p))
-
-pub refused_inner : (words xs : Words) (z : List ℕ) (f : Phrase) (fault : WordsFault) → words ≡ z ∷ xs → xs ≡ [] → SpellsPhrase z f
-    → fault ≡ Syntax (record { word = 3; byte = 0 }) → (t : Basis) → IsRefusal alone (behind_target t words) fault
-refused_inner words xs z f fault h k s e t =
-    subst (λ ws. IsRefusal alone (behind_target t ws) fault) (sym (h ∙ ap (λ (ws : Words). z ∷ ws) k)) (at_place (behind_target t (z ∷ [])) 3 0 fault e (no_inner t z f s))
-
-pub refused_inner_byte : (words xs ys : Words) (z y : List ℕ) (f : Phrase) (byte : ℕ) (fault : WordsFault) → words ≡ z ∷ xs → xs ≡ y ∷ ys → SpellsPhrase z f → IsWrongByte y byte
-    → fault ≡ Syntax (record { word = 3; byte = byte }) → (t : Basis) → IsRefusal alone (behind_target t words) fault
-refused_inner_byte words xs ys z y f byte fault h k s p e t =
-    subst (λ ws. IsRefusal alone (behind_target t ws) fault) (sym (h ∙ ap (λ (ws : Words). z ∷ ws) k))
-    (at_place (behind_target t (z ∷ y ∷ ys)) 3 byte fault e (inner_wrong t z y ys f byte s p))
-
-pub refused_more : (words xs ys vs : Words) (z y v : List ℕ) (f g : Phrase) (fault : WordsFault) → words ≡ z ∷ xs → xs ≡ y ∷ ys → ys ≡ v ∷ vs
-    → SpellsPhrase z f → SpellsPhrase y g → fault ≡ Syntax (record { word = 4; byte = 0 }) → (t : Basis) → IsRefusal alone (behind_target t words) fault
-refused_more words xs ys vs z y v f g fault h k l s r e t =
-    subst (λ ws. IsRefusal alone (behind_target t ws) fault)
-    (sym (h ∙ ap (λ (ws : Words). z ∷ ws) (k ∙ ap (λ (ws : Words). y ∷ ws) l)))
-    (at_place (behind_target t (z ∷ y ∷ v ∷ vs)) 4 0 fault e (a_word_more t z y v vs f g s r))
+-- the refusals at these places
+pub refused_at : (words v : Words) (w b : ℕ) (fault : WordsFault) → words ≡ v → fault ≡ Syntax (record { word = w; byte = b }) → IsSyntaxPlace alone v w b
+    → IsRefusal alone words fault
+refused_at words v w b fault h e p = subst (λ f. IsRefusal alone words f) (sym e) (subst (λ ws. IsSyntaxPlace alone ws w b) (sym h) p)

@@ -5,8 +5,8 @@ use Rattle.sym_model.specs.Polynomial.{same}
 use Rattle.calc_language.specs.BuiltCommands.{command_entries}
 use Rattle.calc_base.specs.declared.words.WordsFault.{WordsFault}
 use Rattle.calc_base.specs.declared.words.WordsFault.TheVariants.{Syntax, Literal, Range, Shape, NoMemory}
-use Rattle.calc_expressions.specs.declared.reading.ExpressionFault.{ExpressionFault}
-use Rattle.calc_expressions.specs.declared.reading.ExpressionFault.TheVariants.{Syntax as Wrong, Literal as Wide, Range as Past, Shape as Misshapen, NoMemory as Full}
+use Rattle.expression_reading.specs.declared.reading.ExpressionFault.{ExpressionFault}
+use Rattle.expression_reading.specs.declared.reading.ExpressionFault.TheVariants.{Syntax as Wrong, Literal as Wide, Range as Past, Shape as Misshapen, NoMemory as Full}
 use Rattle.calc_words.specs.Reading.{IsRead as IsReadBy}
 use Rattle.calc_words.specs.WrittenLimits.{KeepsLimits}
 use Rattle.calc_commands.specs.declared.command.Command.{Command}

@@ -3,7 +3,7 @@ ghost use Rattle.std.specs.Prelude.{◌≡◌, false, MatchOption, [], ◌∷◌
 ghost use Rattle.sym_model.specs.Form.{is_letter_of};
 ghost use Rattle.sym_model.specs.Grammar.{all_bases, expand_entry};
 ghost use Rattle.sym_model.specs.Phrase.{letter};
-ghost use Rattle.calc_expressions.specs.Trees.{basis_of};
+ghost use Rattle.expression_reading.specs.Trees.{basis_of};
 ghost use Rattle.calc_words.specs.Reading.{IsRead as IsReadBy};
 ghost use Rattle.calc_language.specs.BuiltCommands.{IsTarget};
 ghost use Rattle.calc_language.specs.ExpandFront.{front, IsBehindForm};
@@ -11,8 +11,8 @@ ghost use Rattle.calc_language.specs.ExpandFront.{front, IsBehindForm};
 use crate::refusal::{placed, syntax};
 use crate::{Basis, Command};
 use calc_base::WordsFault;
-use calc_expressions::{read_expression, wrong_byte};
 use calc_words::behind;
+use expression_reading::{read_expression, wrong_byte};
 use std::alloc::Global;
 
 /// The target of this letter.

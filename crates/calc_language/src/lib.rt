@@ -1,4 +1,4 @@
-//! The words of a command, and how they are read. The expressions in them are those of `calc_expressions`, which are
+//! The words of a command, and how they are read. The expressions in them are those of `expression_reading`, which are
 //! passed on.
 //!
 //! What is proved:
@@ -17,7 +17,7 @@ mod words;
 
 pub use calc_base::WordsFault;
 pub use calc_commands::Command;
-pub use calc_expressions::{Basis, Expr, Formula, Weight, degree_limit};
+pub use expression_reading::{Basis, Expr, Formula, Weight, degree_limit};
 pub use lines::read_line;
 pub use partitions::Factors;
 pub use words::read_words;

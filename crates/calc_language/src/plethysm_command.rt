@@ -5,7 +5,7 @@ ghost use Rattle.sym_model.specs.Command.{plethysm};
 ghost use Rattle.sym_model.specs.Expansion.{Basis as PlainBasis};
 ghost use Rattle.sym_model.specs.Grammar.{all_bases, plethysm_entry};
 ghost use Rattle.sym_model.specs.Phrase.{Phrase, SpellsPhrase, letter, tree};
-ghost use Rattle.calc_expressions.specs.Trees.{basis_of};
+ghost use Rattle.expression_reading.specs.Trees.{basis_of};
 ghost use Rattle.calc_words.specs.Reading.{IsRead as IsReadBy, IsRefusal, IsJudged};
 ghost use Rattle.calc_language.specs.Expressions.{AreTwoExpressions};
 ghost use Rattle.calc_commands.specs.Commands.{StandsFor};
@@ -14,8 +14,8 @@ use crate::expand::target_named;
 use crate::refusal::{placed, syntax};
 use crate::{Basis, Command};
 use calc_base::WordsFault;
-use calc_expressions::{ExpressionFault, PLETHYSM_DEGREE, read_inner, read_outer, wrong_byte};
 use calc_words::behind;
+use expression_reading::{ExpressionFault, PLETHYSM_DEGREE, read_inner, read_outer, wrong_byte};
 use std::alloc::Global;
 
 /// The two expressions that these words are, the first of which is the third word of the command; else where the words go

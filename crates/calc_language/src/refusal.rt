@@ -3,7 +3,7 @@ ghost use Rattle.std.specs.Prelude.{◌≡◌};
 ghost use Rattle.calc_language.specs.Reading.{placed as placed_at};
 
 use calc_base::{Place, WordsFault};
-use calc_expressions::ExpressionFault;
+use expression_reading::ExpressionFault;
 
 /// Words that are no command, at this place.
 pub(crate) fn syntax(word: u64, byte: u64) -> WordsFault

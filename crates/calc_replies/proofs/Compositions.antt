@@ -9,7 +9,7 @@ use Rattle.sym_model.specs.Plethysm.{plethysm_weight}
 use Rattle.sym_model.specs.Weight.{numerator, growth, weight}
 use Rattle.plethysm_laws.specs.PositiveExpression.{HasNoSigns}
 use Rattle.plethysm_laws.proofs.NonnegativeTerms.{denominator-one}
-use Rattle.calc_expressions.proofs.WeightFacts.{Positive}
+use Rattle.expression_reading.proofs.WeightFacts.{Positive}
 use Rattle.plethysm_laws.proofs.PathWeights.{weight-outer, weight-product}
 
 -- the weight of the outer expression in m

@@ -1,7 +1,7 @@
 -- The printed forms of answers (this project's own).
 use Rattle.std.specs.Prelude.{Bool, cond}
 use Rattle.calc_base.specs.declared.words.Basis.{Basis}
-use Rattle.calc_expressions.specs.Trees.{basis_of}
+use Rattle.expression_reading.specs.Trees.{basis_of}
 use Rattle.sym_model.specs.PrintedForm.{PrintedForm, as_block, as_line}
 use Rattle.calc_replies.specs.declared.form.Form.{Form}
 use Rattle.calc_replies.specs.declared.form.Form.TheVariants.{Block, Line}

@@ -6,18 +6,18 @@ ghost use Rattle.sym_model.specs.Expression.{cleared_value, degree, denominator}
 ghost use Rattle.sym_model.specs.ListWeight.{IsBounded};
 ghost use Rattle.sym_model.specs.Plethysm.{plethysm as plethysm_of, plethysm_weight};
 ghost use Rattle.sym_model.specs.Weight.{numerator};
-ghost use Rattle.monomial_expand.specs.LabelSizes.{AreWithin};
-ghost use Rattle.calc_expressions.specs.Trees.{basis_of, tree_of};
+ghost use Rattle.whole_lists.specs.LabelSizes.{AreWithin};
+ghost use Rattle.expression_reading.specs.Trees.{basis_of, tree_of};
 ghost use Rattle.calc_words.specs.WrittenLimits.{KeepsLimits};
 ghost use Rattle.calc_replies.specs.Computed.{IsReplyTo};
 
 use crate::outcome::{Outcome, as_block};
-use basis_change::is_table;
 use calc_base::{NoMemory, SumFault, Weight};
 use calc_language::{Basis, Formula};
+use change_from_monomials::is_table;
 use coeff_rings::Frac;
+use expand_in_monomials::to_monomial;
 use expansion_printer::Answer;
-use monomial_expand::to_monomial;
 use partitions::Partition;
 use sparse_polys::{Lin, Terms};
 use std::alloc::Global;

@@ -5,23 +5,24 @@ ghost use Rattle.sym_model.specs.Expansion.{IsExpansionOf};
 ghost use Rattle.sym_model.specs.Expression.{cleared_value, degree, denominator};
 ghost use Rattle.sym_model.specs.ExpressionOffence.{degree_limit};
 ghost use Rattle.sym_model.specs.Weight.{weight};
-ghost use Rattle.basis_change.specs.Factors.{basis_in};
-ghost use Rattle.calc_expressions.specs.Trees.{basis_of, tree_of};
+ghost use Rattle.whole_lists.specs.Families.{basis_in};
+ghost use Rattle.expression_reading.specs.Trees.{basis_of, tree_of};
 ghost use Rattle.calc_replies.specs.Computed.{IsReplyTo};
 
 use crate::form::asked_form;
 use crate::outcome::Outcome;
-use basis_change::{Family, to_basis};
-use basis_expand::{to_monomial_by_schurs, to_schur};
 use calc_base::{NoMemory, SumFault};
 use calc_language::{Basis, Formula};
+use change_from_monomials::to_basis;
 use coeff_rings::Frac;
-use direct_families::to_family;
+use expand_in_families::to_family;
+use expand_in_monomials::to_monomial;
+use expand_in_schurs::{to_monomial_by_schurs, to_schur};
 use expansion_printer::Answer;
-use monomial_expand::to_monomial;
 use partitions::Partition;
 use sparse_polys::{Lin, Terms};
 use std::alloc::Global;
+use whole_lists::Family;
 
 /// The expansion of a formula in the target basis.
 pub(crate) fn expanded(

@@ -1,15 +1,29 @@
 //! The answers to `mult`, `skew`, `coef` and `coprod`.
+ghost use Rattle.std.specs.Prelude.{◌≡◌};
 ghost use Rattle.sym_model.specs.Command as commands;
+ghost use Rattle.sym_model.specs.WholeTerms.{as_fractions};
 ghost use Rattle.calc_words.specs.WrittenLimits.{KeepsLimits};
 ghost use Rattle.calc_replies.specs.Computed.{IsReplyTo};
 
 use crate::form::{Form, asked_form};
 use crate::outcome::{Outcome, answered, as_block};
 use calc_base::{Basis, NoMemory, SumFault};
+use coeff_rings::Int;
 use expansion_printer::Answer;
+use linear_combinations::Terms as List;
 use lr_product::mult_all;
 use partitions::{Factors, Partition};
+use sparse_polys::Terms;
 use std::alloc::Global;
+
+/// A list with partitions as labels, to be printed.
+pub(crate) fn as_product(list: List<Partition, Int>) -> Answer
+    ensures { result ≡ Answer.Product (as_fractions list) }
+{
+    Answer::Product {
+        terms: Terms::from_list(list),
+    }
+}
 
 /// The product of Schur functions, in so many variables where a number of rows is there.
 pub(crate) fn mult(
@@ -22,7 +36,7 @@ pub(crate) fn mult(
     ensures { IsReplyTo (commands.mult rows one_line factors.now) result }
 {
     answered(
-        mult_all(alloc, factors, rows).map(|terms| Answer::Product { terms }),
+        mult_all(alloc, factors, rows).map(as_product),
         asked_form(one_line, Basis::S),
     )
 }
@@ -39,7 +53,7 @@ pub(crate) fn skew(
     ensures { IsReplyTo (commands.skew rows one_line outer.now inner.now) result }
 {
     answered(
-        lr_product::skew(alloc, outer, inner, rows).map(|terms| Answer::Product { terms }),
+        lr_product::skew(alloc, outer, inner, rows).map(as_product),
         asked_form(one_line, Basis::S),
     )
 }

@@ -5,9 +5,11 @@ ghost use Rattle.calc_replies.specs.Computed.{IsReplyTo};
 
 use crate::form::Form;
 use crate::outcome::{Outcome, answered};
+use crate::products::as_product;
 use calc_base::NoMemory;
 use expansion_printer::Answer;
 use partitions::Factors;
+use sparse_polys::Terms;
 use std::alloc::Global;
 
 /// The quantum product of shapes, among those with so many rows and columns.
@@ -21,7 +23,9 @@ pub(crate) fn quantum(
     ensures { IsReplyTo (commands.quantum rows cols factors.now) result }
 {
     answered(
-        rim_hooks::quantum(alloc, factors, rows, cols).map(|terms| Answer::Powers { terms }),
+        rim_hooks::quantum(alloc, factors, rows, cols).map(|list| Answer::Powers {
+            terms: Terms::from_list(list),
+        }),
         Form::Block,
     )
 }
@@ -37,7 +41,7 @@ pub(crate) fn fusion(
     ensures { IsReplyTo (commands.fusion rows level factors.now) result }
 {
     answered(
-        rim_hooks::fusion(alloc, factors, rows, level).map(|terms| Answer::Product { terms }),
+        rim_hooks::fusion(alloc, factors, rows, level).map(as_product),
         Form::Block,
     )
 }

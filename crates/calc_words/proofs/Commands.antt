@@ -1,14 +1,13 @@
 -- Words that have been read: which command they are, and the first offence of two lists.
-use Rattle.std.proofs.Common.{◌≡◌, ℕ, ◌+◌, ◌-◌, true, map, arith, Option, List, [], ◌∷◌, ◌++◌, length, sym, ap, ◌∙◌, subst, Some, None, Result, Ok, Err, inl}
+use Rattle.std.proofs.Common.{◌≡◌, ℕ, ◌+◌, ◌-◌, map, arith, Option, List, [], ◌∷◌, ◌++◌, length, sym, ap, ◌∙◌, subst, Some, None, Result, Ok, Err, inl}
 use Rattle.std.proofs.lemmas.List.{length-map}
 use Rattle.sym_model.specs.PrintedBlock.{decimal_value}
 use Rattle.sym_model.specs.ExpressionOffence.{literal, range, shape}
-use Rattle.sym_model.specs.Form.{Has, can_be}
+use Rattle.sym_model.specs.Form.{Has}
 use Rattle.sym_model.specs.Command.{Command}
 use Rattle.sym_model.specs.CommandOffence.{Offence, first_offence, part_offences, part_rule}
 use Rattle.sym_model.specs.Entry.{Entry}
 use Rattle.sym_model.specs.Grammar.{two_partitions}
-use Rattle.sym_model.specs.SyntaxPlace.{IsSyntaxPlace}
 use Rattle.sym_model.specs.WordForms.{numbers}
 use Rattle.word_laws.specs.Words.{Words}
 pub use Rattle.word_laws.proofs.CutParts.{may_be, singles}
@@ -18,8 +17,6 @@ use Rattle.calc_commands.specs.Commands.{command_of, IsSound, StandsFor}
 use Rattle.calc_commands.specs.declared.command.Command.{Command as Read}
 use Rattle.calc_words.proofs.FirstOffences.{within, AllBefore, first-append, none-append}
 use Rattle.calc_words.specs.Reading.{IsRead, IsRefusal, IsJudged, IsFirst}
-use Rattle.calc_words.specs.Standing.{WrongAt}
-use Rattle.calc_words.proofs.Standing.{wrong_place}
 
 -- words of the form are refused by their first offence
 pub first_refused : (e : Entry) (words : Words) (has : Has e.form words) (fault : WordsFault) → IsFirst (first_offence (e.offends has.written)) fault
@@ -41,14 +38,6 @@ pub read_judged : (e : Entry) (words : Words) (has : Has e.form words) (x : Read
 read_judged e words has x is sound (Ok command) h =
     (inl (record { has = has; says_it = ap command_of h.0 ∙ is; no_offence = h.1 }), subst IsSound (sym h.0) sound)
 read_judged e words has x is sound (Err fault) h = first_refused e words has fault h
-
--- words that go wrong
-pub syntax_read : (e : Entry) (words : Words) (left place : ℕ) (fault : WordsFault) → can_be e.form ≡ true
-    → WrongAt e.form words left → place ≡ length words - left → fault ≡ Syntax (record { word = place; byte = 0 })
-    → IsRefusal (e ∷ []) words fault
-syntax_read e words left place fault c w k f =
-    subst (λ y. IsRefusal (e ∷ []) words y) (sym f)
-    (subst (λ n. IsSyntaxPlace (e ∷ []) words n 0) (sym k) (wrong_place e words left c w))
 
 -- what offends first in one list does in another
 pub judged_on : (first later : Option Offence) (fault : WordsFault) → ((o : Offence) → first ≡ Some o → later ≡ Some o)

@@ -36,7 +36,7 @@ may_be_said : (name : List ℕ) (ps : List Part) (x : Written (form_of ps)) → 
 may_be_said name [] x m = tt
 may_be_said name (p ∷ ps) x m = (tt, m)
 
-cut_spelled : (ps : List Part) (i k : ℕ) (places : List ℕ) (words : Words) (h : IsCut ps i k places words)
+pub cut_spelled : (ps : List Part) (i k : ℕ) (places : List ℕ) (words : Words) (h : IsCut ps i k places words)
     → drop k words ≡ words_of (form_of ps) (written_of ps i k places words h)
 cut_spelled [] i k places words h = h
 cut_spelled (p ∷ []) i k places words h =

@@ -21,7 +21,7 @@ use Rattle.calc_words.specs.NumberRuns.{BeginsOtherwise}
 use Rattle.calc_words.specs.Parts.{form_of_part, form_of, command_form, is_clear, IsPiece, IsCut}
 use Rattle.calc_words.specs.Reading.{IsRefusal}
 use Rattle.calc_words.specs.declared.word_parts.Part.{Part}
-use Rattle.calc_words.specs.declared.word_parts.Part.TheVariants.{Minus, Slash, MaybeForm, Rows, MaybeRows, Bound, Lines, Seed, Shape, Word, Letters, Doubled, Factors}
+use Rattle.calc_words.specs.declared.word_parts.Part.TheVariants.{Minus, Slash, MaybeForm, Rows, MaybeRows, Bound, Lines, Seed, Shape, Word, Letters, Doubled, Factors, Tableau, MaybeFrom}
 
 -- words that are kept in another form
 pub counted : {A : Type 0} (f : A → List ℕ) (g : Form) (words : List A) → StopsIn g (map f words) (length (map f words)) → StopsIn g (map f words) (length words)
@@ -42,6 +42,8 @@ part_facts Word = (refl, refl)
 part_facts Letters = (refl, refl)
 part_facts Doubled = (refl, refl)
 part_facts Factors = (refl, refl)
+part_facts Tableau = (refl, refl)
+part_facts MaybeFrom = (refl, refl)
 
 can_be_parts : (ps : List Part) → can_be (form_of ps) ≡ true
 can_be_parts [] = refl

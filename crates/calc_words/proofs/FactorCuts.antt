@@ -62,21 +62,21 @@ abbrev behind_first : Words → Words
 behind_first [] = []
 behind_first (t ∷ words) = words
 
--- words begin with one run of words that begin with a digit
-pub one_run : (ps qs us vs : Words) → EachOf BeginsWithDigit ps → EachOf BeginsWithDigit qs → BeginsOtherwise BeginsWithDigit us → BeginsOtherwise BeginsWithDigit vs
+-- words begin with one run of words of a kind
+pub one_run : (P : List ℕ → Type 0) (ps qs us vs : Words) → EachOf P ps → EachOf P qs → BeginsOtherwise P us → BeginsOtherwise P vs
     → ps ++ us ≡ qs ++ vs → (ps ≡ qs) × (us ≡ vs)
-one_run [] [] us vs m n b d e = (refl, e)
-one_run [] (q ∷ qs) us vs m n b d e = absurd (subst (BeginsOtherwise BeginsWithDigit) e b n.0)
-one_run (p ∷ ps) [] us vs m n b d e = absurd (subst (BeginsOtherwise BeginsWithDigit) (sym e) d m.0)
-one_run (p ∷ ps) (q ∷ qs) us vs m n b d e =
-    let r = one_run ps qs us vs m.1 n.1 b d (ap behind_first e) in
+one_run P [] [] us vs m n b d e = (refl, e)
+one_run P [] (q ∷ qs) us vs m n b d e = absurd (subst (BeginsOtherwise P) e b n.0)
+one_run P (p ∷ ps) [] us vs m n b d e = absurd (subst (BeginsOtherwise P) (sym e) d m.0)
+one_run P (p ∷ ps) (q ∷ qs) us vs m n b d e =
+    let r = one_run P ps qs us vs m.1 n.1 b d (ap behind_first e) in
     (ap (λ t. t ∷ ps) (ap (first_of []) e) ∙ ap (λ ws. q ∷ ws) r.0, r.1)
 
 -- the second factor is the numbers at the front
 pub run_cut : (words second list rest : Words) (others : List Words) → words ≡ second ++ next_text others → EachOf IsNumber second
     → words ≡ list ++ rest → EachOf BeginsWithDigit list → BeginsOtherwise BeginsWithDigit rest → (second ≡ list) × (rest ≡ next_text others)
 run_cut words second list rest others e n f m b =
-    let r = one_run second list (next_text others) rest (all_begin second n) m (next_begins others) b (sym e ∙ f) in (r.0, sym r.1)
+    let r = one_run BeginsWithDigit second list (next_text others) rest (all_begin second n) m (next_begins others) b (sym e ∙ f) in (r.0, sym r.1)
 
 -- the numbers behind a `-` are the next factor
 pub record NextCut (others : List Words) (list rest : Words) : Type 0 where

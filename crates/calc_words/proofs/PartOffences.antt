@@ -13,7 +13,7 @@ use Rattle.calc_base.specs.declared.words.WordsFault.{WordsFault}
 use Rattle.calc_words.specs.Reading.{IsFirst}
 use Rattle.calc_words.specs.Parts.{form_of_part, form_of, part_offends, parts_offend, IsFirstOf, AreFine, is_bounded, are_bounded}
 use Rattle.calc_words.specs.declared.word_parts.Part.{Part}
-use Rattle.calc_words.specs.declared.word_parts.Part.TheVariants.{Minus, Slash, MaybeForm, Rows, MaybeRows, Bound, Lines, Seed, Shape, Word, Letters, Doubled, Factors}
+use Rattle.calc_words.specs.declared.word_parts.Part.TheVariants.{Minus, Slash, MaybeForm, Rows, MaybeRows, Bound, Lines, Seed, Shape, Word, Letters, Doubled, Factors, Tableau, MaybeFrom}
 use Rattle.calc_words.proofs.FirstOffences.{within, none-append}
 use Rattle.calc_words.proofs.FactorJudging.{factors_from}
 use Rattle.calc_words.proofs.Commands.{singles, judged_err, judged_later}
@@ -38,6 +38,8 @@ part_from Letters k x o m = (within (permutation_rule_within most_permuted (leng
 part_from Doubled k x o m = (within (permutation_rule_within most_doubled (length (letters x))) [] k (letters x) o m).0
 part_from Factors k (first, (second, others)) o m =
     factors_from k (numbers first) (numbers second.1 ∷ map (λ (next : Written next_words). numbers next.1) others) o m
+part_from Tableau k x o m = absurd m
+part_from MaybeFrom k x o m = absurd m
 
 list_below : (rule : Rule) (k : ℕ) (x : Words) (o : Offence) → Among o (offences_by rule k (numbers x)) → o.0 < k + length (each (λ t. t ∷ []) x)
 list_below rule k x o m = let w = (within rule [] k (numbers x) o m).1 in let n = number_count x in omega (arith, w, n)
@@ -65,6 +67,8 @@ part_below Word k x o b m = list_below letter_rule k x o m
 part_below Letters k x o b m = letters_below most_permuted k x o m
 part_below Doubled k x o b m = letters_below most_doubled k x o m
 part_below Factors k x o b m = cc
+part_below Tableau k x o b m = absurd m
+part_below MaybeFrom k x o b m = absurd m
 
 parts_from : (ps : List Part) (k : ℕ) (x : Written (form_of ps)) (o : Offence) → Among o (parts_offend ps k x) → k ≤ o.0
 parts_from [] k x o m = absurd m

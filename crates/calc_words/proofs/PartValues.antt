@@ -54,7 +54,7 @@ next_numbers : (xs : List (Written next_words)) → map (λ (next : Written next
 next_numbers [] = refl
 next_numbers (x ∷ xs) = ap (λ ns. numbers x.1 ∷ ns) (next_numbers xs)
 
-are_numbers : (ws : Words) → EachOf (May (word number)) ws → EachOf IsNumber ws
+pub are_numbers : (ws : Words) → EachOf (May (word number)) ws → EachOf IsNumber ws
 are_numbers [] e = tt
 are_numbers (w ∷ ws) e = (number_complete w e.0, are_numbers ws e.1)
 
@@ -77,7 +77,7 @@ factors_judged at k ws first rest later (one, (second, others)) r m a e f n b l 
     ∙ ap (λ us. us ++ (codes "-" ∷ (each (λ t. t ∷ []) two ++ each (words_of next_words) others))) (singles one)
     ∙ ap (λ us. one ++ (codes "-" ∷ (us ++ each (words_of next_words) others))) (singles two)
     ∙ ap (λ us. one ++ (codes "-" ∷ (two ++ us))) (next_spelled others) in
-    let runs = one_run first one rest (next_text (two ∷ lists)) n (all_begin one (are_numbers one m.0)) b (next_begins (two ∷ lists)) (sym f ∙ spelled) in
+    let runs = one_run BeginsWithDigit first one rest (next_text (two ∷ lists)) n (all_begin one (are_numbers one m.0)) b (next_begins (two ∷ lists)) (sym f ∙ spelled) in
     let judged = h two lists (l (two ++ next_text lists) runs.1) (are_numbers two m.1.0.1) (next_are_numbers others m.1.1) in
     let numbers_are : factor_numbers (one, (second, others)) ≡ numbers one ∷ numbers two ∷ map numbers lists =
     ap (λ ns. numbers one ∷ numbers two ∷ ns) (next_numbers others) in

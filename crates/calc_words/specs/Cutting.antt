@@ -8,3 +8,7 @@ pub use Rattle.word_laws.proofs.Cuts.{GoesWrong, StopsIn}
 abbrev pub Takes : Form → List (List ℕ) → ℕ → Type 0
 Takes f words count =
     (piece : List (List ℕ)) × (rest : List (List ℕ)) × IsTaken f piece rest words × (count ≡ length piece)
+
+-- words of the form stand at the front and end there, and behind them stands the rest
+abbrev pub StandsBehind : Form → List (List ℕ) → List (List ℕ) → Type 0
+StandsBehind f rest words = (piece : List (List ℕ)) × IsTaken f piece rest words

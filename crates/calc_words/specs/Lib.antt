@@ -2,7 +2,6 @@ pub mod NumberRuns
 pub mod Reading
 pub mod Faults
 pub mod PartRules
-pub mod Standing
 pub mod Joined
 pub mod WrittenLimits
 pub mod LetterRules

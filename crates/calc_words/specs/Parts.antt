@@ -3,12 +3,12 @@ use Rattle.std.specs.Prelude.{◌≡◌, ◌⊎◌, ℕ, ◌≤◌, ◌+◌, Boo
 use Rattle.sym_model.specs.PrintedBlock.{decimal_value}
 use Rattle.sym_model.specs.CommandOffence.{Offence, first_offence, offences_by, rows_rule, lines_rule, seed_rule, letter_rule, part_offences, most_doubled, permutation_offences, permutation_offences_within, factor_offences}
 use Rattle.sym_model.specs.Form.{Form, empty, word, number, sequence, Written, May, words_of}
-use Rattle.sym_model.specs.WordForms.{the, optional, rows_words, form_words, partition_words, permutation_words, factors_words, numbers, letters, factor_numbers, row_limit_offences}
+use Rattle.sym_model.specs.WordForms.{the, optional, rows_words, form_words, partition_words, permutation_words, factors_words, tableau_words, from_words, numbers, letters, factor_numbers, row_limit_offences}
 use Rattle.calc_base.specs.declared.words.WordsFault.{WordsFault}
 use Rattle.word_laws.specs.OneReading.{are_apart, firsts, continuing}
 use Rattle.calc_words.specs.Reading.{IsFirst}
 use Rattle.calc_words.specs.declared.word_parts.Part.{Part}
-use Rattle.calc_words.specs.declared.word_parts.Part.TheVariants.{Minus, Slash, MaybeForm, Rows, MaybeRows, Bound, Lines, Seed, Shape, Word, Letters, Doubled, Factors}
+use Rattle.calc_words.specs.declared.word_parts.Part.TheVariants.{Minus, Slash, MaybeForm, Rows, MaybeRows, Bound, Lines, Seed, Shape, Word, Letters, Doubled, Factors, Tableau, MaybeFrom}
 
 -- the form of a part
 abbrev pub form_of_part : Part → Form
@@ -25,6 +25,8 @@ form_of_part Word = partition_words
 form_of_part Letters = permutation_words
 form_of_part Doubled = permutation_words
 form_of_part Factors = factors_words
+form_of_part Tableau = tableau_words
+form_of_part MaybeFrom = optional from_words
 
 -- the form of parts, one after another
 abbrev pub form_of : List Part → Form
@@ -42,7 +44,7 @@ abbrev pub is_clear : List Part → Bool
 is_clear [] = true
 is_clear (p ∷ ps) = are_apart (continuing (form_of_part p)) (firsts (form_of ps)) && is_clear ps
 
--- what a part offends by that begins at the word
+-- what a part offends by that begins at the word; tableaux are judged together with other parts, and have no offence here
 abbrev pub part_offends : (p : Part) → ℕ → Written (form_of_part p) → List Offence
 part_offends Minus k x = []
 part_offends Slash k x = []
@@ -57,6 +59,8 @@ part_offends Word k x = offences_by letter_rule k (numbers x)
 part_offends Letters k x = permutation_offences k (letters x)
 part_offends Doubled k x = permutation_offences_within most_doubled k (letters x)
 part_offends Factors k x = factor_offences 0 k (factor_numbers x)
+part_offends Tableau k x = []
+part_offends MaybeFrom k x = []
 
 -- what parts offend by, the first of which begins at the word
 abbrev pub parts_offend : (ps : List Part) → ℕ → Written (form_of ps) → List Offence

@@ -54,15 +54,16 @@ pub fn cut(words: &[String], name: &str, parts: &[Part]) -> Result<Places, Words
 
 /// The words of a part.
 #[derive(Clone, Copy)]
-pub(crate) struct Piece<'a> {
+pub struct Piece<'a> {
     /// The word at which it begins.
-    pub(crate) at: u64,
+    pub at: u64,
     /// Its words.
-    pub(crate) words: &'a [String],
+    pub words: &'a [String],
 }
 
 /// The words of the i-th part.
-pub(crate) fn piece_at<'a>(words: &'a [String], places: &Places, i: usize) -> Piece<'a>
+#[inline(always)]
+pub fn piece_at<'a>(words: &'a [String], places: &Places, i: usize) -> Piece<'a>
     requires { i < 5 }
     ensures is { (k : ℕ) (us : List (List ℕ)) → IsPiece places.now (map string_bytes words.now) i k us
         → (result.at ≡ k) × (map string_bytes result.words.now ≡ us) }

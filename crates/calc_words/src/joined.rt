@@ -1,4 +1,4 @@
-//! A command among others.
+//! A command in a list of commands.
 ghost use Rattle.std.specs.Prelude.{◌≡◌, ℕ, List, [], ◌∷◌, Option};
 ghost use Rattle.sym_model.specs.Command.{Command};
 ghost use Rattle.sym_model.specs.CommandOffence.{Offence};
@@ -6,8 +6,9 @@ ghost use Rattle.sym_model.specs.Entry.{Entry, HasFirstOffence, SpellsWithoutOff
 ghost use Rattle.sym_model.specs.SyntaxPlace.{IsSyntaxPlace};
 ghost use Rattle.calc_words.specs.Joined.{Joined};
 
-/// What words say, offend by, and where they go wrong for one command alone, they do among all commands, where their first
-/// word is its name and no other command has that name. It does nothing when it runs.
+/// Let a command be in a list of commands, and let no other command of the list have its name. Then words that begin with
+/// this name mean the same for the whole list as for that command alone, have the same first error, and fail at the same
+/// place. A law: it does nothing when it runs.
 pub fn joined_commands_law()
     ensures says { (e : Entry) (entries : List Entry) → Joined e entries → (words : List (List ℕ)) (command : Command)
         → SpellsWithoutOffence (e ∷ []) words command → SpellsWithoutOffence entries words command }

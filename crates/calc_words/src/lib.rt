@@ -30,18 +30,18 @@ mod two_shapes;
 mod word_parts;
 
 pub use batches::{read_batch, read_work};
-pub use command_cuts::{Places, cut};
+pub use command_cuts::{Piece, Places, cut, piece_at};
 pub use joined::joined_commands_law;
 pub use limits::written_limits_law;
 pub use line::{are_passed_over, line_words, without_return};
 pub use numbers::{is_number, value_of};
-pub use offence::{Kind, offence as refused, syntax};
+pub use offence::{Kind, offence as refused};
 pub use partition_list::read_partition;
 pub use permutations::{
     read_dschubmult, read_growth, read_rsk, read_schubert, read_schubmult, read_stanley,
 };
 pub use products::{read_coef, read_coprod, read_mult, read_skew};
 pub use reductions::{read_fusion, read_quantum};
-pub use splitting::{behind, first_number, numbers as numbers_first};
+pub use splitting::{behind, numbers as numbers_first};
 pub use two_shapes::read_two;
 pub use word_parts::Part;

@@ -16,7 +16,7 @@ pub enum Kind {
 }
 
 /// Words that are no command, at this word.
-pub fn syntax(word: u64) -> WordsFault
+pub(crate) fn syntax(word: u64) -> WordsFault
     ensures { result ≡ WordsFault.Syntax (record { word = word; byte = 0 }) }
 {
     WordsFault::Syntax {

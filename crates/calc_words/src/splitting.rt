@@ -21,7 +21,7 @@ pub fn behind<'a>(words: &'a [String], text: &str) -> Option<&'a [String]>
 }
 
 /// The first word and those behind it, where it is a number.
-pub fn first_number(words: &[String]) -> Option<(&String, &[String])>
+pub(crate) fn first_number(words: &[String]) -> Option<(&String, &[String])>
     ensures { MatchOption result (BeginsOtherwise IsNumber (map string_bytes words.now))
         (λ p. (map string_bytes words.now ≡ string_bytes p.0.now ∷ map string_bytes p.1.now) × IsNumber (string_bytes p.0.now)) }
 {

@@ -1,8 +1,8 @@
 //! The parts of the words of a command, and how many words at the front of others each of them takes.
-ghost use Rattle.std.specs.Prelude.{◌≡◌, ◌++◌, map, length, string_bytes, IfOk, IfErr, IsTrue, ◌↔◌};
+ghost use Rattle.std.specs.Prelude.{◌≡◌, ◌++◌, ◌<◌, map, length, string_bytes, IfOk, IfErr, IsTrue, ◌↔◌};
 ghost use Rattle.sym_model.specs.Form.{EachOf, word, number};
-ghost use Rattle.sym_model.specs.WordForms.{the, optional, rows_words, form_words, partition_words, permutation_words, factors_words};
-ghost use Rattle.calc_words.specs.Cutting.{Takes, StopsIn};
+ghost use Rattle.sym_model.specs.WordForms.{the, optional, rows_words, form_words, partition_words, permutation_words, factors_words, row_words, tableau_words, from_words};
+ghost use Rattle.calc_words.specs.Cutting.{Takes, StandsBehind, StopsIn};
 ghost use Rattle.calc_words.specs.FactorWords.{IsPieceWord};
 ghost use Rattle.calc_words.specs.NumberRuns.{BeginsOtherwise};
 ghost use Rattle.calc_words.specs.Parts.{form_of_part};
@@ -39,6 +39,10 @@ pub enum Part {
     Doubled,
     /// Two partitions or more, with `-` between each two.
     Factors,
+    /// The rows of a tableau, with `/` between each two; `.` is a row without numbers.
+    Tableau,
+    /// `-from` and the rows of a tableau, or no word.
+    MaybeFrom,
 }
 
 /// Whether the first word is this one; else how many words are left from the wrong one on.
@@ -155,6 +159,46 @@ fn factors(words: &[String]) -> Result<usize, usize>
     Ok(words.len() - rest.len())
 }
 
+/// The words behind the row at the front; else how many words are left from the wrong one on.
+fn behind_row(words: &[String]) -> Result<&[String], usize>
+    ensures ok { IfOk result (λ rest. StandsBehind row_words (map string_bytes rest.now) (map string_bytes words.now)) }
+    ensures shorter { IfOk result (λ rest. length rest.now < length words.now) }
+    ensures wrong { IfErr result (λ left. StopsIn row_words (map string_bytes words.now) left) }
+{
+    if let Some(rest) = behind(words, ".") {
+        return Ok(rest);
+    }
+    let Some(_) = first_number(words) else {
+        return Err(words.len());
+    };
+    let (_, rest) = numbers(words);
+    Ok(rest)
+}
+
+/// The rows of a tableau.
+fn tableau(words: &[String]) -> Result<usize, usize>
+    ensures ok { IfOk result (λ n. Takes tableau_words (map string_bytes words.now) n) }
+    ensures wrong { IfErr result (λ left. StopsIn tableau_words (map string_bytes words.now) left) }
+{
+    let mut rest = behind_row(words)?;
+    while let Some(more) = behind(rest, "/") {
+        rest = behind_row(more)?;
+    }
+    Ok(words.len() - rest.len())
+}
+
+/// `-from` and the rows of a tableau, or no word.
+fn maybe_from(words: &[String]) -> Result<usize, usize>
+    ensures ok { IfOk result (λ n. Takes (optional from_words) (map string_bytes words.now) n) }
+    ensures wrong { IfErr result (λ left. StopsIn (optional from_words) (map string_bytes words.now) left) }
+{
+    let Some(more) = behind(words, "-from") else {
+        return Ok(0);
+    };
+    let rows = tableau(more)?;
+    Ok(1 + rows)
+}
+
 /// How many words at the front are of the part; else how many words are left from the wrong one on.
 pub(crate) fn taken(part: Part, words: &[String]) -> Result<usize, usize>
     ensures ok { IfOk result (λ n. Takes (form_of_part part) (map string_bytes words.now) n) }
@@ -170,5 +214,7 @@ pub(crate) fn taken(part: Part, words: &[String]) -> Result<usize, usize>
         Part::Shape | Part::Word => Ok(list(words)),
         Part::Letters | Part::Doubled => letters(words),
         Part::Factors => factors(words),
+        Part::Tableau => tableau(words),
+        Part::MaybeFrom => maybe_from(words),
     }
 }

@@ -1,7 +1,7 @@
 //! Atoms: the letter of a basis and numbers in brackets.
 ghost use Rattle.std.specs.Prelude.{◌≡◌, ◌++◌, ◌==◌, decimal, codes, if◌then◌else◌};
 ghost use Rattle.expansion_printer.specs.Gathering.{Gathers};
-ghost use Rattle.calc_expressions.specs.Trees.{basis_of};
+ghost use Rattle.expression_reading.specs.Trees.{basis_of};
 ghost use Rattle.sym_model.specs.NumberText.{numbers_text};
 ghost use Rattle.sym_model.specs.OneLine.{atom_text};
 ghost use Rattle.sym_model.specs.Phrase.{letter};

@@ -1,7 +1,7 @@
 //! The one-line form of an answer.
 ghost use Rattle.calc_base.specs.Puts.{Prints};
 ghost use Rattle.expansion_printer.specs.Gathering.{Gathers};
-ghost use Rattle.calc_expressions.specs.Trees.{basis_of};
+ghost use Rattle.expression_reading.specs.Trees.{basis_of};
 ghost use Rattle.expansion_printer.specs.Answers.{plain_answer};
 ghost use Rattle.expansion_printer.specs.HeldTerms.{AreHeld};
 ghost use Rattle.expansion_printer.specs.SignedTerms.{signed_text};

@@ -1,10 +1,9 @@
-//! Slides of skew tableaux, and rectification (Schützenberger's jeu de taquin).
+//! Slides of skew tableaux, and rectification (Schützenberger's jeu de taquin), in the tableau itself.
 //!
 //! What is proved:
 //!
 //! `slide`: one slide from an inner corner, which keeps the Knuth class of the reading word.
-//! `rectify`: a straight tableau that slides reach, the only one of the class. Both work in place,
-//! take no memory and always answer.
+//! `rectify`: a straight tableau that slides reach, the only one of the class. Both always answer.
 #![tactic(auto)]
 
 mod empty_cell;

@@ -2,17 +2,17 @@
 ghost use Rattle.std.specs.Prelude.{◌≡◌, ◌≤◌, [], ◌∷◌, IfOk};
 ghost use Rattle.sym_model.specs.Expansion.{completes};
 ghost use Rattle.sym_model.specs.Expression.{atom};
-ghost use Rattle.calc_expressions.specs.Trees.{tree_of};
+ghost use Rattle.expression_reading.specs.Trees.{tree_of};
 ghost use Rattle.sparse_polys.specs.MonomialProducts.{greatest_size};
 
 use crate::printing::{expansion, sum};
 use anyhow::Result;
-use basis_change::is_table;
 use basis_expand::to_schur;
 use calc_base::SumFault;
-use calc_expressions::{Basis, Expr, Formula, Weight};
+use change_from_monomials::is_table;
 use coeff_rings::{Frac, Int};
-use monomial_expand::to_monomial;
+use expand_in_monomials::to_monomial;
+use expression_reading::{Basis, Expr, Formula, Weight};
 use partitions::Partition;
 use plethysm::plethysm;
 use row_texts::said;

@@ -1,11 +1,11 @@
 //! Rows of expressions: their degree and weight, and which trees are formulas.
 use anyhow::Result;
-use calc_expressions::{Basis, Expr, Formula, Weight, read_expression};
+use expression_reading::{Basis, Expr, Formula, Weight, read_expression};
 use partitions::Partition;
 use row_texts::{said, start, term, truth};
 use std::alloc::Global;
 
-/// Prints the rows of the crate `calc_expressions`.
+/// Prints the rows of the crate `expression_reading`.
 pub fn print(rt: &(impl Print + Alloc<A = Global>)) -> Result<()> {
     formulas(rt)?;
     trees(rt)

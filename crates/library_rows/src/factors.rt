@@ -4,7 +4,7 @@ use partitions::{Factors, FactorsFault, Partition};
 use row_texts::{line, said};
 use std::alloc::Global;
 
-/// Prints the rows of the crate `factor_lists`.
+/// Prints the rows of `partitions::Factors`.
 pub fn print(rt: &(impl Print + Alloc<A = Global>)) -> Result<()> {
     let mut factors = pair(rt.alloc())?;
     for _ in 0..6u8 {

@@ -6,7 +6,7 @@ use row_texts::{end, start, term};
 use skew_shapes::{HooksAdded, HooksRemoved};
 use std::alloc::Global;
 
-/// Prints the rows of the crate `hook_lists`.
+/// Prints the rows of `HooksAdded` and `HooksRemoved`.
 pub fn print(rt: &(impl Print + Alloc<A = Global>)) -> Result<()> {
     added(rt, &mut one_cell_with_two(rt.alloc())?)?;
     removed(rt, &mut hook_without_three(rt.alloc())?)

@@ -8,7 +8,7 @@ use schubert_transition::Memo;
 use sparse_polys::Poly;
 use std::alloc::Global;
 
-/// Prints the rows of the crate `schubert_memo`.
+/// Prints the rows of `Memo`.
 pub fn print(rt: &(impl Print + Alloc<A = Global>)) -> Result<()> {
     let w = Perm::from_letters(rt.alloc(), &[1, 3, 2])?;
     let v = Perm::from_letters(rt.alloc(), &[2, 1])?;

@@ -1,12 +1,12 @@
 //! Rows of expansions in the monomial basis at the greatest nesting of an expression.
 
 use anyhow::Result;
-use calc_expressions::{Expr, Formula};
-use monomial_expand::to_monomial;
+use expand_in_monomials::to_monomial;
+use expression_reading::{Expr, Formula};
 use row_texts::said;
 use std::alloc::{AllocError, Global};
 
-/// Prints the rows of the crate `monomial_expand`: whether one, negated so often, is an expression that is expanded.
+/// Prints the rows of the crate `expand_in_monomials`: whether one, negated so often, is an expression that is expanded.
 pub fn print(rt: &(impl Print + Alloc<A = Global>)) -> Result<()> {
     let alloc = rt.alloc();
     let answer = expanded(alloc, negated_one(alloc, 4096)?);

@@ -103,7 +103,8 @@ fn list_of(
     ensures fits { OnOk result (HasPastCoefficient (commands.skew None false shape.now inner.now) → ⊥) }
 {
     if shape.size() <= 2 * inner.size() {
-        return skew(alloc, shape, inner, None);
+        let list = skew(alloc, shape, inner, None)?;
+        return Ok(Terms::from_list(list));
     }
     Ok(exchanged(alloc, shape, inners, lists, inner)?)
 }

@@ -1,10 +1,10 @@
-//! Schur polynomials in two sets of variables, as counts of lattice tableaux.
+//! Schur polynomials in two sets of variables, as counts of lattice tableaux. Only the small ones of the skew shapes are counted.
 //!
 //! What is proved:
 //!
-//! `coprod`: a Schur polynomial in two sets of variables, counting only the small ones of the skew
-//! shapes; the coefficient of a pair is the number of lattice tableaux of the shape by the first
-//! partition with the second as content; `Large` exactly where a coefficient is 2^127 or more.
+//! `coprod`: a Schur polynomial in two sets of variables; the coefficient of a pair is the number
+//! of lattice tableaux of the shape by the first partition with the second as content; `Large`
+//! exactly where a coefficient is 2^127 or more.
 #![tactic(auto)]
 
 mod coproduct;

@@ -1,100 +1,134 @@
--- Terms and products that are added one after another.
-use Rattle.std.proofs.Common.{◌≡◌, ◌≤◌, ◌^◌, inl, inr, ℕ, List, [], ◌∷◌, ◌++◌, append_assoc, append-nil, refl, sym, ◌∙◌, ap, subst, arith, ℤ, pos, ◌*ℤ◌}
-use Rattle.std.specs.Prelude.{◌≤ℤ◌}
+-- Products that are added one after another: what a table gains, and where it overflows.
+use Rattle.std.proofs.Common.{◌≡◌, ◌≤◌, ◌<◌, ◌*◌, ◌^◌, Bool, ℕ, List, [], ◌∷◌, ◌++◌, append_assoc, sym, ◌∙◌, ap, subst, refl, arith, ℤ, pos, negsuc, ◌*ℤ◌}
+use Rattle.std.specs.Prelude.{◌≤ℤ◌, ◌<ℤ◌, nat_abs, nat_eq, FitsSigned}
+use Rattle.std.specs.Int.{w128}
+use Rattle.std.specs.Cmp.Lexicographic.{pointwise, nat_list_eq_equiv}
+use Rattle.std.specs.List.{IsDistinct}
+use Rattle.std.specs.Map.{keys_of}
 use Rattle.std.proofs.lemmas.Int.{ints}
-use Rattle.coeff_rings.specs.Fractions.{whole}
-use Rattle.sym_model.specs.Sum.{each, Among}
+use Rattle.sym_model.specs.Sum.{each}
+use Rattle.sym_model.specs.LabelLimits.{is_label}
 use Rattle.sym_model.specs.Polynomial.{Term, Same, coefficient, scale}
-use Rattle.sym_model.specs.Partition.{IsPartition}
-use Rattle.sym_model.specs.Expansion.{Terms}
-use Rattle.sym_model.specs.WholeTerms.{WholeTerms, numerators}
+use Rattle.sym_model.specs.Partition.{IsPartition, rows}
+use Rattle.sym_model.specs.WholeTerms.{WholeTerms}
 use Rattle.sym_model.specs.Target.{classical_product}
-use Rattle.sym_model.proofs.Sums.{Among-append_right}
-use Rattle.sym_model.proofs.Polynomials.{Same_trans}
-use Rattle.sparse_polys.specs.Combination.{terms_of}
-use Rattle.sparse_polys.proofs.Coefficients.{numerators-terms}
+use Rattle.sym_model.proofs.Sums.{Among_from_each, Among_from_map}
+use Rattle.coeff_rings.specs.Fractions.{whole}
+use Rattle.linear_combinations.specs.Entries.{coefficient as found_at, AreHeld, HasSameCoefficients, IsCombination}
+use Rattle.linear_combinations.specs.Gains.{over, only, mass_at, scaled, Gains, Overflows}
+use Rattle.linear_combinations.specs.Labels.{same_partition}
+use Rattle.linear_combinations.proofs.Found.{coefficient_found, coefficient_over, counts_at, least_at, same_sums, sums_same}
+use Rattle.linear_combinations.proofs.Gains.{gains_as, overflows_as, over_only_within, scaled_over}
+use Rattle.linear_combinations.proofs.Masses.{mass_at_scaled, over_same}
+use Rattle.alternant_laws.proofs.ClassicalProducts.{classical_product-term}
 use Rattle.product_laws.specs.FactorSteps.{multiplied}
 use Rattle.product_laws.specs.CountedProducts.{AreCounts, Reaches}
-use Rattle.product_laws.proofs.CountLists.{counts-scale}
+use Rattle.product_laws.proofs.CountLists.{counts-coefficient, some_term}
 use Rattle.product_laws.proofs.Growing.{multiplied_counts}
-use Rattle.lr_product.specs.ProductOfFactors.{HaveRows, MayMeet, AllMayMeet}
-use Rattle.lr_product.proofs.CountSums.{Reaches-more, Reaches-same, Same-append}
+use Rattle.lr_product.specs.ProductOfFactors.{AreSmallCounts, AllMayMeet}
+use native.Mathlib.Nat.{mul-le-mul_left}
 
--- ---- a list that is read term by term
+abbrev pub equal : List ℕ → List ℕ → Bool
+equal = pointwise nat_eq
 
-pub read_of : (terms : Terms (List ℕ)) (xs : WholeTerms) → terms_of whole xs ≡ terms → numerators terms ≡ xs
-read_of terms xs e = ap (λ (l : Terms (List ℕ)). numerators l) (sym e) ∙ numerators-terms xs
+-- ---- a table in place of a list that is the same
 
-met : (done : WholeTerms) (p : Term) (rest : WholeTerms) → Among p (done ++ p ∷ rest)
-met done p rest = Among-append_right p done (p ∷ rest) (inl refl)
+module _ (c : ℤ) (old table list : WholeTerms) (is : Same table list) where
+  pub gains_scaled : (new : WholeTerms) → Gains old (scaled c table) new → Gains old (scaled c list) new
+  gains_scaled new =
+      gains_as old (scaled c table) (scaled c list) new
+      (λ φ. scaled_over c φ table ∙ ap (λ z. c *ℤ z) (sums_same table list is φ) ∙ sym (scaled_over c φ list))
 
--- ---- the terms of a list, times a count
+  pub overflows_scaled : IsDistinct equal (keys_of table) → Overflows equal old (scaled c table) → Overflows equal old (scaled c list)
+  overflows_scaled distinct =
+      overflows_as equal old (scaled c table) (scaled c list)
+      (λ x.
+      let l = least_at nat_list_eq_equiv same_partition table list distinct (sums_same table list is) x in
+      let m = mul-le-mul_left (nat_abs c) l in
+      let a = mass_at_scaled equal x c table in
+      let b = mass_at_scaled equal x c list in
+      omega arith)
 
-scale-push : (c : ℤ) (done : WholeTerms) (p : Term) → scale c (done ++ p ∷ []) ≡ scale c done ++ (p.0, c *ℤ p.1) ∷ []
-scale-push c [] p = refl
-scale-push c (t ∷ done) p = ap (λ l. (t.0, c *ℤ t.1) ∷ l) (scale-push c done p)
+-- a coefficient past the limit is one of the multiple by a count
+pub past_overflows : (k : ℕ) (c : ℤ) (old list : WholeTerms) → pos 1 ≤ℤ c → Reaches k (2 ^ 127) list → Overflows equal old (scaled c list)
+past_overflows k c old list one r =
+    let x = r.parts in
+    let w = over_only_within equal x list in
+    let e = coefficient_over list x in
+    let a = mass_at_scaled equal x c list in
+    let g = reached (over (only equal x) list) (let h = r.reaches in omega (arith, ints)) in
+    let m = at_least (nat_abs c) (mass_at equal x list) (positive c one) in
+    (x, omega arith)
+  where
+    reached : (z : ℤ) → pos (2 ^ 127) ≤ℤ z → 2 ^ 127 ≤ nat_abs z
+    reached (pos n) h = omega (arith, ints)
+    reached (negsuc n) h = absurd (omega (arith, ints))
 
-pub scale-append : (c : ℤ) (xs ys : WholeTerms) → scale c (xs ++ ys) ≡ scale c xs ++ scale c ys
-scale-append c [] ys = refl
-scale-append c (t ∷ xs) ys = ap (λ l. (t.0, c *ℤ t.1) ∷ l) (scale-append c xs ys)
+    positive : (z : ℤ) → pos 1 ≤ℤ z → 1 ≤ nat_abs z
+    positive (pos n) h = omega (arith, ints)
+    positive (negsuc n) h = absurd (omega (arith, ints))
 
-pub terms_next : (c : ℤ) (before now next done : WholeTerms) (p : Term) → Same now (before ++ scale c done) → Same next (now ++ (p.0, c *ℤ p.1) ∷ [])
-    → Same next (before ++ scale c (done ++ p ∷ []))
-terms_next c before now next done p e h =
-    subst (λ (l : WholeTerms). Same next l)
-    (append_assoc before (scale c done) ((p.0, c *ℤ p.1) ∷ []) ∙ ap (λ (l : WholeTerms). before ++ l) (sym (scale-push c done p)))
-    (Same_trans next (now ++ (p.0, c *ℤ p.1) ∷ []) ((before ++ scale c done) ++ (p.0, c *ℤ p.1) ∷ []) h (Same-append now (before ++ scale c done) ((p.0, c *ℤ p.1) ∷ []) e))
-
-pub term_count : (terms : Terms (List ℕ)) (done : WholeTerms) (p : Term) (rest : WholeTerms) → AreCounts (numerators terms) → terms_of whole (done ++ p ∷ rest) ≡ terms → pos 0 ≤ℤ p.1
-term_count terms done p rest h e = h p (subst (λ (l : WholeTerms). Among p l) (sym (read_of terms (done ++ p ∷ rest) e)) (met done p rest))
-
-pub terms_large : (k : ℕ) (c : ℤ) (before now done : WholeTerms) (p : Term) (rest : WholeTerms) (terms : Terms (List ℕ)) → terms_of whole (done ++ p ∷ rest) ≡ terms
-    → Same now (before ++ scale c done) → pos 0 ≤ℤ c → AreCounts (numerators terms) → HaveRows k (numerators terms)
-    → pos (2 ^ 127) ≤ℤ coefficient (now ++ (p.0, c *ℤ p.1) ∷ []) p.0 → Reaches k (2 ^ 127) (before ++ scale c (numerators terms))
-terms_large k c before now done p rest terms e is positive counts few large =
-    let all = read_of terms (done ++ p ∷ rest) e in
-    let label = few p (subst (λ (l : WholeTerms). Among p l) (sym all) (met done p rest)) in
-    let rest_counts : AreCounts rest = λ t m. counts t (subst (λ (l : WholeTerms). Among t l) (sym all) (Among-append_right t done (p ∷ rest) (inr m))) in
-    let here : Reaches k (2 ^ 127) (now ++ (p.0, c *ℤ p.1) ∷ []) = record { parts = p.0; partition = label.0; within = label.1; reaches = large } in
-    let there = Reaches-same k (2 ^ 127) (now ++ (p.0, c *ℤ p.1) ∷ []) (before ++ scale c (done ++ p ∷ [])) (terms_next c before now (now ++ (p.0, c *ℤ p.1) ∷ []) done p is (λ α. refl)) here in
-    let more = Reaches-more k (2 ^ 127) (before ++ scale c (done ++ p ∷ [])) (scale c rest) (counts-scale c rest positive rest_counts) there in
-    subst (λ (l : WholeTerms). Reaches k (2 ^ 127) l)
-    (append_assoc before (scale c (done ++ p ∷ [])) (scale c rest)
-    ∙ ap (λ (l : WholeTerms). before ++ l) (sym (scale-append c (done ++ p ∷ []) rest) ∙ ap (scale c) (append_assoc done (p ∷ []) rest ∙ sym all)))
-    more
+    at_least : (a b : ℕ) → 1 ≤ a → b ≤ a * b
+    at_least a b h = let m = mul-le-mul_left b h in omega arith
 
 -- ---- the products of labels
-
-each-push : {A : Type 0} (f : A → WholeTerms) (xs : List A) (x : A) → each f (xs ++ x ∷ []) ≡ each f xs ++ f x
-each-push f [] x = append-nil (f x)
-each-push f (y ∷ xs) x = ap (λ l. f y ++ l) (each-push f xs x) ∙ sym (append_assoc (f y) (each f xs) (f x))
-
-each-append : {A : Type 0} (f : A → WholeTerms) (xs ys : List A) → each f (xs ++ ys) ≡ each f xs ++ each f ys
-each-append f [] ys = refl
-each-append f (x ∷ xs) ys = ap (λ l. f x ++ l) (each-append f xs ys) ∙ sym (append_assoc (f x) (each f xs) (each f ys))
 
 -- the products of one label
 abbrev pub products_at : ℕ → List ℕ → Term → WholeTerms
 products_at k next t = scale t.1 (classical_product k (t.0 ∷ next ∷ []))
 
-pub products_next : (k : ℕ) (next : List ℕ) (now after done : WholeTerms) (p : Term) → Same now (multiplied k next done) → Same after (now ++ products_at k next p)
-    → Same after (multiplied k next (done ++ p ∷ []))
-products_next k next now after done p e h =
-    subst (λ (l : WholeTerms). Same after l) (sym (each-push (products_at k next) done p))
-    (Same_trans after (now ++ products_at k next p) (multiplied k next done ++ products_at k next p) h (Same-append now (multiplied k next done) (products_at k next p) e))
+each-append : {A : Type 0} (f : A → WholeTerms) (xs ys : List A) → each f (xs ++ ys) ≡ each f xs ++ each f ys
+each-append f [] ys = refl
+each-append f (x ∷ xs) ys = ap (λ l. f x ++ l) (each-append f xs ys) ∙ sym (append_assoc (f x) (each f xs) (each f ys))
 
-pub label_met : (next : List ℕ) (terms : Terms (List ℕ)) (done : WholeTerms) (p : Term) (rest : WholeTerms) → AllMayMeet next (numerators terms) → terms_of whole (done ++ p ∷ rest) ≡ terms → MayMeet next p
-label_met next terms done p rest h e = h p (subst (λ (l : WholeTerms). Among p l) (sym (read_of terms (done ++ p ∷ rest) e)) (met done p rest))
+pub multiplied-append : (k : ℕ) (next : List ℕ) (xs ys : WholeTerms) → multiplied k next (xs ++ ys) ≡ multiplied k next xs ++ multiplied k next ys
+multiplied-append k next xs ys = each-append (products_at k next) xs ys
 
-pub products_large : (k : ℕ) (next : List ℕ) (now done : WholeTerms) (p : Term) (rest : WholeTerms) (terms : Terms (List ℕ)) → terms_of whole (done ++ p ∷ rest) ≡ terms → IsPartition next
-    → Same now (multiplied k next done) → AllMayMeet next (numerators terms)
-    → Reaches k (2 ^ 127) (now ++ products_at k next p) → Reaches k (2 ^ 127) (multiplied k next (numerators terms))
-products_large k next now done p rest terms e q is may large =
-    let all = read_of terms (done ++ p ∷ rest) e in
-    let in_all : (t : Term) → Among t rest → Among t (numerators terms) = λ t m. subst (λ (l : WholeTerms). Among t l) (sym all) (Among-append_right t done (p ∷ rest) (inr m)) in
-    let there = Reaches-same k (2 ^ 127) (now ++ products_at k next p) (multiplied k next (done ++ p ∷ [])) (products_next k next now (now ++ products_at k next p) done p is (λ α. refl)) large in
-    let rest_counts = multiplied_counts k next rest (λ t m. let f = may t (in_all t m) in f.partition) q (λ t m. let f = (may t (in_all t m)).positive in omega (arith, ints)) in
-    let more = Reaches-more k (2 ^ 127) (multiplied k next (done ++ p ∷ [])) (multiplied k next rest) rest_counts there in
-    subst (λ (l : WholeTerms). Reaches k (2 ^ 127) l)
-    (sym (each-append (products_at k next) (done ++ p ∷ []) rest) ∙ ap (multiplied k next) (append_assoc done (p ∷ []) rest ∙ sym all))
-    more
+module _ (k : ℕ) (next : List ℕ) (product : WholeTerms) (q : IsPartition next) (may : AllMayMeet next product) where
+  counted : AreCounts (multiplied k next product)
+  counted = multiplied_counts k next product (λ t m. (may t m).partition) q (λ t m. let h = (may t m).positive in omega (arith, ints))
+
+  -- where the products overflow, they reach the limit
+  pub overflow_reaches : Overflows equal [] (multiplied k next product) → Reaches k (2 ^ 127) (multiplied k next product)
+  overflow_reaches o =
+      let list = multiplied k next product in
+      let large = o.1 in
+      let here : coefficient list o.0 ≡ pos (mass_at equal o.0 list) = coefficient_over list o.0 ∙ counts_at equal o.0 list counted in
+      let found = some_term list o.0 (λ z. omega (arith, ints)) in
+      let from = Among_from_each (products_at k next) found.0 product found.1 in
+      let u = Among_from_map (λ (t : Term). let term : Term = (t.0, from.0.1 *ℤ t.1) in term) found.0 (classical_product k (from.0.0 ∷ next ∷ [])) from.2 in
+      let label : u.0.0 ≡ o.0 = sym (ap (λ (t : Term). t.0) u.2) ∙ found.2 in
+      let c = classical_product-term k (from.0.0 ∷ next ∷ []) u.0 u.1 in
+      record {
+        parts = o.0;
+        partition = subst IsPartition label c.partition;
+        within = subst (λ l. rows l ≤ k) label c.few;
+        reaches = omega (arith, ints);
+      }
+
+  module _ (sums sorted : WholeTerms) (gains : Gains [] (multiplied k next product) sums) (was : IsCombination equal is_label whole sums)
+      (is : IsCombination equal is_label whole sorted) (same : HasSameCoefficients equal (pos 0) sums sorted) where
+    pub sorted_product : Same sorted (multiplied k next product)
+    sorted_product =
+        same_sums sorted (multiplied k next product)
+        (λ φ. let e = over_same nat_list_eq_equiv same_partition sums sorted was is same φ in let g = gains.sums φ in omega (arith, ints))
+
+    -- what a table holds is below the limit
+    pub sorted_small : AreHeld equal (pos 0) (FitsSigned w128) sorted → AreSmallCounts (multiplied k next product)
+    sorted_small held parts =
+        let e = sym (sorted_product parts) ∙ coefficient_found sorted is.distinct parts in
+        let n = counts-coefficient (multiplied k next product) parts counted in
+        let s = small (found_at equal (pos 0) sorted parts) (held.at_label parts) in
+        (n, omega (arith, ints))
+      where
+        small : (z : ℤ) → FitsSigned w128 z → z <ℤ pos (2 ^ 127)
+        small (pos n) f = let k : n < 2 ^ 127 = f.sfits in omega (arith, ints)
+        small (negsuc n) f = omega (arith, ints)
+
+-- ---- lists that are the same
+
+pub small_same : (xs ys : WholeTerms) → Same xs ys → AreSmallCounts xs → AreSmallCounts ys
+small_same xs ys e small parts = let s = small parts in let x = e parts in (omega (arith, ints, s.0), omega (arith, ints, s.1))
+
+pub Reaches-same : (k c : ℕ) (xs ys : WholeTerms) → Same xs ys → Reaches k c xs → Reaches k c ys
+Reaches-same k c xs ys e r = record { parts = r.parts; partition = r.partition; within = r.within; reaches = let x = e r.parts in let g = r.reaches in omega (arith, ints) }

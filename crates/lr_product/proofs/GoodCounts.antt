@@ -1,6 +1,7 @@
 -- Counts of good tableaux and Schur coefficients.
 use Rattle.std.proofs.Common.{◌≡◌, ℕ, ◌+◌, ◌^◌, ◌<◌, ◌≤◌, ◌⊎◌, inl, inr, min, nat_abs, Bool, true, false, cond, List, [], ◌∷◌, map, length, refl, sym, ap, ◌∙◌, subst, arith, ℤ, pos, negsuc, ◌+ℤ◌, ◌≤ℤ◌}
-use Rattle.std.specs.Prelude.{Result, Ok, Err, Option, Some, None, IfOk, OnOk, IfSome, IsTrue}
+use Rattle.std.specs.Prelude.{Result, Ok, Err, Option, Some, None, IfOk, OnOk, IfSome, IsTrue, nat_eq}
+use Rattle.std.specs.Cmp.Lexicographic.{pointwise}
 use Rattle.std.specs.Option.{unwrap_or}
 use Rattle.std.proofs.lemmas.Bool.{cases_lt, cases_Bool, le-leb, leb-true, false_from_ne_true, both_ways}
 use Rattle.std.proofs.lemmas.Int.{ints}
@@ -10,9 +11,12 @@ use Rattle.sym_model.specs.Polynomial.{Poly, Term, Same, same, coefficient, join
 use Rattle.sym_model.specs.Schur.{contains, semistandard, fillings_of, row_lengths, content, letters_of, schur, skew_schur}
 use Rattle.sym_model.specs.GoodTableau.{good_tableaux, product_count, skew_count}
 use Rattle.sym_model.specs.Alternant.{alternant, staircase, schur_coefficient}
-use Rattle.sym_model.specs.LabelLimits.{is_partition}
-use Rattle.sym_model.specs.Expansion.{Fraction, Terms}
-use Rattle.sym_model.specs.WholeTerms.{WholeTerms, numerators, absolute_total}
+use Rattle.sym_model.specs.LabelLimits.{is_partition, is_label}
+use Rattle.sym_model.specs.Expansion.{Fraction}
+use Rattle.sym_model.specs.WholeTerms.{WholeTerms, as_fractions, absolute_total}
+use Rattle.coeff_rings.specs.Fractions.{whole}
+use Rattle.linear_combinations.proofs.Found.{numerators-as_fractions, AreWhole-as_fractions}
+use Rattle.linear_combinations.proofs.Steps.{IsCombination-empty}
 use Rattle.sym_model.specs.Kind.{product}
 use Rattle.sym_model.specs.Answer.{answer}
 use Rattle.sym_model.specs.Command.{mult, skew, coef}
@@ -34,7 +38,7 @@ use Rattle.alternant_laws.proofs.Degrees.{coefficient-other_degree, times-of_deg
 use Rattle.alternant_laws.proofs.ClassicalProducts.{classical_product-coefficient, classical_product-term}
 use Rattle.lr_product.specs.WeighedSum.{comes_to, VanishesOutside}
 use Rattle.lr_product.specs.Capped.{Agree}
-use Rattle.lr_product.specs.Counts.{good_count, IsPastSomewhere}
+use Rattle.lr_product.specs.Counts.{good_count, HasCounts, IsPastSomewhere}
 use Rattle.lr_product.proofs.Sums.{pos_comes}
 use Rattle.lr_product.proofs.ColumnsOfCounts.{over-states, over-ext}
 
@@ -45,8 +49,8 @@ pub no_bound : (f : List ℕ → List ℕ → ℕ) → VanishesOutside [] f
 no_bound f [] right h = absurd (cc)
 no_bound f (a ∷ ν) right h = absurd (cc)
 
-pub counts_agree : {E : Type 0} (n : ℕ) (w g : List ℕ → ℕ) (r : Result (Terms (List ℕ)) E) → ((parts : List ℕ) → Agree (w parts) (g parts)) → IfOk r (ListsCounts n w) → OnOk r ((parts : List ℕ) → w parts < 2 ^ 127) → IfOk r (ListsCounts n g)
-counts_agree n w g (Ok terms) a c f = record { whole = c.whole; labels = c.labels; counts = λ parts p h. c.counts parts p h ∙ ap pos ((a parts).below (f parts)) }
+pub counts_agree : {E : Type 0} (n : ℕ) (w g : List ℕ → ℕ) (r : Result WholeTerms E) → ((parts : List ℕ) → Agree (w parts) (g parts)) → IfOk r (HasCounts n w) → OnOk r ((parts : List ℕ) → w parts < 2 ^ 127) → IfOk r (HasCounts n g)
+counts_agree n w g (Ok terms) a c f = record { table = c.table; labels = c.labels; counts = λ parts p h. c.counts parts p h ∙ ap pos ((a parts).below (f parts)) }
 counts_agree n w g (Err e) a c f = tt
 
 pub fits_agree : {T E : Type 0} (w g : List ℕ → ℕ) (r : Result T E) → ((parts : List ℕ) → Agree (w parts) (g parts)) → OnOk r ((parts : List ℕ) → w parts < 2 ^ 127) → OnOk r ((parts : List ℕ) → g parts < 2 ^ 127)
@@ -108,22 +112,26 @@ same_counts n m start outer inner count e p o i holds s c = record {
 no_label : (terms : WholeTerms) (ν : List ℕ) → ((t : List ℕ × ℤ) → Among t terms → t.0 ≡ ν → ⊥) → coefficient terms ν ≡ pos 0
 no_label terms ν h = total_none (λ (t : Term). cond (same t.0 ν) t.1 (pos 0)) terms (λ t m. ap (λ (b : Bool). cond b t.1 (pos 0)) (same_apart t.0 ν (h t m)))
 
--- the labels of a list of counts
-label_of_counts : (k : ℕ) (count : List ℕ → ℕ) (terms : Terms (List ℕ)) → ListsCounts k count terms → (t : List ℕ × ℤ) → Among t (numerators terms) → IsPartition t.0 × (rows t.0 ≤ k)
-label_of_counts k count terms c t m =
-    let u = Among_from_map (λ (v : List ℕ × Fraction). (v.0, v.1.0)) t terms m in
-    subst (λ (l : List ℕ). IsPartition l × (rows l ≤ k)) (sym (ap (λ (v : List ℕ × ℤ). v.0) u.2)) (c.labels u.0 u.1)
+-- the terms as fractions
+pub lists_counts : (k : ℕ) (count : List ℕ → ℕ) (terms : WholeTerms) → HasCounts k count terms → ListsCounts k count (as_fractions terms)
+lists_counts k count terms c = record {
+  whole = AreWhole-as_fractions terms;
+  labels = λ t m.
+      let u = Among_from_map (λ (v : List ℕ × ℤ). let term : List ℕ × Fraction = (v.0, (v.1, 1)) in term) t terms m in
+      subst (λ (l : List ℕ). IsPartition l × (rows l ≤ k)) (sym (ap (λ (v : List ℕ × Fraction). v.0) u.2)) (c.labels u.0 u.1);
+  counts = λ parts p h. ap (λ (l : WholeTerms). coefficient l parts) (numerators-as_fractions terms) ∙ c.counts parts p h;
+}
 
-pub lists_in : (n m : ℕ) (good count : List ℕ → ℕ) (terms : Terms (List ℕ)) → SameCounts n m good count → ListsCounts n good terms → ListsCounts m count terms
+pub lists_in : (n m : ℕ) (good count : List ℕ → ℕ) (terms : WholeTerms) → SameCounts n m good count → HasCounts n good terms → HasCounts m count terms
 lists_in n m good count terms same_ones c = record {
-  whole = c.whole;
+  table = c.table;
   labels = λ t k. let l = c.labels t k in (l.0, let a = l.1 in let b = same_ones.fewer in omega arith);
   counts = λ ν q l. by ν q l (cases_lt n (rows ν));
 }
   where
-    by : (ν : List ℕ) → IsPartition ν → rows ν ≤ m → (n < rows ν) ⊎ (rows ν ≤ n) → coefficient (numerators terms) ν ≡ pos (count ν)
+    by : (ν : List ℕ) → IsPartition ν → rows ν ≤ m → (n < rows ν) ⊎ (rows ν ≤ n) → coefficient terms ν ≡ pos (count ν)
     by ν q l (inl k) =
-        no_label (numerators terms) ν (λ t g e. let r = label_of_counts n good terms c t g in let a = r.1 in let d = ap length e in absurd (omega arith))
+        no_label terms ν (λ t g e. let r = c.labels t g in let a = r.1 in let d = ap length e in absurd (omega arith))
         ∙ sym (ap pos (same_ones.none_past ν q l k))
     by ν q l (inr k) = c.counts ν q k ∙ sym (ap pos (same_ones.same_within ν q k))
 
@@ -143,8 +151,8 @@ past_in n m good count same_ones p = record {
 }
 
 -- the empty list, where nothing is counted
-pub none_counted : (m : ℕ) (count : List ℕ → ℕ) → ((ν : List ℕ) → count ν ≡ 0) → ListsCounts m count []
-none_counted m count e = record { whole = tt; labels = λ t k. absurd k; counts = λ ν q l. sym (ap pos (e ν)) }
+pub none_counted : (m : ℕ) (count : List ℕ → ℕ) → ((ν : List ℕ) → count ν ≡ 0) → HasCounts m count []
+none_counted m count e = record { table = IsCombination-empty (pointwise nat_eq) is_label whole; labels = λ t k. absurd k; counts = λ ν q l. sym (ap pos (e ν)) }
 
 -- ---- coefficients past the limit
 
@@ -168,7 +176,7 @@ has_none_past m f count e small (c, d, past) =
 
 -- ---- products
 
-product_counts : (m : ℕ) (left right : List ℕ) → IsPartition left → IsPartition right → Counts m (schur_product (left ∷ right ∷ []) m) (product_count m left right)
+pub product_counts : (m : ℕ) (left right : List ℕ) → IsPartition left → IsPartition right → Counts m (schur_product (left ∷ right ∷ []) m) (product_count m left right)
 product_counts m left right p q ν r l = product_coefficients m left right ν p q r l
 
 pub same_product : (n m : ℕ) (left right : List ℕ) → n ≡ min m (rows left + rows right) → IsPartition left → IsPartition right → rows left ≤ n
@@ -183,16 +191,16 @@ variables_same (Some n) k = refl
 enough_same : (variables : Option ℕ) (left right : List ℕ) → unwrap_or variables (rows left + rows right) ≡ variables_or variables (size (map rows (left ∷ right ∷ [])))
 enough_same variables left right = variables_same variables (rows left + rows right) ∙ ap (variables_or variables) (let z : rows left + rows right ≡ rows left + (rows right + 0) = omega arith in z)
 
-pub mult_counts : (variables : Option ℕ) (m : ℕ) (left right : List ℕ) (terms : Terms (List ℕ)) → m ≡ unwrap_or variables (rows left + rows right)
-    → ListsCounts m (product_count m left right) terms
-    → ListsCounts (variables_or variables (rows left + rows right)) (product_count (variables_or variables (rows left + rows right)) left right) terms
-mult_counts variables m left right terms e =
-    subst (λ k. ListsCounts k (product_count k left right) terms) (e ∙ variables_same variables (rows left + rows right))
+pub mult_counts : (variables : Option ℕ) (m : ℕ) (left right : List ℕ) (terms : WholeTerms) → m ≡ unwrap_or variables (rows left + rows right)
+    → HasCounts m (product_count m left right) terms
+    → ListsCounts (variables_or variables (rows left + rows right)) (product_count (variables_or variables (rows left + rows right)) left right) (as_fractions terms)
+mult_counts variables m left right terms e c =
+    subst (λ k. ListsCounts k (product_count k left right) (as_fractions terms)) (e ∙ variables_same variables (rows left + rows right)) (lists_counts m (product_count m left right) terms c)
 
-pub mult_answers : (variables : Option ℕ) (m : ℕ) (left right : List ℕ) (terms : Terms (List ℕ)) → m ≡ unwrap_or variables (rows left + rows right) → IsPartition left → IsPartition right
-    → ListsCounts m (product_count m left right) terms → Meets (mult variables false (left ∷ right ∷ [])) (answer product terms)
+pub mult_answers : (variables : Option ℕ) (m : ℕ) (left right : List ℕ) (terms : WholeTerms) → m ≡ unwrap_or variables (rows left + rows right) → IsPartition left → IsPartition right
+    → HasCounts m (product_count m left right) terms → Meets (mult variables false (left ∷ right ∷ [])) (answer product (as_fractions terms))
 mult_answers variables m left right terms e p q c =
-    mult_meets variables left right terms p q (mult_counts variables m left right terms e c)
+    mult_meets variables left right (as_fractions terms) p q (mult_counts variables m left right terms e c)
 
 pub mult_past : (variables : Option ℕ) (m : ℕ) (left right : List ℕ) → m ≡ unwrap_or variables (rows left + rows right) → IsPartition left → IsPartition right
     → IsPastSomewhere m (product_count m left right) → HasPastCoefficient (mult variables false (left ∷ right ∷ []))
@@ -206,23 +214,23 @@ mult_fits variables m left right e p q small past =
     (subst (λ k. HasPast k (schur_product (left ∷ right ∷ []) k)) (sym (e ∙ enough_same variables left right)) past)
 
 -- the list is the classical product
-pub classical_answer : (k : ℕ) (left right : List ℕ) (terms : Terms (List ℕ)) → IsPartition left → IsPartition right → ListsCounts k (product_count k left right) terms
-    → Same (numerators terms) (classical_product k (left ∷ right ∷ []))
+pub classical_answer : (k : ℕ) (left right : List ℕ) (terms : WholeTerms) → IsPartition left → IsPartition right → HasCounts k (product_count k left right) terms
+    → Same terms (classical_product k (left ∷ right ∷ []))
 classical_answer k left right terms p q c α = by (cases_Bool (is_partition α)) (cases_lt k (rows α))
   where
-    both : ((t : List ℕ × ℤ) → Among t (numerators terms) → t.0 ≡ α → ⊥) → ((t : List ℕ × ℤ) → Among t (classical_product k (left ∷ right ∷ [])) → t.0 ≡ α → ⊥)
-        → coefficient (numerators terms) α ≡ coefficient (classical_product k (left ∷ right ∷ [])) α
-    both g h = no_label (numerators terms) α g ∙ sym (no_label (classical_product k (left ∷ right ∷ [])) α h)
+    both : ((t : List ℕ × ℤ) → Among t terms → t.0 ≡ α → ⊥) → ((t : List ℕ × ℤ) → Among t (classical_product k (left ∷ right ∷ [])) → t.0 ≡ α → ⊥)
+        → coefficient terms α ≡ coefficient (classical_product k (left ∷ right ∷ [])) α
+    both g h = no_label terms α g ∙ sym (no_label (classical_product k (left ∷ right ∷ [])) α h)
 
-    by : (is_partition α ≡ true) ⊎ (is_partition α ≡ false) → (k < rows α) ⊎ (rows α ≤ k) → coefficient (numerators terms) α ≡ coefficient (classical_product k (left ∷ right ∷ [])) α
+    by : (is_partition α ≡ true) ⊎ (is_partition α ≡ false) → (k < rows α) ⊎ (rows α ≤ k) → coefficient terms α ≡ coefficient (classical_product k (left ∷ right ∷ [])) α
     by (inl e) (inr l) =
         let r = is_partition-tells α e in
         c.counts α r l ∙ sym (product_counts k left right p q α r l) ∙ sym (classical_product-coefficient k (left ∷ right ∷ []) α r l)
     by (inl e) (inl l) =
-        both (λ t m d. let r = label_of_counts k (product_count k left right) terms c t m in let a = r.1 in let b = ap length d in absurd (omega arith))
+        both (λ t m d. let r = c.labels t m in let a = r.1 in let b = ap length d in absurd (omega arith))
         (λ t m d. let r = classical_product-term k (left ∷ right ∷ []) t m in let a = r.few in let b = ap length d in absurd (omega arith))
     by (inr e) l =
-        both (λ t m d. let r = label_of_counts k (product_count k left right) terms c t m in both_ways (is_partition α) e (is_partition-from α (subst IsPartition d r.0)))
+        both (λ t m d. let r = c.labels t m in both_ways (is_partition α) e (is_partition-from α (subst IsPartition d r.0)))
         (λ t m d. let r = classical_product-term k (left ∷ right ∷ []) t m in both_ways (is_partition α) e (is_partition-from α (subst IsPartition d r.partition)))
 
 -- a coefficient is at most the sum of the absolute values of all
@@ -246,10 +254,10 @@ heavy_answer k left right p q past =
     let l = past.past in
     omega (arith, ints)
 
-pub classical_if : (variables : Option ℕ) (m : ℕ) (left right : List ℕ) (terms : Terms (List ℕ)) → m ≡ unwrap_or variables (rows left + rows right) → IsPartition left → IsPartition right
-    → ListsCounts m (product_count m left right) terms → IfSome variables (λ k. Same (numerators terms) (classical_product k (left ∷ right ∷ [])))
+pub classical_if : (variables : Option ℕ) (m : ℕ) (left right : List ℕ) (terms : WholeTerms) → m ≡ unwrap_or variables (rows left + rows right) → IsPartition left → IsPartition right
+    → HasCounts m (product_count m left right) terms → IfSome variables (λ k. Same terms (classical_product k (left ∷ right ∷ [])))
 classical_if None m left right terms e p q c = tt
-classical_if (Some k) m left right terms e p q c = classical_answer k left right terms p q (subst (λ j. ListsCounts j (product_count j left right) terms) e c)
+classical_if (Some k) m left right terms e p q c = classical_answer k left right terms p q (subst (λ j. HasCounts j (product_count j left right) terms) e c)
 
 pub heavy_if : (variables : Option ℕ) (m : ℕ) (left right : List ℕ) → m ≡ unwrap_or variables (rows left + rows right) → IsPartition left → IsPartition right
     → IsPastSomewhere m (product_count m left right) → IfSome variables (λ k. 2 ^ 127 ≤ classical_weight k (left ∷ right ∷ []))
@@ -268,14 +276,15 @@ same_skew n m outer inner e o i holds =
     (λ ν r l. times_respects (alternant (staircase m)) (alternant (staircase m)) (times (schur [] m) (skew_schur outer inner m)) (skew_schur outer inner m) (Same_refl (alternant (staircase m))) (nothing_times m outer inner o i) (join ν (staircase m))
     ∙ skew_counts m outer inner o i holds ν r l)
 
-pub skew_counted : (variables : Option ℕ) (m : ℕ) (outer inner : List ℕ) (terms : Terms (List ℕ)) → m ≡ unwrap_or variables (rows outer)
-    → ListsCounts m (skew_count outer inner) terms → ListsCounts (variables_or variables (rows outer)) (skew_count outer inner) terms
-skew_counted variables m outer inner terms e = subst (λ k. ListsCounts k (skew_count outer inner) terms) (e ∙ variables_same variables (rows outer))
+pub skew_counted : (variables : Option ℕ) (m : ℕ) (outer inner : List ℕ) (terms : WholeTerms) → m ≡ unwrap_or variables (rows outer)
+    → HasCounts m (skew_count outer inner) terms → ListsCounts (variables_or variables (rows outer)) (skew_count outer inner) (as_fractions terms)
+skew_counted variables m outer inner terms e c =
+    subst (λ k. ListsCounts k (skew_count outer inner) (as_fractions terms)) (e ∙ variables_same variables (rows outer)) (lists_counts m (skew_count outer inner) terms c)
 
-pub skew_answers : (variables : Option ℕ) (m : ℕ) (outer inner : List ℕ) (terms : Terms (List ℕ)) → m ≡ unwrap_or variables (rows outer) → IsPartition outer → IsPartition inner → contains outer inner ≡ true
-    → ListsCounts m (skew_count outer inner) terms → Meets (skew variables false outer inner) (answer product terms)
+pub skew_answers : (variables : Option ℕ) (m : ℕ) (outer inner : List ℕ) (terms : WholeTerms) → m ≡ unwrap_or variables (rows outer) → IsPartition outer → IsPartition inner → contains outer inner ≡ true
+    → HasCounts m (skew_count outer inner) terms → Meets (skew variables false outer inner) (answer product (as_fractions terms))
 skew_answers variables m outer inner terms e o i holds c =
-    skew_meets variables outer inner terms o i holds (skew_counted variables m outer inner terms e c)
+    skew_meets variables outer inner (as_fractions terms) o i holds (skew_counted variables m outer inner terms e c)
 
 pub skew_past : (variables : Option ℕ) (m : ℕ) (outer inner : List ℕ) → m ≡ unwrap_or variables (rows outer) → IsPartition outer → IsPartition inner → contains outer inner ≡ true
     → IsPastSomewhere m (skew_count outer inner) → HasPastCoefficient (skew variables false outer inner)

@@ -15,8 +15,6 @@ mod Pruned
 mod CountedLists
 pub mod GoodCounts
 mod MixedNumbers
-mod TableLists
-mod CountSums
 mod PastCoefficients
 pub mod FactorSums
 mod Partial

@@ -6,7 +6,7 @@ use Rattle.sym_model.specs.Polynomial.{Poly, Same, nothing, join, coefficient, t
 use Rattle.sym_model.specs.Partition.{IsPartition, size, rows}
 use Rattle.sym_model.specs.Schur.{schur}
 use Rattle.sym_model.specs.Alternant.{alternant, staircase}
-use Rattle.sym_model.specs.Expansion.{Terms}
+use Rattle.sym_model.specs.WholeTerms.{WholeTerms, as_fractions}
 use Rattle.sym_model.specs.Kind.{product}
 use Rattle.sym_model.specs.Answer.{answer}
 use Rattle.sym_model.specs.Command.{mult}
@@ -30,8 +30,8 @@ coefficient_of_nothing f g α e =
     times_respects f f g nothing (Same_refl f) e α
     ∙ coefficient_pair (times f nothing) α ∙ pair_times f nothing (at_only α) ∙ pair_zero f
 
-pub nothing_meets : (given : Option ℕ) (k : ℕ) (factors : List (List ℕ)) (terms : Terms (List ℕ)) → k ≡ unwrap_or given (max (size (map rows factors)) 1)
-    → ((parts : List ℕ) → Among parts factors → IsPartition parts) → HasLonger k factors → terms ≡ [] → Meets (mult given false factors) (answer product terms)
+pub nothing_meets : (given : Option ℕ) (k : ℕ) (factors : List (List ℕ)) (terms : WholeTerms) → k ≡ unwrap_or given (max (size (map rows factors)) 1)
+    → ((parts : List ℕ) → Among parts factors → IsPartition parts) → HasLonger k factors → terms ≡ [] → Meets (mult given false factors) (answer product (as_fractions terms))
 nothing_meets given k factors (t ∷ terms) e are h none = absurd (cc)
 nothing_meets None k factors [] e are h none = let l = among_rows factors h.0 h.1 in let m = h.2 in absurd (omega arith)
 nothing_meets (Some n) k factors [] e are h none = (

@@ -1,73 +1,47 @@
 -- The product of the first factors as a list, and what it is with one factor more.
 use Rattle.std.proofs.Common.{◌≡◌, ◌≤◌, ◌+◌, ◌^◌, inl, inr, ℕ, zero, suc, List, [], ◌∷◌, ◌++◌, append-nil, map, take, drop, refl, sym, ◌∙◌, ap, subst, arith, ℤ, pos, negsuc, ◌*ℤ◌, Option, Some, None}
-use Rattle.std.specs.Prelude.{◌≤ℤ◌, slice_get}
+use Rattle.std.specs.Prelude.{◌≤ℤ◌, slice_get, nat_eq}
+use Rattle.std.specs.Cmp.Lexicographic.{pointwise}
 use Rattle.std.proofs.lemmas.Bool.{and_parts}
 use Rattle.std.proofs.lemmas.Int.{ints}
 use Rattle.std.proofs.lemmas.List.{take-append-drop}
 use Rattle.coeff_rings.specs.Fractions.{whole}
-use Rattle.sym_model.specs.Sum.{Among, Once}
+use Rattle.sym_model.specs.Sum.{Among}
 use Rattle.sym_model.specs.Polynomial.{Poly, Term, Same, coefficient, scale, pair}
 use Rattle.sym_model.specs.Partition.{IsPartition, size, rows}
 use Rattle.sym_model.specs.Schur.{schur}
 use Rattle.sym_model.specs.Canonical.{is_label}
-use Rattle.sym_model.specs.PrintedOrder.{printed_order}
-use Rattle.sym_model.specs.Expansion.{Fraction, Terms}
-use Rattle.sym_model.specs.WholeTerms.{WholeTerms, AreWhole, numerators}
+use Rattle.sym_model.specs.Expansion.{Fraction}
+use Rattle.sym_model.specs.WholeTerms.{WholeTerms, as_fractions, numerators}
 use Rattle.sym_model.specs.Target.{schur_product, ExpandsInSchurs, classical_product}
 use Rattle.sym_model.proofs.Ring.{one-product}
-use Rattle.sym_model.proofs.Sums.{total_ext, Among-map, Among_from_map, Among-append_left, Among-append_right}
-use Rattle.sym_model.proofs.Orders.{printed_order-total}
-use Rattle.sym_model.proofs.CanonicalLists.{each_term-among, is_ordered-tells, labels-once}
+use Rattle.sym_model.proofs.Sums.{total_ext, Among_from_map, Among-append_left, Among-append_right}
 use Rattle.sym_model.proofs.Polynomials.{pair_each, pair_scale, pair_determined, same_from_pair, Same_sym, Same_trans}
 use Rattle.sym_model.proofs.WholeTerms.{represents-whole}
-use Rattle.sparse_polys.specs.Combination.{IsCanonicalList}
-use Rattle.sparse_polys.proofs.Coefficients.{not_zero-is_reduced}
+use Rattle.linear_combinations.specs.Entries.{IsCombination}
+use Rattle.linear_combinations.proofs.Found.{coefficient_of_term, numerators-as_fractions, AreWhole-as_fractions}
+use Rattle.linear_combinations.proofs.LowestTerms.{not_zero-is_reduced}
+use Rattle.linear_combinations.proofs.Totals.{term-among}
 use Rattle.alternant_laws.proofs.ClassicalProducts.{classical_product-term}
 use Rattle.product_laws.specs.FactorSteps.{ArePartitions, multiplied}
 use Rattle.product_laws.proofs.ManyFactors.{classical_step}
 use Rattle.product_laws.specs.CountedProducts.{IsShownIn, Reaches}
-use Rattle.product_laws.proofs.CountLists.{counts-coefficient, some_term, coefficient_of_once}
+use Rattle.product_laws.proofs.CountLists.{counts-coefficient, some_term}
 use Rattle.product_laws.proofs.SomeLabel.{are_two}
 use Rattle.product_laws.proofs.Growing.{counted-all, label_size, reaches_more}
 use Rattle.product_laws.proofs.Expanding.{HasFewRows, expands_next}
 use Rattle.partitions.specs.FactorList.{AreFactors}
 use Rattle.lr_product.specs.ProductOfFactors.{AreSmallCounts, AllMayMeet}
-use Rattle.lr_product.proofs.CountSums.{small_same, Reaches-same}
-
--- ---- terms of a canonical list of whole numbers
-
-numerators-labels : (terms : Terms (List ℕ)) → map (λ (t : Term). t.0) (numerators terms) ≡ map (λ (t : List ℕ × Fraction). t.0) terms
-numerators-labels [] = refl
-numerators-labels (t ∷ terms) = ap (λ l. t.0 ∷ l) (numerators-labels terms)
-
-numerators-once : (terms : Terms (List ℕ)) → IsCanonicalList printed_order is_label terms → Once (map (λ (t : Term). t.0) (numerators terms))
-numerators-once terms c =
-    subst (λ (l : List (List ℕ)). Once l) (sym (numerators-labels terms))
-    (labels-once printed_order printed_order-total terms (is_ordered-tells printed_order printed_order-total.trans terms (and_parts _ _ c).0))
-
-whole-among : (terms : Terms (List ℕ)) → AreWhole terms → (t : List ℕ × Fraction) → Among t terms → t.1.1 ≡ 1
-whole-among [] w t m = absurd m
-whole-among (u ∷ terms) w t (inl e) = ap (λ (v : List ℕ × Fraction). v.1.1) e ∙ w.0
-whole-among (u ∷ terms) w t (inr m) = whole-among terms w.1 t m
-
-not_zero : (terms : Terms (List ℕ)) → AreWhole terms → IsCanonicalList printed_order is_label terms → (t : Term) → Among t (numerators terms) → t.1 ≡ pos 0 → ⊥
-not_zero terms w c t m z =
-    let s = Among_from_map (λ (u : List ℕ × Fraction). let term : Term = (u.0, u.1.0) in term) t terms m in
-    let reduced = (and_parts _ (is_label s.0.0) (each_term-among _ terms (and_parts _ _ c).1 s.0 s.1)).0 in
-    let pair_of : ℤ → ℕ → Fraction = λ x y. (x, y) in
-    let num : s.0.1.0 ≡ pos 0 = sym (ap (λ (u : Term). u.1) s.2) ∙ z in
-    let den : s.0.1.1 ≡ 1 = whole-among terms w s.0 s.1 in
-    not_zero-is_reduced s.0.1 reduced (ap (λ x. pair_of x s.0.1.1) num ∙ ap (λ y. pair_of (pos 0) y) den)
+use Rattle.lr_product.proofs.FactorSums.{small_same, Reaches-same}
 
 -- ---- products of the first factors
 
 -- the list is the product of these factors in k variables, with small counts, and in every number of variables that shows it
-pub record IsPartial (k : ℕ) (front : List (List ℕ)) (product : Terms (List ℕ)) : Type 0 where
-  pub whole : AreWhole product
-  pub canonical : IsCanonicalList printed_order is_label product
-  pub classical : Same (numerators product) (classical_product k front)
+pub record IsPartial (k : ℕ) (front : List (List ℕ)) (product : WholeTerms) : Type 0 where
+  pub table : IsCombination (pointwise nat_eq) is_label whole product
+  pub classical : Same product (classical_product k front)
   pub small : AreSmallCounts (classical_product k front)
-  pub expands : (given : Option ℕ) → IsShownIn given (size (map rows front)) k → ExpandsInSchurs given (schur_product front) product
+  pub expands : (given : Option ℕ) → IsShownIn given (size (map rows front)) k → ExpandsInSchurs given (schur_product front) (as_fractions product)
 
 -- a term of the list is one of the classical product
 pub record IsTermOf (k : ℕ) (front : List (List ℕ)) (t : Term) : Type 0 where
@@ -77,29 +51,54 @@ pub record IsTermOf (k : ℕ) (front : List (List ℕ)) (t : Term) : Type 0 wher
   pub cells : size t.0 ≡ size (map size front)
   pub positive : pos 1 ≤ℤ t.1
 
-pub term_of : (k : ℕ) (first : List ℕ) (rest : List (List ℕ)) (product : Terms (List ℕ)) → ArePartitions (first ∷ rest) → AreWhole product → IsCanonicalList printed_order is_label product
-    → Same (numerators product) (classical_product k (first ∷ rest)) → (t : Term) → Among t (numerators product) → IsTermOf k (first ∷ rest) t
-term_of k first rest product p w c e t m =
+pub term_of : (k : ℕ) (first : List ℕ) (rest : List (List ℕ)) (product : WholeTerms) → ArePartitions (first ∷ rest) → IsCombination (pointwise nat_eq) is_label whole product
+    → Same product (classical_product k (first ∷ rest)) → (t : Term) → Among t product → IsTermOf k (first ∷ rest) t
+term_of k first rest product p is e t m =
     let terms = classical_product k (first ∷ rest) in
     let counted = counted-all k first rest p in
-    let here : t.1 ≡ coefficient terms t.0 = sym (coefficient_of_once (numerators product) (numerators-once product c) t m) ∙ e t.0 in
+    let here : t.1 ≡ coefficient terms t.0 = sym (coefficient_of_term product is.distinct t m) ∙ e t.0 in
     let natural = counts-coefficient terms t.0 counted.counts in
-    let found = some_term terms t.0 (λ z. not_zero product w c t m (here ∙ z)) in
+    let found = some_term terms t.0 (λ z. not_zero t m (here ∙ z)) in
     let old = classical_product-term k (first ∷ rest) found.0 found.1 in
     record {
       partition = subst IsPartition found.2 old.partition;
       few = subst (λ label. rows label ≤ k) found.2 old.few;
       row_bound = subst (λ label. rows label ≤ size (map rows (first ∷ rest))) found.2 (counted.row_bound found.0 found.1);
       cells = subst (λ label. size label ≡ size (map size (first ∷ rest))) found.2 (label_size k (first ∷ rest) found.0 found.1);
-      positive = at_least_one t.1 (subst (λ (z : ℤ). pos 0 ≤ℤ z) (sym here) natural) (not_zero product w c t m);
+      positive = at_least_one t.1 (subst (λ (z : ℤ). pos 0 ≤ℤ z) (sym here) natural) (not_zero t m);
     }
   where
+    not_zero : (u : Term) → Among u product → u.1 ≡ pos 0 → ⊥
+    not_zero u n z = not_zero-is_reduced (whole u.1) (and_parts _ (is_label u.0) (term-among is_label whole product is.proper u n)).0 (ap whole z)
+
     at_least_one : (z : ℤ) → pos 0 ≤ℤ z → (z ≡ pos 0 → ⊥) → pos 1 ≤ℤ z
     at_least_one (pos zero) g n = absurd (n refl)
     at_least_one (pos (suc a)) g n = omega (arith, ints)
     at_least_one (negsuc a) g n = absurd (omega (arith, ints))
 
 -- ---- one factor more
+
+-- a list that stands for the product of the first factors, and one for its products with the next
+expands_whole : (given : Option ℕ) (k : ℕ) (front : List (List ℕ)) (next : List ℕ) (product after : WholeTerms) → IsPartition next
+    → ((t : Term) → Among t product → IsPartition t.0 × (rows t.0 ≤ k) × IsShownIn given (rows t.0 + rows next) k)
+    → ((t : Term) → Among t after → rows t.0 ≤ k)
+    → ExpandsInSchurs given (schur_product front) (as_fractions product) → Same after (multiplied k next product)
+    → IsShownIn given (size (map rows front) + rows next) k
+    → ExpandsInSchurs given (schur_product (front ++ next ∷ [])) (as_fractions after)
+expands_whole given k front next product after q labels few e is shown =
+    expands_next given k front next (as_fractions product) (as_fractions after) (AreWhole-as_fractions product) (AreWhole-as_fractions after) q
+    (subst (λ (l : WholeTerms). (t : Term) → Among t l → IsPartition t.0 × (rows t.0 ≤ k) × IsShownIn given (rows t.0 + rows next) k) (sym (numerators-as_fractions product)) labels)
+    (few_rows given shown) e
+    (subst (λ (l : WholeTerms). Same l (multiplied k next (numerators (as_fractions product)))) (sym (numerators-as_fractions after))
+    (subst (λ (l : WholeTerms). Same after (multiplied k next l)) (sym (numerators-as_fractions product)) is))
+  where
+    few_rows : (given : Option ℕ) → IsShownIn given (size (map rows front) + rows next) k → HasFewRows given (as_fractions after)
+    few_rows None s = tt
+    few_rows (Some n) s = λ t m.
+        let u = Among_from_map (λ (v : Term). let term : List ℕ × Fraction = (v.0, (v.1, 1)) in term) t after m in
+        let f = few u.0 u.1 in
+        let d = ap (λ (v : List ℕ × Fraction). rows v.0) u.2 in
+        omega (arith, s)
 
 pub rows-push : (front : List (List ℕ)) (next : List ℕ) → size (map rows (front ++ next ∷ [])) ≡ size (map rows front) + rows next
 rows-push [] next = omega arith
@@ -109,14 +108,13 @@ pub cells-push : (front : List (List ℕ)) (next : List ℕ) → size (map size 
 cells-push [] next = omega arith
 cells-push (parts ∷ front) next = let h = cells-push front next in omega arith
 
-pub may_meet : (k : ℕ) (first : List ℕ) (rest : List (List ℕ)) (next : List ℕ) (product : Terms (List ℕ)) → ArePartitions (first ∷ rest) → IsPartial k (first ∷ rest) product
-    → size (map size (first ∷ rest)) + size next ≤ 4096 → size (map rows (first ∷ rest)) + rows next ≤ 512 → AllMayMeet next (numerators product)
-may_meet k first rest next product p h cells few t m =
-    let is = term_of k first rest product p h.whole h.canonical h.classical t m in
+pub may_meet : (k : ℕ) (first : List ℕ) (rest : List (List ℕ)) (next : List ℕ) (product : WholeTerms) → ArePartitions (first ∷ rest) → IsPartial k (first ∷ rest) product
+    → size (map size (first ∷ rest)) + size next ≤ 4096 → AllMayMeet next product
+may_meet k first rest next product p h cells t m =
+    let is = term_of k first rest product p h.table h.classical t m in
     record {
       partition = is.partition;
       cells = let e = is.cells in omega arith;
-      rows_in = let e = is.row_bound in omega arith;
       positive = is.positive;
     }
 
@@ -132,11 +130,11 @@ multiplied_respects k next xs ys e =
         (λ t. pair_scale t.1 (classical_product k (t.0 ∷ next ∷ [])) φ) terms
 
 -- the products of the terms are the product with one factor more
-pub step_same : (k : ℕ) (front : List (List ℕ)) (next : List ℕ) (product : Terms (List ℕ)) → ArePartitions front → IsPartition next → IsPartial k front product
-    → Same (multiplied k next (numerators product)) (classical_product k (front ++ next ∷ []))
+pub step_same : (k : ℕ) (front : List (List ℕ)) (next : List ℕ) (product : WholeTerms) → ArePartitions front → IsPartition next → IsPartial k front product
+    → Same (multiplied k next product) (classical_product k (front ++ next ∷ []))
 step_same k front next product p q h =
-    Same_trans (multiplied k next (numerators product)) (multiplied k next (classical_product k front)) (classical_product k (front ++ next ∷ []))
-    (multiplied_respects k next (numerators product) (classical_product k front) h.classical)
+    Same_trans (multiplied k next product) (multiplied k next (classical_product k front)) (classical_product k (front ++ next ∷ []))
+    (multiplied_respects k next product (classical_product k front) h.classical)
     (Same_sym (classical_product k (front ++ next ∷ [])) (multiplied k next (classical_product k front)) (classical_step k front next p q))
 
 are_more : (front : List (List ℕ)) (next : List ℕ) → ArePartitions front → IsPartition next → ArePartitions (front ++ next ∷ [])
@@ -154,35 +152,26 @@ shown_at : (given : Option ℕ) (a b c k : ℕ) → a ≤ b → IsShownIn given 
 shown_at None a b c k h s = omega arith
 shown_at (Some n) a b c k h s = s
 
-pub partial_next : (k : ℕ) (first : List ℕ) (rest : List (List ℕ)) (next : List ℕ) (product after : Terms (List ℕ)) → ArePartitions (first ∷ rest) → IsPartition next → IsPartial k (first ∷ rest) product
-    → AreWhole after → IsCanonicalList printed_order is_label after → Same (numerators after) (multiplied k next (numerators product)) → AreSmallCounts (multiplied k next (numerators product))
+pub partial_next : (k : ℕ) (first : List ℕ) (rest : List (List ℕ)) (next : List ℕ) (product after : WholeTerms) → ArePartitions (first ∷ rest) → IsPartition next → IsPartial k (first ∷ rest) product
+    → IsCombination (pointwise nat_eq) is_label whole after → Same after (multiplied k next product) → AreSmallCounts (multiplied k next product)
     → IsPartial k ((first ∷ rest) ++ next ∷ []) after
-partial_next k first rest next product after p q h w c e small = record {
-  whole = w;
-  canonical = c;
+partial_next k first rest next product after p q h is e small = record {
+  table = is;
   classical = classical;
-  small = small_same (multiplied k next (numerators product)) (classical_product k ((first ∷ rest) ++ next ∷ [])) (step_same k (first ∷ rest) next product p q h) small;
+  small = small_same (multiplied k next product) (classical_product k ((first ∷ rest) ++ next ∷ [])) (step_same k (first ∷ rest) next product p q h) small;
   expands = λ given shown.
       let wide : IsShownIn given (size (map rows (first ∷ rest)) + rows next) k = subst (λ (n : ℕ). IsShownIn given n k) (rows-push (first ∷ rest) next) shown in
-      expands_next given k (first ∷ rest) next product after h.whole w q
-      (λ t m. let is = term_of k first rest product p h.whole h.canonical h.classical t m in (is.partition, is.few, shown_at given (rows t.0) (size (map rows (first ∷ rest))) (rows next) k is.row_bound wide))
-      (few_rows given wide)
+      expands_whole given k (first ∷ rest) next product after q
+      (λ t m. let u = term_of k first rest product p h.table h.classical t m in (u.partition, u.few, shown_at given (rows t.0) (size (map rows (first ∷ rest))) (rows next) k u.row_bound wide))
+      (λ t m. (term_of k first (rest ++ next ∷ []) after (are_more (first ∷ rest) next p q) is classical t m).few)
       (h.expands given (shown_before given (size (map rows (first ∷ rest))) (size (map rows (first ∷ rest)) + rows next) k (omega arith) wide))
-      e;
+      e wide;
 }
   where
-    classical : Same (numerators after) (classical_product k ((first ∷ rest) ++ next ∷ []))
+    classical : Same after (classical_product k ((first ∷ rest) ++ next ∷ []))
     classical =
-        Same_trans (numerators after) (multiplied k next (numerators product)) (classical_product k ((first ∷ rest) ++ next ∷ [])) e
+        Same_trans after (multiplied k next product) (classical_product k ((first ∷ rest) ++ next ∷ [])) e
         (step_same k (first ∷ rest) next product p q h)
-
-    few_rows : (given : Option ℕ) → IsShownIn given (size (map rows (first ∷ rest)) + rows next) k → HasFewRows given after
-    few_rows None s = tt
-    few_rows (Some n) s = λ t m.
-        let is = term_of k first (rest ++ next ∷ []) after (are_more (first ∷ rest) next p q) w c classical (t.0, t.1.0)
-        (Among-map (λ (u : List ℕ × Fraction). let term : Term = (u.0, u.1.0) in term) t after m) in
-        let f = is.few in
-        omega (arith, s)
 
 -- ---- the first two factors
 
@@ -204,44 +193,35 @@ expands_one (Some n) k parts h s = (
     only t (inl e) = let d = ap (λ (u : List ℕ × Fraction). rows u.0) e in omega (arith, s)
     only t (inr m) = absurd m
 
-pub partial_two : (k : ℕ) (left right : List ℕ) (product : Terms (List ℕ)) → IsPartition left → IsPartition right → rows left ≤ k
-    → AreWhole product → IsCanonicalList printed_order is_label product → Same (numerators product) (classical_product k (left ∷ right ∷ []))
+pub partial_two : (k : ℕ) (left right : List ℕ) (product : WholeTerms) → IsPartition left → IsPartition right → rows left ≤ k
+    → IsCombination (pointwise nat_eq) is_label whole product → Same product (classical_product k (left ∷ right ∷ []))
     → AreSmallCounts (classical_product k (left ∷ right ∷ [])) → IsPartial k (left ∷ right ∷ []) product
-partial_two k left right product p q h w c e small = record {
-  whole = w;
-  canonical = c;
+partial_two k left right product p q h is e small = record {
+  table = is;
   classical = e;
   small = small;
   expands = λ given shown.
       let wide : IsShownIn given (rows left + rows right) k = subst (λ (n : ℕ). IsShownIn given n k) (sum_of (rows left) (rows right)) shown in
-      expands_next given k (left ∷ []) right ((left, (pos 1, 1)) ∷ []) product (refl, tt) w q
+      expands_whole given k (left ∷ []) right ((left, pos 1) ∷ []) product q
       (λ t m. label t m given wide)
-      (few_rows given wide)
+      (λ t m. (term_of k left (right ∷ []) product (are_two left right p q) is e t m).few)
       (expands_one given k left h (shown_before given (rows left) (rows left + rows right) k (omega arith) wide))
-      (Same_trans (numerators product) (classical_product k (left ∷ right ∷ [])) (multiplied k right ((left, pos 1) ∷ [])) e
-      (Same_sym (multiplied k right ((left, pos 1) ∷ [])) (classical_product k (left ∷ right ∷ [])) (once_itself (classical_product k (left ∷ right ∷ [])))));
+      (Same_trans product (classical_product k (left ∷ right ∷ [])) (multiplied k right ((left, pos 1) ∷ [])) e
+      (Same_sym (multiplied k right ((left, pos 1) ∷ [])) (classical_product k (left ∷ right ∷ [])) (once_itself (classical_product k (left ∷ right ∷ [])))))
+      (subst (λ (n : ℕ). IsShownIn given n k) (one_of (rows left) (rows right)) wide);
 }
   where
     sum_of : (a b : ℕ) → a + (b + 0) ≡ a + b
     sum_of a b = omega arith
 
-    two : ArePartitions (left ∷ right ∷ [])
-    two parts (inl d) = subst IsPartition (sym d) p
-    two parts (inr (inl d)) = subst IsPartition (sym d) q
-    two parts (inr (inr m)) = absurd m
+    one_of : (a b : ℕ) → a + b ≡ (a + 0) + b
+    one_of a b = omega arith
 
     label : (t : Term) → Among t ((left, pos 1) ∷ []) → (given : Option ℕ) → IsShownIn given (rows left + rows right) k → IsPartition t.0 × (rows t.0 ≤ k) × IsShownIn given (rows t.0 + rows right) k
     label t (inl d) given s =
         let is : t.0 ≡ left = ap (λ (u : Term). u.0) d in
         (subst IsPartition (sym is) p, subst (λ l. rows l ≤ k) (sym is) h, subst (λ (l : List ℕ). IsShownIn given (rows l + rows right) k) (sym is) s)
     label t (inr m) given s = absurd m
-
-    few_rows : (given : Option ℕ) → IsShownIn given (rows left + rows right) k → HasFewRows given product
-    few_rows None s = tt
-    few_rows (Some n) s = λ t m.
-        let is = term_of k left (right ∷ []) product two w c e (t.0, t.1.0) (Among-map (λ (u : List ℕ × Fraction). let term : Term = (u.0, u.1.0) in term) t product m) in
-        let f = is.few in
-        omega (arith, s)
 
 -- ---- places in the list of all factors
 
@@ -267,28 +247,21 @@ cells_within : (xs ys : List (List ℕ)) → size (map size xs) ≤ size (map si
 cells_within [] ys = omega arith
 cells_within (x ∷ xs) ys = let h = cells_within xs ys in omega arith
 
-rows_within : (xs ys : List (List ℕ)) → size (map rows xs) ≤ size (map rows (xs ++ ys))
-rows_within [] ys = omega arith
-rows_within (x ∷ xs) ys = let h = rows_within xs ys in omega arith
-
 -- a product of the factors before one of them may meet it
-pub may_meet_at : (k i : ℕ) (factors : List (List ℕ)) (next : List ℕ) (product : Terms (List ℕ)) → AreFactors factors → 1 ≤ i → slice_get factors i ≡ Some next
-    → IsPartial k (take i factors) product → AllMayMeet next (numerators product)
+pub may_meet_at : (k i : ℕ) (factors : List (List ℕ)) (next : List ℕ) (product : WholeTerms) → AreFactors factors → 1 ≤ i → slice_get factors i ≡ Some next
+    → IsPartial k (take i factors) product → AllMayMeet next product
 may_meet_at k i factors next product f one at h = by (take i factors) refl h
   where
-    within : (xs : List (List ℕ)) → take i factors ≡ xs → (size (map size xs) + size next ≤ 4096) × (size (map rows xs) + rows next ≤ 512)
+    within : (xs : List (List ℕ)) → take i factors ≡ xs → size (map size xs) + size next ≤ 4096
     within xs e =
         let all : factors ≡ (xs ++ next ∷ []) ++ drop (i + 1) factors =
         sym (take-append-drop (i + 1) factors) ∙ ap (λ l. l ++ drop (i + 1) factors) (take_next factors i next at ∙ ap (λ l. l ++ next ∷ []) e) in
         let a = cells_within (xs ++ next ∷ []) (drop (i + 1) factors) in
-        let b = rows_within (xs ++ next ∷ []) (drop (i + 1) factors) in
         let c = cells-push xs next in
-        let d = rows-push xs next in
         let g : size (map size ((xs ++ next ∷ []) ++ drop (i + 1) factors)) ≤ 4096 = subst (λ l. size (map size l) ≤ 4096) all f.small.cells in
-        let j : size (map rows ((xs ++ next ∷ []) ++ drop (i + 1) factors)) ≤ 512 = subst (λ l. size (map rows l) ≤ 512) all f.small.rows in
-        (omega arith, omega arith)
+        omega arith
 
-    by : (xs : List (List ℕ)) → take i factors ≡ xs → IsPartial k xs product → AllMayMeet next (numerators product)
+    by : (xs : List (List ℕ)) → take i factors ≡ xs → IsPartial k xs product → AllMayMeet next product
     by [] e g = absurd (none i factors next one at e)
       where
         none : (j : ℕ) (ys : List (List ℕ)) (y : List ℕ) → 1 ≤ j → slice_get ys j ≡ Some y → take j ys ≡ [] → ⊥
@@ -296,14 +269,13 @@ may_meet_at k i factors next product f one at h = by (take i factors) refl h
         none (suc j) [] y l s d = cc
         none (suc j) (z ∷ ys) y l s d = cc
     by (first ∷ rest) e g =
-        let w = within (first ∷ rest) e in
-        may_meet k first rest next product (λ x m. f.small.partitions x (among_taken i factors x (subst (λ l. Among x l) (sym e) m))) g w.0 w.1
+        may_meet k first rest next product (λ x m. f.small.partitions x (among_taken i factors x (subst (λ l. Among x l) (sym e) m))) g (within (first ∷ rest) e)
 
 -- the next product
-pub partial_at : (k i : ℕ) (factors : List (List ℕ)) (next : List ℕ) (product after : Terms (List ℕ)) → AreFactors factors → 1 ≤ i → slice_get factors i ≡ Some next
-    → IsPartial k (take i factors) product → AreWhole after → IsCanonicalList printed_order is_label after
-    → Same (numerators after) (multiplied k next (numerators product)) → AreSmallCounts (multiplied k next (numerators product)) → IsPartial k (take (i + 1) factors) after
-partial_at k i factors next product after f one at h w c e small = by (take i factors) refl h
+pub partial_at : (k i : ℕ) (factors : List (List ℕ)) (next : List ℕ) (product after : WholeTerms) → AreFactors factors → 1 ≤ i → slice_get factors i ≡ Some next
+    → IsPartial k (take i factors) product → IsCombination (pointwise nat_eq) is_label whole after
+    → Same after (multiplied k next product) → AreSmallCounts (multiplied k next product) → IsPartial k (take (i + 1) factors) after
+partial_at k i factors next product after f one at h is e small = by (take i factors) refl h
   where
     by : (xs : List (List ℕ)) → take i factors ≡ xs → IsPartial k xs product → IsPartial k (take (i + 1) factors) after
     by [] d g = absurd (none i factors next one at d)
@@ -315,12 +287,12 @@ partial_at k i factors next product after f one at h w c e small = by (take i fa
     by (first ∷ rest) d g =
         subst (λ l. IsPartial k l after) (sym (take_next factors i next at ∙ ap (λ l. l ++ next ∷ []) d))
         (partial_next k first rest next product after (λ x m. f.small.partitions x (among_taken i factors x (subst (λ l. Among x l) (sym d) m)))
-        (f.small.partitions next (among_at factors i next at)) g w c e small)
+        (f.small.partitions next (among_at factors i next at)) g is e small)
 
 -- a coefficient of the next product that is too large is one of the whole product
-pub large_at : (k i : ℕ) (factors : List (List ℕ)) (next : List ℕ) (product : Terms (List ℕ)) → AreFactors factors → 1 ≤ i → slice_get factors i ≡ Some next
+pub large_at : (k i : ℕ) (factors : List (List ℕ)) (next : List ℕ) (product : WholeTerms) → AreFactors factors → 1 ≤ i → slice_get factors i ≡ Some next
     → ((parts : List ℕ) → Among parts factors → rows parts ≤ k) → IsPartial k (take i factors) product
-    → Reaches k (2 ^ 127) (multiplied k next (numerators product)) → Reaches k (2 ^ 127) (classical_product k factors)
+    → Reaches k (2 ^ 127) (multiplied k next product) → Reaches k (2 ^ 127) (classical_product k factors)
 large_at k i factors next product f one at few h r = by (take i factors) refl h
   where
     are : (j : ℕ) → ArePartitions (take j factors)
@@ -336,21 +308,18 @@ large_at k i factors next product f one at few h r = by (take i factors) refl h
     by (first ∷ rest) d g =
         let are_front : ArePartitions (first ∷ rest) = subst (λ l. ArePartitions l) d (are i) in
         let q = f.small.partitions next (among_at factors i next at) in
-        let here = Reaches-same k (2 ^ 127) (multiplied k next (numerators product)) (classical_product k ((first ∷ rest) ++ next ∷ [])) (step_same k (first ∷ rest) next product are_front q g) r in
+        let here = Reaches-same k (2 ^ 127) (multiplied k next product) (classical_product k ((first ∷ rest) ++ next ∷ [])) (step_same k (first ∷ rest) next product are_front q g) r in
         let all : (first ∷ (rest ++ next ∷ [])) ++ drop (i + 1) factors ≡ factors =
         ap (λ l. l ++ drop (i + 1) factors) (sym (take_next factors i next at ∙ ap (λ l. l ++ next ∷ []) d)) ∙ take-append-drop (i + 1) factors in
         subst (λ l. Reaches k (2 ^ 127) (classical_product k l)) all
         (reaches_more k (2 ^ 127) first (rest ++ next ∷ []) (drop (i + 1) factors) (are_more (first ∷ rest) next are_front q)
         (λ x m. f.small.partitions x (among_dropped (i + 1) factors x m)) (λ x m. few x (among_dropped (i + 1) factors x m)) (omega arith) here)
 
--- ---- the rows of the factors so far
-
 -- ---- the first two places
 
 pub record BeginWith (factors : List (List ℕ)) (left right : List ℕ) : Type 0 where
   pub taken : take 2 factors ≡ left ∷ right ∷ []
   pub sizes : size left + size right ≤ 4096
-  pub lengths : rows left + rows right ≤ 512
   pub left_among : Among left factors
   pub right_among : Among right factors
 
@@ -363,7 +332,6 @@ begin_with (x ∷ y ∷ factors) left right f a b =
     record {
       taken = ap (λ z. z ∷ y ∷ []) d ∙ ap (λ z. left ∷ z ∷ []) e;
       sizes = let g = f.small.cells in let j = ap size d in let m = ap size e in omega arith;
-      lengths = let g = f.small.rows in let j = ap rows d in let m = ap rows e in omega arith;
       left_among = inl (sym d);
       right_among = inr (inl (sym e));
     }
@@ -378,9 +346,9 @@ large_first k factors left right f b few r =
     (λ x m. f.small.partitions x (among_dropped 2 factors x m)) (λ x m. few x (among_dropped 2 factors x m)) (omega arith) r)
 
 -- the product of the first two factors begins the list
-pub partial_first : (k : ℕ) (factors : List (List ℕ)) (left right : List ℕ) (product : Terms (List ℕ)) → AreFactors factors → BeginWith factors left right
-    → ((parts : List ℕ) → Among parts factors → rows parts ≤ k) → AreWhole product → IsCanonicalList printed_order is_label product
-    → Same (numerators product) (classical_product k (left ∷ right ∷ [])) → AreSmallCounts (classical_product k (left ∷ right ∷ [])) → IsPartial k (take 2 factors) product
-partial_first k factors left right product f b few w c e small =
+pub partial_first : (k : ℕ) (factors : List (List ℕ)) (left right : List ℕ) (product : WholeTerms) → AreFactors factors → BeginWith factors left right
+    → ((parts : List ℕ) → Among parts factors → rows parts ≤ k) → IsCombination (pointwise nat_eq) is_label whole product
+    → Same product (classical_product k (left ∷ right ∷ [])) → AreSmallCounts (classical_product k (left ∷ right ∷ [])) → IsPartial k (take 2 factors) product
+partial_first k factors left right product f b few is e small =
     subst (λ l. IsPartial k l product) (sym b.taken)
-    (partial_two k left right product (f.small.partitions left b.left_among) (f.small.partitions right b.right_among) (few left b.left_among) w c e small)
+    (partial_two k left right product (f.small.partitions left b.left_among) (f.small.partitions right b.right_among) (few left b.left_among) is e small)

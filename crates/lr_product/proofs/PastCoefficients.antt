@@ -6,6 +6,7 @@ use Rattle.std.proofs.lemmas.Bool.{cases_lt}
 use Rattle.std.proofs.lemmas.Int.{ints}
 use Rattle.sym_model.specs.Partition.{IsPartition, size, rows}
 use Rattle.sym_model.specs.Polynomial.{coefficient, times}
+use Rattle.sym_model.specs.GoodTableau.{product_count}
 use Rattle.sym_model.specs.Schur.{schur}
 use Rattle.sym_model.specs.Alternant.{schur_coefficient}
 use Rattle.sym_model.specs.Command.{mult}
@@ -17,8 +18,11 @@ use Rattle.product_laws.specs.FactorSteps.{ArePartitions}
 use Rattle.product_laws.specs.CountedProducts.{Reaches}
 use Rattle.product_laws.proofs.CountLists.{counts-coefficient, some_term}
 use Rattle.product_laws.proofs.Growing.{counted-all}
+use Rattle.product_laws.proofs.SomeLabel.{are_two}
 use Rattle.partitions.specs.FactorList.{AreFactors}
 use Rattle.lr_product.specs.ProductOfFactors.{AreSmallCounts}
+use Rattle.lr_product.specs.Counts.{IsPastSomewhere}
+use Rattle.lr_product.proofs.GoodCounts.{product_counts, has_past, has_none_past}
 
 -- some Schur coefficient of the product in k variables is past 2^127 - 1
 abbrev pub IsPastIn : ℕ → List (List ℕ) → Type 0
@@ -71,6 +75,19 @@ not_past_small k first rest p h parts =
     below : (z : ℤ) → coefficient (classical_product k (first ∷ rest)) parts ≡ z → coefficient (classical_product k (first ∷ rest)) parts <ℤ pos (2 ^ 127)
     below (pos n) e = subst (λ (z : ℤ). z <ℤ pos (2 ^ 127)) (sym e) (by n e (cases_lt n (2 ^ 127)))
     below (negsuc n) e = omega (arith, ints)
+
+-- ---- two factors, by the counts of good tableaux
+
+pub counts_reach : (k : ℕ) (left right : List ℕ) → IsPartition left → IsPartition right → IsPastSomewhere k (product_count k left right)
+    → Reaches k (2 ^ 127) (classical_product k (left ∷ right ∷ []))
+counts_reach k left right p q past =
+    past_reaches k (left ∷ right ∷ []) (has_past k (schur_product (left ∷ right ∷ []) k) (product_count k left right) (product_counts k left right p q) past)
+
+pub counts_small : (k : ℕ) (left right : List ℕ) → IsPartition left → IsPartition right
+    → ((parts : List ℕ) → IsPartition parts → rows parts ≤ k → product_count k left right parts < 2 ^ 127) → AreSmallCounts (classical_product k (left ∷ right ∷ []))
+counts_small k left right p q fits =
+    not_past_small k left (right ∷ []) (are_two left right p q)
+    (has_none_past k (schur_product (left ∷ right ∷ []) k) (product_count k left right) (product_counts k left right p q) fits)
 
 -- ---- factors with no rows
 

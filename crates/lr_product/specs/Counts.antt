@@ -1,7 +1,13 @@
 -- Counts of good tableaux by the partition that they come to (this project's own).
-use Rattle.std.specs.Prelude.{ℕ, ◌^◌, ◌≤◌, List, []}
+use Rattle.std.specs.Prelude.{◌≡◌, ℕ, ◌^◌, ◌≤◌, nat_eq, ℤ, pos, List, []}
+use Rattle.std.specs.Cmp.Lexicographic.{pointwise}
+use Rattle.sym_model.specs.Sum.{Among}
+use Rattle.sym_model.specs.LabelLimits.{is_label}
 use Rattle.sym_model.specs.Partition.{IsPartition, rows}
-use Rattle.sym_model.specs.Polynomial.{resize}
+use Rattle.sym_model.specs.Polynomial.{coefficient, resize}
+use Rattle.sym_model.specs.WholeTerms.{WholeTerms}
+use Rattle.coeff_rings.specs.Fractions.{whole}
+use Rattle.linear_combinations.specs.Entries.{IsCombination}
 use Rattle.tableau_laws.specs.ColumnFold.{column_lines}
 use Rattle.lr_product.specs.WeighedSum.{over_states, comes_to}
 
@@ -15,3 +21,10 @@ pub record IsPastSomewhere (n : ℕ) (count : List ℕ → ℕ) : Type 0 where
   pub partition : IsPartition parts
   pub within : rows parts ≤ n
   pub past : 2 ^ 127 ≤ count parts
+
+-- the terms have the counts as their coefficients: each label stands once and is a partition with at most k rows, and for each
+-- such partition what its terms come to is its count
+pub record HasCounts (k : ℕ) (count : List ℕ → ℕ) (terms : WholeTerms) : Type 0 where
+  pub table : IsCombination (pointwise nat_eq) is_label whole terms
+  pub labels : (t : List ℕ × ℤ) → Among t terms → IsPartition t.0 × (rows t.0 ≤ k)
+  pub counts : (parts : List ℕ) → IsPartition parts → rows parts ≤ k → coefficient terms parts ≡ pos (count parts)

@@ -5,4 +5,3 @@ pub mod ColumnLine
 pub mod Counts
 pub mod Mixing
 pub mod ProductOfFactors
-pub mod Tables

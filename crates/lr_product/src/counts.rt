@@ -1,14 +1,12 @@
 //! Counts of good tableaux as lists of terms.
-ghost use Rattle.std.specs.Prelude.{◌≡◌, ℕ, ◌+◌, ◌^◌, ◌<◌, ◌≤◌, List, [], true, pos, length, nat_eq, IfOk, OnOk, IsErrOf};
+ghost use Rattle.std.specs.Prelude.{◌≡◌, ℕ, ◌+◌, ◌^◌, ◌<◌, ◌≤◌, ◌+ℤ◌, List, [], true, pos, length, nat_eq, IfOk, OnOk, IsErrOf};
 ghost use Rattle.std.specs.Cmp.Lexicographic.{pointwise};
 ghost use Rattle.sym_model.specs.Partition.{IsPartition, size, rows, without_last_zeros};
 ghost use Rattle.sym_model.specs.Schur.{contains};
 ghost use Rattle.partitions.specs.Limits.{IsWithinLimits};
-ghost use Rattle.coeff_rings.specs.Fractions.{whole};
-ghost use Rattle.sparse_polys.specs.Combination.{coefficient, HasMoreAt};
-ghost use Rattle.alternant_laws.specs.GoodSums.{ListsCounts};
+ghost use Rattle.linear_combinations.specs.Entries.{coefficient, HasMoreAt};
 ghost use Rattle.lr_product.specs.WeighedSum.{weighed, unreached, comes_to};
-ghost use Rattle.lr_product.specs.Counts.{good_count, IsPastSomewhere};
+ghost use Rattle.lr_product.specs.Counts.{good_count, HasCounts, IsPastSomewhere};
 
 use crate::columns::ways_by_columns;
 use crate::state::State;
@@ -17,8 +15,8 @@ use crate::table::CAP;
 use calc_base::SumFault;
 use coeff_rings::Int;
 use indexmap::IndexMap;
+use linear_combinations::{Lin, Terms};
 use partitions::Partition;
-use sparse_polys::{Lin, Terms};
 use std::alloc::Global;
 
 /// For each partition the number of good tableaux of a skew shape for a start, in `letters` letters, that come to it.
@@ -36,7 +34,7 @@ pub(crate) fn good_counts(
     requires rows { rows start.now ≤ letters }
     requires inside { contains outer.now inner.now ≡ true }
     requires size { size start.now + size outer.now ≤ 4096 }
-    ensures counts { IfOk result (ListsCounts letters (good_count letters start.now outer.now inner.now)) }
+    ensures counts { IfOk result (HasCounts letters (good_count letters start.now outer.now inner.now)) }
     ensures fits { OnOk result ((parts : List ℕ) → good_count letters start.now outer.now inner.now parts < 2 ^ 127) }
     ensures large { IsErrOf result SumFault.Large → IsPastSomewhere letters (good_count letters start.now outer.now inner.now) }
 {
@@ -61,7 +59,7 @@ fn terms_of_table(
 ) -> Result<Terms<Partition, Int>, SumFault>
     requires letters { letters ≤ 512 }
     requires reached { weighed letters (unreached letters 4096) table.now.entries ≡ 0 }
-    ensures counts { IfOk result (ListsCounts letters (λ parts. weighed letters (comes_to parts) table.now.entries)) }
+    ensures counts { IfOk result (HasCounts letters (λ parts. weighed letters (comes_to parts) table.now.entries)) }
     ensures fits { OnOk result ((parts : List ℕ) → weighed letters (comes_to parts) table.now.entries < 2 ^ 127) }
     ensures large { IsErrOf result SumFault.Large → IsPastSomewhere letters (λ parts. weighed letters (comes_to parts) table.now.entries) }
 {
@@ -85,11 +83,9 @@ fn add_sum(
     ways: u128,
 ) -> Result<(), SumFault>
     requires { IsWithinLimits (without_last_zeros sum.now) }
-    ensures more { OnOk result (HasMoreAt (pointwise nat_eq) terms.old (without_last_zeros sum.now) (whole (pos ways)) terms.new) }
-    ensures fits { OnOk result ((n : ℕ) → coefficient (pointwise nat_eq) terms.old (without_last_zeros sum.now) ≡ whole (pos n)
-        → n < 2 ^ 127 → n + ways < 2 ^ 127) }
+    ensures more { OnOk result (HasMoreAt (pointwise nat_eq) (pos 0) ◌+ℤ◌ terms.old (without_last_zeros sum.now) (pos ways) terms.new) }
     ensures large { IsErrOf result SumFault.Large
-        → (n : ℕ) → coefficient (pointwise nat_eq) terms.old (without_last_zeros sum.now) ≡ whole (pos n) → 2 ^ 127 ≤ n + ways }
+        → (n : ℕ) → coefficient (pointwise nat_eq) (pos 0) terms.old (without_last_zeros sum.now) ≡ pos n → 2 ^ 127 ≤ n + ways }
 {
     if ways >= CAP {
         return Err(SumFault::Large);

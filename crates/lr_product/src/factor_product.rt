@@ -3,8 +3,7 @@ ghost use Rattle.std.specs.Prelude.{◌≡◌, ℕ, false, ◌+◌, List, Option
 ghost use Rattle.std.specs.Option.{ForSome};
 ghost use Rattle.sym_model.specs.Partition.{size, rows as number_of_rows};
 ghost use Rattle.sym_model.specs.Sum.{Among};
-ghost use Rattle.sym_model.specs.Polynomial.{Same};
-ghost use Rattle.sym_model.specs.WholeTerms.{numerators};
+ghost use Rattle.sym_model.specs.WholeTerms.{as_fractions};
 ghost use Rattle.sym_model.specs.Kind as kinds;
 ghost use Rattle.sym_model.specs.Answer.{answer};
 ghost use Rattle.sym_model.specs.Command as commands;
@@ -14,12 +13,12 @@ ghost use Rattle.product_laws.specs.CountedProducts.{IsShownIn, Reaches};
 ghost use Rattle.lr_product.specs.ProductOfFactors.{AreSmallCounts};
 
 use crate::counts::no_terms;
-use crate::mult;
-use crate::next_factor::{is_canonical, times_factor};
+use crate::next_factor::times_factor;
+use crate::product::counts_in;
 use calc_base::SumFault;
 use coeff_rings::Int;
+use linear_combinations::Terms;
 use partitions::{Factors, Partition};
-use sparse_polys::Terms;
 use std::alloc::Global;
 
 /// The product of the Schur polynomials of all factors in Schur polynomials: in every number of variables, or, where
@@ -32,7 +31,7 @@ pub fn mult_all(
     rows: Option<u16>,
 ) -> Result<Terms<Partition, Int>, SumFault>
     requires { ForSome rows (λ k. (1 ≤ k) × (k ≤ 512)) }
-    ensures meets { IfOk result (λ terms. Meets (commands.mult rows false factors.now) (answer kinds.product terms)) }
+    ensures meets { IfOk result (λ terms. Meets (commands.mult rows false factors.now) (answer kinds.product (as_fractions terms))) }
     ensures large { IsErrOf result SumFault.Large → HasPastCoefficient (commands.mult rows false factors.now) }
     ensures fits { OnOk result (HasPastCoefficient (commands.mult rows false factors.now) → ⊥) }
 {
@@ -72,40 +71,20 @@ fn product_in(
     requires variables { (1 ≤ variables) × (variables ≤ 512) }
     requires rows { (parts : List ℕ) → Among parts factors.now → number_of_rows parts ≤ variables }
     ensures meets { IfOk result (λ terms. (given : Option ℕ) → IsShownIn given (size (map number_of_rows factors.now)) variables
-        → ExpandsInSchurs given (schur_product factors.now) terms) }
+        → ExpandsInSchurs given (schur_product factors.now) (as_fractions terms)) }
     ensures small { OnOk result (AreSmallCounts (classical_product variables factors.now)) }
     ensures large { IsErrOf result SumFault.Large → Reaches variables (2 ^ 127) (classical_product variables factors.now) }
 {
     let len = factors.len();
-    let mut product = first_two(
+    let mut product = counts_in(
         alloc,
         factor_at(factors, 0),
         factor_at(factors, 1),
         variables,
     )?;
-    is_canonical(&product);
     for at in 2..len {
         let next = times_factor(alloc, &product, factor_at(factors, at), variables)?;
-        is_canonical(&next);
         product = next;
     }
     Ok(product)
-}
-
-/// The product of two factors in so many variables.
-fn first_two(
-    alloc: Global,
-    left: &Partition,
-    right: &Partition,
-    variables: u16,
-) -> Result<Terms<Partition, Int>, SumFault>
-    requires sizes { size left.now + size right.now ≤ 4096 }
-    requires lengths { number_of_rows left.now + number_of_rows right.now ≤ 512 }
-    requires variables { (1 ≤ variables) × (variables ≤ 512) }
-    ensures product { IfOk result (λ terms. Same (numerators terms) (classical_product variables (left.now ∷ right.now ∷ []))) }
-    ensures small { OnOk result (AreSmallCounts (classical_product variables (left.now ∷ right.now ∷ []))) }
-    ensures large { IsErrOf result SumFault.Large → Reaches variables (2 ^ 127) (classical_product variables (left.now ∷ right.now ∷ [])) }
-{
-    let _ = (left.size(), right.size());
-    mult(alloc, left, right, Some(variables))
 }

@@ -3,7 +3,7 @@ ghost use Rattle.std.specs.Prelude.{◌≡◌, ◌+◌, ◌^◌, ◌<◌, ◌≤
 ghost use Rattle.std.specs.Option.{ForSome};
 ghost use Rattle.sym_model.specs.Partition.{IsPartition, size, rows as number_of_rows};
 ghost use Rattle.sym_model.specs.Polynomial.{Same};
-ghost use Rattle.sym_model.specs.WholeTerms.{numerators};
+ghost use Rattle.sym_model.specs.WholeTerms.{as_fractions};
 ghost use Rattle.sym_model.specs.GoodTableau.{product_count};
 ghost use Rattle.sym_model.specs.Kind as kinds;
 ghost use Rattle.sym_model.specs.Answer.{answer};
@@ -11,13 +11,13 @@ ghost use Rattle.sym_model.specs.Command as commands;
 ghost use Rattle.sym_model.specs.Target.{Meets, classical_product};
 ghost use Rattle.sym_model.specs.LargeAnswer.{HasPastCoefficient, classical_weight, variables_or};
 ghost use Rattle.alternant_laws.specs.GoodSums.{ListsCounts};
-ghost use Rattle.lr_product.specs.Counts.{IsPastSomewhere};
+ghost use Rattle.lr_product.specs.Counts.{HasCounts, IsPastSomewhere};
 
 use crate::counts::{good_counts, no_terms};
 use calc_base::SumFault;
 use coeff_rings::Int;
+use linear_combinations::Terms;
 use partitions::Partition;
-use sparse_polys::Terms;
 use std::alloc::Global;
 
 /// The product of the Schur polynomials of `left` and `right` in Schur polynomials: in every number of variables, or,
@@ -34,17 +34,18 @@ pub fn mult(
     requires sizes { size left.now + size right.now ≤ 4096 }
     requires lengths { number_of_rows left.now + number_of_rows right.now ≤ 512 }
     requires variables { ForSome rows (λ k. (1 ≤ k) × (k ≤ 512)) }
-    ensures meets { IfOk result (λ terms. Meets (commands.mult rows false (left.now ∷ right.now ∷ [])) (answer kinds.product terms)) }
+    ensures meets { IfOk result (λ terms. Meets (commands.mult rows false (left.now ∷ right.now ∷ [])) (answer kinds.product (as_fractions terms))) }
 
     // The coefficients are counts of good tableaux.
-    ensures counts { IfOk result (ListsCounts (variables_or rows (number_of_rows left.now + number_of_rows right.now))
-        (product_count (variables_or rows (number_of_rows left.now + number_of_rows right.now)) left.now right.now)) }
+    ensures counts { IfOk result (λ terms. ListsCounts (variables_or rows (number_of_rows left.now + number_of_rows right.now))
+        (product_count (variables_or rows (number_of_rows left.now + number_of_rows right.now)) left.now right.now)
+        (as_fractions terms)) }
     ensures large { IsErrOf result SumFault.Large → HasPastCoefficient (commands.mult rows false (left.now ∷ right.now ∷ [])) }
     ensures fits { OnOk result (HasPastCoefficient (commands.mult rows false (left.now ∷ right.now ∷ [])) → ⊥) }
 
     // In a number of variables it is the classical product, and a coefficient that is too large makes the sum of all so.
     ensures classical { IfOk result (λ terms. IfSome rows (λ k.
-        Same (numerators terms) (classical_product k (left.now ∷ right.now ∷ [])))) }
+        Same terms (classical_product k (left.now ∷ right.now ∷ [])))) }
     ensures heavy { IsErrOf result SumFault.Large → IfSome rows (λ k.
         2 ^ 127 ≤ classical_weight k (left.now ∷ right.now ∷ [])) }
 {
@@ -54,7 +55,7 @@ pub fn mult(
 
 /// The counts of good tableaux of the shape `right` for the start `left`, for the partitions with at most so many rows as
 /// there are variables. With more letters than both factors have rows there are no more tableaux.
-fn counts_in(
+pub(crate) fn counts_in(
     alloc: Global,
     left: &Partition,
     right: &Partition,
@@ -62,7 +63,7 @@ fn counts_in(
 ) -> Result<Terms<Partition, Int>, SumFault>
     requires sizes { size left.now + size right.now ≤ 4096 }
     requires variables { variables ≤ 512 }
-    ensures counts { IfOk result (ListsCounts variables (product_count variables left.now right.now)) }
+    ensures counts { IfOk result (HasCounts variables (product_count variables left.now right.now)) }
     ensures fits { OnOk result ((parts : List ℕ) → IsPartition parts → number_of_rows parts ≤ variables
         → product_count variables left.now right.now parts < 2 ^ 127) }
     ensures large { IsErrOf result SumFault.Large → IsPastSomewhere variables (product_count variables left.now right.now) }

@@ -8,15 +8,16 @@ ghost use Rattle.sym_model.specs.Kind as kinds;
 ghost use Rattle.sym_model.specs.Answer.{answer};
 ghost use Rattle.sym_model.specs.Command as commands;
 ghost use Rattle.sym_model.specs.Target.{Meets};
+ghost use Rattle.sym_model.specs.WholeTerms.{as_fractions};
 ghost use Rattle.sym_model.specs.LargeAnswer.{HasPastCoefficient, variables_or};
 ghost use Rattle.alternant_laws.specs.GoodSums.{ListsCounts};
-ghost use Rattle.lr_product.specs.Counts.{IsPastSomewhere};
+ghost use Rattle.lr_product.specs.Counts.{HasCounts, IsPastSomewhere};
 
 use crate::counts::{good_counts, no_terms};
 use calc_base::SumFault;
 use coeff_rings::Int;
+use linear_combinations::Terms;
 use partitions::Partition;
-use sparse_polys::Terms;
 use std::alloc::Global;
 
 /// The skew Schur polynomial of `outer` by `inner` in Schur polynomials: in every number of variables, or, where `rows`
@@ -31,11 +32,12 @@ pub fn skew(
     rows: Option<u16>,
 ) -> Result<Terms<Partition, Int>, SumFault>
     requires { ForSome rows (λ k. (1 ≤ k) × (k ≤ 512)) }
-    ensures meets { IfOk result (λ terms. Meets (commands.skew rows false outer.now inner.now) (answer kinds.product terms)) }
+    ensures meets { IfOk result (λ terms. Meets (commands.skew rows false outer.now inner.now) (answer kinds.product (as_fractions terms))) }
 
     // The coefficients are counts of lattice tableaux.
     ensures counts { contains outer.now inner.now ≡ true
-        → IfOk result (ListsCounts (variables_or rows (number_of_rows outer.now)) (skew_count outer.now inner.now)) }
+        → IfOk result (λ terms. ListsCounts (variables_or rows (number_of_rows outer.now)) (skew_count outer.now inner.now)
+        (as_fractions terms)) }
     ensures large { IsErrOf result SumFault.Large → HasPastCoefficient (commands.skew rows false outer.now inner.now) }
     ensures fits { OnOk result (HasPastCoefficient (commands.skew rows false outer.now inner.now) → ⊥) }
 {
@@ -56,7 +58,7 @@ fn counts_in(
 ) -> Result<Terms<Partition, Int>, SumFault>
     requires inside { contains outer.now inner.now ≡ true }
     requires variables { variables ≤ 512 }
-    ensures counts { IfOk result (ListsCounts variables (skew_count outer.now inner.now)) }
+    ensures counts { IfOk result (HasCounts variables (skew_count outer.now inner.now)) }
     ensures fits { OnOk result ((parts : List ℕ) → IsPartition parts → number_of_rows parts ≤ variables
         → skew_count outer.now inner.now parts < 2 ^ 127) }
     ensures large { IsErrOf result SumFault.Large → IsPastSomewhere variables (skew_count outer.now inner.now) }

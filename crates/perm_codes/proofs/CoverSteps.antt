@@ -57,7 +57,7 @@ map_after f g a (suc k) h = ap₂ ◌∷◌ (h (a + 1) (omega arith)) (map_after
 same_swap : (w : List ℕ) (n i j : ℕ) → IsWithinLimits w → 1 ≤ i → i < j → times_swap i j (with_fixed n w) ≡ times_swap i j w
 same_swap w n i j l h k = sym (times_swap_kept (with_fixed n w) i j h k) ∙ ap (times_swap i j) (kept_fixed n w l)
 
-same_inversions : (w : List ℕ) (n : ℕ) → n ≤ 255 → IsWithinLimits w → inversions (with_fixed n w) ≡ inversions w
+pub same_inversions : (w : List ℕ) (n : ℕ) → n ≤ 255 → IsWithinLimits w → inversions (with_fixed n w) ≡ inversions w
 same_inversions w n h l = sym (inversions_kept (with_fixed n w) (short_fixed n w h l).one_line) ∙ ap inversions (kept_fixed n w l)
 
 pub covers_up_fixed :

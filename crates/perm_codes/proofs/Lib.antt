@@ -5,3 +5,4 @@ pub mod WithinLimits
 pub mod NewLetters
 pub mod OneSwap
 pub mod Prefixes
+pub mod InversionCounts

@@ -2,6 +2,7 @@
 ghost use Rattle.std.specs.Prelude.{◌≡◌, ◌+◌, ◌-◌, ◌<◌, length, map, IfOk};
 ghost use Rattle.sym_model.specs.Partition.{after};
 ghost use Rattle.sym_model.specs.Permutation.{covers_among, times_swap};
+ghost use Rattle.sym_model.specs.PlaceOrders.{inversions};
 ghost use Rattle.perm_codes.specs.CoverLists.{CoverLists};
 ghost use Rattle.perm_codes.specs.Limits.{IsShortPermutation};
 
@@ -43,53 +44,68 @@ impl Covers {
         self.down.as_slice()
     }
 
-    /// The covers at a place, counted from 0, of the permutation with these letters, the other places being theirs.
+    /// The covers at a place, counted from 0, of the permutation with these letters, the other places being theirs. The
+    /// inversions of a cover are counted by the caller.
     pub(crate) fn of_letters(
         alloc: Global,
         letters: &[u8],
         place: usize,
+        count: u16,
     ) -> Result<Covers, NoMemory>
         requires permutation { IsShortPermutation letters.now }
         requires inside { place < length letters.now }
+        requires count { count ≡ inversions letters.now + 1 }
         ensures up { IfOk result (λ c. c.up ≡ covers_among letters.now (map
             (λ j. times_swap (place + 1) j letters.now) (after (place + 1) (length letters.now - (place + 1))))) }
         ensures down { IfOk result (λ c. c.down ≡ covers_among letters.now (map
             (λ i. times_swap i (place + 1) letters.now) (after 0 place))) }
     {
         Ok(Covers {
-            up: covers_above(alloc, letters, place)?,
-            down: covers_below(alloc, letters, place)?,
+            up: covers_above(alloc, letters, place, count)?,
+            down: covers_below(alloc, letters, place, count)?,
         })
     }
 }
 
 /// The covers where the letter at a place, counted from 0, changes places with one further right.
-fn covers_above(alloc: Global, letters: &[u8], place: usize) -> Result<Vec<Perm>, NoMemory>
+fn covers_above(
+    alloc: Global,
+    letters: &[u8],
+    place: usize,
+    count: u16,
+) -> Result<Vec<Perm>, NoMemory>
     requires permutation { IsShortPermutation letters.now }
     requires inside { place < length letters.now }
+    requires count { count ≡ inversions letters.now + 1 }
     ensures { IfOk result (λ list. list.items ≡ covers_among letters.now (map
         (λ j. times_swap (place + 1) j letters.now) (after (place + 1) (length letters.now - (place + 1))))) }
 {
     let mut covers = Vec::new(alloc);
     for other in place + 1..letters.len() {
         if makes_one_inversion(letters, place, other) {
-            covers.push(Perm::exchanged(SmallVec::from_slice(alloc, letters)?, place, other))?;
+            covers.push(Perm::cover(SmallVec::from_slice(alloc, letters)?, place, other, count))?;
         }
     }
     Ok(covers)
 }
 
 /// The covers where the letter at a place, counted from 0, changes places with one further left.
-fn covers_below(alloc: Global, letters: &[u8], place: usize) -> Result<Vec<Perm>, NoMemory>
+pub(crate) fn covers_below(
+    alloc: Global,
+    letters: &[u8],
+    place: usize,
+    count: u16,
+) -> Result<Vec<Perm>, NoMemory>
     requires permutation { IsShortPermutation letters.now }
     requires inside { place < length letters.now }
+    requires count { count ≡ inversions letters.now + 1 }
     ensures { IfOk result (λ list. list.items ≡ covers_among letters.now (map
         (λ i. times_swap i (place + 1) letters.now) (after 0 place))) }
 {
     let mut covers = Vec::new(alloc);
     for other in 0..place {
         if makes_one_inversion(letters, other, place) {
-            covers.push(Perm::exchanged(SmallVec::from_slice(alloc, letters)?, other, place))?;
+            covers.push(Perm::cover(SmallVec::from_slice(alloc, letters)?, other, place, count))?;
         }
     }
     Ok(covers)

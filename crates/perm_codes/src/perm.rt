@@ -10,7 +10,7 @@ ghost use Rattle.sym_model.specs.Permutation.{IsCode, IsOneLine, code, covers_do
 ghost use Rattle.sym_model.specs.PrintedOrder.{permutation_order};
 ghost use Rattle.perm_codes.specs.Limits.{ExceedsFirstAt, HasInversions, IsShortPermutation, IsWithinLimits, OffendsFirstAt};
 
-use crate::covers::Covers;
+use crate::covers::{Covers, covers_below};
 use crate::letters::{
     Letters, add_fixed, choose, count_inversions, count_kept, count_smaller, exchange,
     find_last_descent, first_excess, first_offence, narrow,
@@ -212,6 +212,23 @@ impl Perm {
             *self.letters.allocator(),
             letters.as_slice(),
             usize::from(r) - 1,
+            self.inversions + 1,
+        )
+    }
+
+    /// The permutations with exactly one more inversion that come of this one where the letter at place `r`, counted
+    /// from 1, changes places with one further left, which rises.
+    pub fn covers_down(&self, r: u16) -> Result<Vec<Perm>, NoMemory>
+        requires place { 1 ≤ r }
+        requires last { r ≤ 255 }
+        ensures { IfOk result (λ covers. covers.items ≡ covers_down r self.now) }
+    {
+        let letters = add_fixed(*self.letters.allocator(), self.letters(), usize::from(r))?;
+        covers_below(
+            *self.letters.allocator(),
+            letters.as_slice(),
+            usize::from(r) - 1,
+            self.inversions + 1,
         )
     }
 
@@ -220,18 +237,27 @@ impl Perm {
         requires { IsShortPermutation letters.items }
         ensures { result ≡ kept letters.items }
     {
+        let count = count_inversions(letters.as_slice());
+        Perm::of_count(letters, count)
+    }
+
+    /// The permutation with these letters, but for the fixed ones at the end, whose inversions are counted.
+    fn of_count(letters: Letters, count: u16) -> Perm
+        requires letters { IsShortPermutation letters.items }
+        requires count { count ≡ inversions letters.items }
+        ensures { result ≡ kept letters.items }
+    {
         let mut letters = letters;
         let len = count_kept(letters.as_slice());
         letters.truncate(len);
-        let inversions = count_inversions(letters.as_slice());
         Perm {
             letters,
-            inversions,
+            inversions: count,
         }
     }
 
     /// The permutation with these letters, those at two places, counted from 0, in each other's place.
-    pub(crate) fn exchanged(letters: Letters, first: usize, second: usize) -> Perm
+    fn exchanged(letters: Letters, first: usize, second: usize) -> Perm
         requires permutation { IsShortPermutation letters.items }
         requires first { first < length letters.items }
         requires second { second < length letters.items }
@@ -240,6 +266,20 @@ impl Perm {
         let mut letters = letters;
         exchange(&mut letters, first, second);
         Perm::trimmed(letters)
+    }
+
+    /// The permutation with these letters, those at two places, counted from 0, in each other's place, where the
+    /// inversions that it then has are known.
+    pub(crate) fn cover(letters: Letters, first: usize, second: usize, count: u16) -> Perm
+        requires permutation { IsShortPermutation letters.items }
+        requires first { first < length letters.items }
+        requires second { second < length letters.items }
+        requires count { count ≡ inversions (swap letters.items first second) }
+        ensures { result ≡ kept (swap letters.items first second) }
+    {
+        let mut letters = letters;
+        exchange(&mut letters, first, second);
+        Perm::of_count(letters, count)
     }
 }
 

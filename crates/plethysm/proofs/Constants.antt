@@ -17,8 +17,8 @@ use Rattle.monomial_laws.proofs.DividedTerms.{cleared-over}
 use Rattle.monomial_laws.proofs.ExpressionTerms.{list-no_factor}
 use Rattle.plethysm_laws.specs.SumsOfMonomials.{HavePlaces}
 use Rattle.plethysm_laws.proofs.Substitutions.{pair-substitute, replaced-zeros}
-use Rattle.monomial_expand.specs.Tables.{IsTable}
-use Rattle.monomial_expand.specs.LabelSizes.{AreWithin}
+use Rattle.whole_lists.specs.Tables.{IsTable}
+use Rattle.whole_lists.specs.LabelSizes.{AreWithin}
 use Rattle.plethysm.proofs.FactorLists.{label_of}
 use lib.IntN.{+ℤ_idr, *ℤ_comm, zero-*ℤ}
 

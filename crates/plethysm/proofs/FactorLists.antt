@@ -40,11 +40,11 @@ use Rattle.plethysm_laws.proofs.PathBounds.{path-product}
 use Rattle.sparse_polys.specs.MonomialProducts.{greatest_size, AreSums}
 use Rattle.sparse_polys.specs.Refusal.{IsRefused}
 use Rattle.sparse_polys.proofs.Rows.{greatest_size-among}
-use Rattle.monomial_expand.specs.Tables.{IsTable}
-use Rattle.monomial_expand.specs.LabelSizes.{AreWithin}
-use Rattle.monomial_expand.specs.Large.{ProductIsLarge}
-use Rattle.monomial_expand.proofs.PartitionTerms.{once_before}
-use Rattle.monomial_expand.proofs.WholeLists.{not_refused, Once-labels}
+use Rattle.whole_lists.specs.Tables.{IsTable}
+use Rattle.whole_lists.specs.LabelSizes.{AreWithin}
+use Rattle.whole_lists.specs.Large.{ProductIsLarge}
+use Rattle.whole_lists.proofs.PartitionTerms.{once_before}
+use Rattle.whole_lists.proofs.WholeLists.{not_refused, Once-labels}
 use Rattle.plethysm.specs.BoundedSums.{IsBoundedSum}
 use Rattle.plethysm.specs.PathSums.{power_sum_in}
 use native.Mathlib.Nat.{mul-le-mul_left, mul-pos}

@@ -3,7 +3,7 @@ use Rattle.std.proofs.Common.{◌≡◌, ℕ, ◌+◌, ◌*◌, ◌^◌, ◌≤�
 use Rattle.std.proofs.lemmas.Nat.{mul-le}
 use Rattle.std.proofs.Math.Nat.{one-le-pow, pow-le-pow_right}
 use Rattle.sym_model.specs.Expansion.{Basis, elementaries, completes, power_sums, schurs}
-use Rattle.basis_change.specs.Limits.{most_cells}
+use Rattle.change_from_monomials.specs.Limits.{most_cells}
 use native.Mathlib.Nat.{mul-le-mul_left, mul-le-mul_right, pow-suc, pow-zero}
 
 module _ (N a K b : ℕ) (n : 1 ≤ N) (k : 1 ≤ K) where

@@ -25,10 +25,10 @@ use Rattle.monomial_laws.proofs.DividedTerms.{cleared-over}
 use Rattle.plethysm_laws.specs.PositiveExpression.{HasNoSigns}
 use Rattle.plethysm_laws.proofs.ListBounds.{bounded-list}
 use Rattle.plethysm_laws.proofs.NonnegativeTerms.{coefficient-nonnegative, nonnegative-value, denominator-one}
-use Rattle.monomial_expand.specs.Tables.{IsTable}
-use Rattle.monomial_expand.specs.LabelSizes.{AreWithin}
-use Rattle.monomial_expand.proofs.Bounds.{coefficient-list}
-use Rattle.monomial_expand.proofs.WholeLists.{Once-keys, coefficient-numerators, found-among}
+use Rattle.whole_lists.specs.Tables.{IsTable}
+use Rattle.whole_lists.specs.LabelSizes.{AreWithin}
+use Rattle.whole_lists.proofs.Bounds.{coefficient-list}
+use Rattle.whole_lists.proofs.WholeLists.{Once-keys, coefficient-numerators, found-among}
 use Rattle.plethysm.specs.BoundedSums.{IsBoundedSum}
 use Rattle.plethysm.specs.PlethysmLists.{AreNaturalNumbers}
 use native.Mathlib.Nat.{mul-pos}

@@ -15,10 +15,10 @@ use Rattle.monomial_laws.specs.ExpressionTerms.{in_monomials, over}
 use Rattle.monomial_laws.proofs.Splits.{In-monomial_terms}
 use Rattle.plethysm_laws.proofs.PathBounds.{path-met}
 use Rattle.plethysm_laws.proofs.PathWeights.{weight-met, weight-product, weight-outer}
-use Rattle.monomial_expand.specs.Tables.{IsTable}
+use Rattle.whole_lists.specs.Tables.{IsTable}
 use Rattle.coeff_rings.specs.Fractions.{scaled}
-use Rattle.basis_change.specs.ClearedAnswer.{IsClearedBy}
-use Rattle.basis_change.proofs.ClearedAnswers.{absolute-over}
+use Rattle.change_from_monomials.specs.ClearedAnswer.{IsClearedBy}
+use Rattle.family_lists.proofs.Totals.{absolute-over}
 use Rattle.plethysm.specs.BoundedSums.{IsBoundedSum}
 use Rattle.plethysm.specs.PathSums.{IsPastPath}
 use Rattle.plethysm.proofs.FactorLists.{label_of, places, sums}

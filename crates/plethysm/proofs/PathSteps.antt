@@ -13,8 +13,8 @@ use Rattle.sym_model.proofs.Ring.{one-product}
 use Rattle.sym_model.proofs.Polynomials.{pair_plus, pair_scale, pair_determined, coefficient_plus, coefficient_scale}
 use Rattle.sym_model.proofs.WholeTerms.{coefficient-combined}
 use Rattle.monomial_laws.specs.ExpressionTerms.{in_monomials, IsList, over}
-use Rattle.monomial_expand.specs.Large.{SumIsLarge}
-use Rattle.monomial_expand.proofs.Bounds.{coefficient-list}
+use Rattle.whole_lists.specs.Large.{SumIsLarge}
+use Rattle.whole_lists.proofs.Bounds.{coefficient-list}
 use Rattle.plethysm_laws.specs.PowerSumPlethysm.{met}
 use Rattle.plethysm_laws.proofs.PathBounds.{coefficient-met}
 use Rattle.plethysm.specs.PathSums.{power_sum_in, power_sum_at, IsPastStep, IsPastPath}

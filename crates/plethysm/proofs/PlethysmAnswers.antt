@@ -14,9 +14,9 @@ use Rattle.sym_model.proofs.CanonicalLists.{each_term-among}
 use Rattle.sym_model.proofs.Orders.{is_label-tells}
 use Rattle.monomial_laws.specs.ExpressionTerms.{in_monomials, over}
 use Rattle.monomial_laws.proofs.PowerSumLists.{EachLabel-map}
-use Rattle.monomial_expand.specs.Tables.{IsTable}
-use Rattle.monomial_expand.proofs.WholeLists.{Once-keys}
-use Rattle.monomial_expand.proofs.Quotients.{Quotients, IsDivided-quotients}
+use Rattle.whole_lists.specs.Tables.{IsTable}
+use Rattle.whole_lists.proofs.WholeLists.{Once-keys}
+use Rattle.whole_lists.proofs.Quotients.{Quotients, IsDivided-quotients}
 use Rattle.plethysm_laws.proofs.Paths.{plethysm-path}
 use Rattle.plethysm_laws.proofs.RepeatedMonomials.{repeated-places}
 use Rattle.plethysm.specs.BoundedSums.{IsBoundedSum}

@@ -1,12 +1,12 @@
 -- Lists in m of which no coefficient is negative, with their bounds as polynomials (this project's own).
-use Rattle.std.specs.Prelude.{ℕ, ◌≤◌}
+use Rattle.std.specs.Prelude.{ℕ, ℤ, pos, ◌≤◌, ◌≤ℤ◌, List}
+use Rattle.sym_model.specs.Sum.{Among}
 use Rattle.sym_model.specs.WholeTerms.{WholeTerms}
 use Rattle.monomial_laws.specs.ExpressionTerms.{in_monomials}
 use Rattle.monomial_laws.specs.Majorant.{IsBounded}
-use Rattle.monomial_expand.specs.Strips.{AreNatural}
 
 -- no coefficient of the list in m is negative, and in every number of variables it is bounded by K at the degree b
 pub record IsBoundedSum (K b : ℕ) (W : WholeTerms) : Type 0 where
   pub some : 1 ≤ K
-  pub natural : AreNatural W
+  pub natural : (t : List ℕ × ℤ) → Among t W → pos 0 ≤ℤ t.1
   pub bounded : (n : ℕ) → IsBounded K b n (in_monomials W n)

@@ -5,20 +5,21 @@ ghost use Rattle.sym_model.specs.ListWeight.{IsBounded};
 ghost use Rattle.sym_model.specs.Plethysm.{plethysm, plethysm_weight};
 ghost use Rattle.sym_model.specs.Polynomial.{Poly};
 ghost use Rattle.sym_model.specs.WholeTerms.{numerators};
-ghost use Rattle.calc_expressions.specs.Trees.{basis_of};
+ghost use Rattle.expression_reading.specs.Trees.{basis_of};
 ghost use Rattle.sparse_polys.specs.MonomialProducts.{greatest_size};
-ghost use Rattle.monomial_expand.specs.LabelSizes.{AreWithin};
+ghost use Rattle.whole_lists.specs.LabelSizes.{AreWithin};
 ghost use Rattle.plethysm.specs.BoundedSums.{IsBoundedSum};
 ghost use Rattle.plethysm.specs.PlethysmLists.{AreNaturalNumbers, IsPlethysmOf};
 
 use crate::path::multiplied_out;
-use basis_change::{factorial, greatest_size, is_table, to_basis};
 use calc_base::{Basis, SumFault, Weight};
+use change_from_monomials::{greatest_size, is_table, to_basis};
 use coeff_rings::Frac;
-use monomial_expand::{denominator_product, divided};
 use partitions::Partition;
 use sparse_polys::Lin;
 use std::alloc::Global;
+use whole_lists::divided;
+use whole_numbers::{denominator_product, factorial};
 
 /// The plethysm F[G]: the variables of F replaced by the monomials of G, each as often as its coefficient says (Macdonald, I.8).
 /// Both lists are read in m; the answer is an expansion in the target, in every number of variables.

@@ -9,17 +9,17 @@ ghost use Rattle.sym_model.specs.WholeTerms.{numerators};
 ghost use Rattle.monomial_laws.specs.ExpressionTerms.{IsList};
 ghost use Rattle.plethysm_laws.specs.PowerSumPlethysm.{dilated};
 ghost use Rattle.sparse_polys.specs.MonomialProducts.{greatest_size};
-ghost use Rattle.monomial_expand.specs.LabelSizes.{AreWithin};
+ghost use Rattle.whole_lists.specs.LabelSizes.{AreWithin};
 ghost use Rattle.plethysm.specs.BoundedSums.{IsBoundedSum};
 ghost use Rattle.plethysm.specs.PathSums.{power_sum_in};
 
-use basis_change::{is_table, numerator_of};
 use calc_base::SumFault;
+use change_from_monomials::{is_table, numerator_of};
 use coeff_rings::Frac;
-use monomial_expand::{Whole, is_whole, single};
 use partitions::Partition;
 use sparse_polys::{Lin, times_whole_in_m};
 use std::alloc::{AllocError, Global};
+use whole_lists::{Whole, is_whole, single};
 
 /// Each number times k.
 fn multiplied(alloc: Global, parts: &[u16], k: u16) -> Result<Vec<u16>, AllocError>

@@ -9,13 +9,13 @@ ghost use Rattle.plethysm.specs.BoundedSums.{IsBoundedSum};
 ghost use Rattle.plethysm.specs.PathSums.{power_sum_in, IsPastStep, IsPastPath};
 
 use crate::factors::over_parts;
-use basis_change::scaled_number;
 use calc_base::SumFault;
+use change_from_monomials::scaled_number;
 use coeff_rings::{Frac, Int};
-use monomial_expand::{Whole, sum_of};
 use partitions::Partition;
 use sparse_polys::Lin;
 use std::alloc::Global;
+use whole_lists::{Whole, sum_of};
 
 /// The sum with z times p_λ[G] added.
 fn with_product(

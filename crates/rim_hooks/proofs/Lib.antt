@@ -2,13 +2,9 @@ pub mod Placing
 pub mod LowestEntries
 pub mod CoreFacts
 pub mod AlcoveFacts
-pub mod CollectedTerms
-pub mod Reducing
 pub mod ClassicalLists
-pub mod Reflecting
-pub mod RaisedTerms
-pub mod ScaledTerms
-pub mod CollectedLists
 pub mod FactorSteps
 pub mod QuantumSteps
 pub mod FusionSteps
+pub mod ReducedProducts
+pub mod SignCasts

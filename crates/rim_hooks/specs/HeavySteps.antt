@@ -1,7 +1,7 @@
 -- Steps of a weight of 2^127 or more (this project's own).
 use Rattle.std.specs.Prelude.{ℕ, ◌^◌, ◌≤◌, List}
-use Rattle.sym_model.specs.ReductionSteps.{IsQuantumStep, IsQuantumWeight, IsFusionStep, IsFusionWeight, IsStepWeight, shape_of}
-use Rattle.sym_model.specs.WholeTerms.{WholeTerms, WholeTermsOf}
+use Rattle.sym_model.specs.ReductionSteps.{IsQuantumWeight, IsFusionWeight, IsStepWeight}
+use Rattle.sym_model.specs.WholeTerms.{WholeTermsOf}
 
 -- one of the steps from the terms through the factors has such a weight
 abbrev pub HasHeavyStep : {Label : Type 0}
@@ -13,14 +13,6 @@ abbrev pub HasHeavyStep : {Label : Type 0}
     → Type 0
 HasHeavyStep {Label = Label} shape step k terms factors =
     (weight : ℕ) × IsStepWeight {Label = Label} shape step k terms factors weight × (2 ^ 127 ≤ weight)
-
--- so it is where rim hooks of n cells are removed
-abbrev pub HasHeavyPowers : ℕ → ℕ → WholeTermsOf (ℕ × List ℕ) → List (List ℕ) → Type 0
-HasHeavyPowers k n terms factors = HasHeavyStep {Label = ℕ × List ℕ} shape_of (IsQuantumStep k n) k terms factors
-
--- and where the terms are reflected into the alcove of level n - k
-abbrev pub HasHeavyShapes : ℕ → ℕ → WholeTerms → List (List ℕ) → Type 0
-HasHeavyShapes k n terms factors = HasHeavyStep {Label = List ℕ} (λ shape. shape) (IsFusionStep k n) k terms factors
 
 -- a step weight of the quantum product of the factors is 2^127 or more
 abbrev pub IsHeavyQuantum : ℕ → ℕ → List (List ℕ) → Type 0

@@ -8,3 +8,8 @@ pub mod Collected
 pub mod ReducedLists
 pub mod FactorRows
 pub mod HeavySteps
+pub mod Reductions
+pub mod SignLaws
+pub mod StepLaws
+pub mod QuantumLaws
+pub mod FusionLaws

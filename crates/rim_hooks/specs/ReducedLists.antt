@@ -1,25 +1,28 @@
--- Lists of terms that are reduced term by term.
-use Rattle.std.specs.Prelude.{ℕ, ◌≤◌, Bool, ◌&&◌, nat_eq, List}
-use Rattle.std.specs.Cmp.Lexicographic.{pointwise}
-use Rattle.sym_model.specs.Sum.{Among}
-use Rattle.sym_model.specs.Partition.{rows}
-use Rattle.sym_model.specs.Expansion.{Terms, Fraction}
+-- What a label becomes where its product with a factor has a shape.
+use Rattle.std.specs.Prelude.{ℕ, ◌+◌, ℤ, Option, Some, None, List, [], ◌∷◌}
+use Rattle.sym_model.specs.AlcoveReduction.{alcove_reduction}
 use Rattle.sym_model.specs.WholeTerms.{WholeTerms, WholeTermsOf}
-use Rattle.sym_model.specs.Target.{reduced_terms}
-use Rattle.beta_list_laws.specs.ReductionLists.{reductions_of}
+use Rattle.sym_model.specs.Target.{Reduction}
+use Rattle.beta_list_laws.specs.LowestList.{reduction_by_remainders}
 
 -- terms with powers of q
 abbrev pub PowerTerms : Type 0
 PowerTerms = WholeTermsOf (ℕ × List ℕ)
 
--- each label has at most k rows
-abbrev pub HaveRows : ℕ → Terms (List ℕ) → Type 0
-HaveRows k terms = (t : List ℕ × Fraction) → Among t terms → rows t.0 ≤ k
+-- the partition of a reduction with its sign and the sum of both powers, or nothing
+abbrev pub at_power : ℕ × List ℕ → Reduction → PowerTerms
+at_power label None = []
+at_power label (Some r) = ((label.0 + r.2, r.0), r.1) ∷ []
 
--- the terms in place of which their reductions by rim hooks of n cells stand
-abbrev pub reduced_list : ℕ → ℕ → WholeTerms → WholeTermsOf (ℕ × List ℕ)
-reduced_list k n terms = reduced_terms terms (reductions_of k n terms)
+-- the reduction of a shape by rim hooks of n cells, beside a label with a power of q
+abbrev pub reduced_power : ℕ → ℕ → ℕ × List ℕ → List ℕ → PowerTerms
+reduced_power k n label shape = at_power label (reduction_by_remainders k n shape)
 
--- whether two labels with a power of q are equal
-abbrev pub same_power_label : ℕ × List ℕ → ℕ × List ℕ → Bool
-same_power_label a b = nat_eq a.0 b.0 && pointwise nat_eq a.1 b.1
+-- the partition of a reflection with its sign, or nothing
+abbrev pub at_shape : Option (List ℕ × ℤ) → WholeTerms
+at_shape None = []
+at_shape (Some r) = (r.0, r.1) ∷ []
+
+-- the reduction of a shape into the alcove of level n - k
+abbrev pub reduced_shape : ℕ → ℕ → List ℕ → List ℕ → WholeTerms
+reduced_shape k n label shape = at_shape (alcove_reduction k n shape)

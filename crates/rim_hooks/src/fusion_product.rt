@@ -1,23 +1,97 @@
 //! Fusion products of several Schur classes.
-ghost use Rattle.std.specs.Prelude.{◌≡◌, ◌+◌, ◌<◌, ◌≤◌, length, drop, IfOk, IsErrOf};
-ghost use Rattle.partitions.specs.FactorList.{cells_of, AreFactors};
+ghost use Rattle.std.specs.Prelude.{◌≡◌, ◌+◌, ◌≤◌, IfOk, IsErrOf};
 ghost use Rattle.sym_model.specs.Kind as kinds;
 ghost use Rattle.sym_model.specs.Answer.{answer};
 ghost use Rattle.sym_model.specs.Command as commands;
 ghost use Rattle.sym_model.specs.Target.{Meets};
 ghost use Rattle.sym_model.specs.LargeAnswer.{IsHeavy};
-ghost use Rattle.sym_model.specs.ReductionSteps.{IsFusionStep, IsReflectedInSteps, StepsLead};
-ghost use Rattle.sym_model.specs.WholeTerms.{numerators};
-ghost use Rattle.rim_hooks.specs.FactorRows.{AreFew, HaveShapeRoom};
-ghost use Rattle.rim_hooks.specs.HeavySteps.{HasHeavyShapes, IsHeavyFusion};
+ghost use Rattle.sym_model.specs.ReductionSteps.{IsReflectedInSteps};
+ghost use Rattle.sym_model.specs.WholeTerms.{as_fractions};
 
-use crate::fusion_step::{add_product, times_factor};
+use crate::alcove_of;
+use crate::collecting::add_signed;
 use crate::long_factors::has_long;
-use calc_base::SumFault;
-use coeff_rings::Int;
+use crate::reduction::Reduction;
+use crate::steps::{no_terms, product_in_steps};
+use calc_base::{NoMemory, SumFault};
+use coeff_rings::{Int, Ring};
+use linear_combinations::{Lin, Terms};
 use partitions::{Factors, Partition};
-use sparse_polys::{Lin, Terms};
 use std::alloc::Global;
+
+/// The reflection of partitions with at most `k` rows into the alcove of level `n - k`.
+#[derive(Drop)]
+struct Reflections {
+    k: u16,
+    n: u16,
+}
+
+impl Reduction<Partition> for Reflections {
+    ghost use Rattle.std.specs.Prelude.{◌<◌, ◌≤◌};
+    ghost use Rattle.sym_model.specs.Partition.{size};
+    ghost use Rattle.sym_model.specs.ReductionSteps.{IsFusionStep};
+    ghost use Rattle.rim_hooks.specs.ReducedLists.{reduced_shape};
+    ghost use Rattle.rim_hooks.specs.QuantumLaws.{rule_bounds};
+    ghost use Rattle.rim_hooks.specs.FusionLaws.{start_shape, shape_within, shape_light, shape_room, shape_made, shape_other};
+
+    ghost is_rule = { λ rule. (1 ≤ rule.k) × (rule.k ≤ 64) × (rule.k < rule.n) × (rule.n ≤ 512) };
+
+    ghost variables = { λ rule. rule.k };
+
+    ghost shape = { λ shape. shape };
+
+    ghost cells = { size };
+
+    ghost start = { λ first. first };
+
+    ghost reduced = { λ rule. reduced_shape rule.k rule.n };
+
+    ghost step = { λ rule. IsFusionStep rule.k rule.n };
+
+    fn variables(&self) -> u16 {
+        self.k
+    }
+
+    fn shape(label: &Partition) -> &Partition {
+        label
+    }
+
+    fn start(first: &Partition) -> Result<Partition, NoMemory> {
+        first.copy()
+    }
+
+    fn add_reduced(
+        &self,
+        alloc: Global,
+        _label: &Partition,
+        grown: &Partition,
+        c: Int,
+        d: Int,
+        sums: &mut Lin<Partition, Int>,
+    ) -> Result<(), SumFault> {
+        let Some(alcove) = alcove_of(alloc, grown, self.k, self.n)? else {
+            return Ok(());
+        };
+        let Some(product) = c.mul(d) else {
+            return Err(SumFault::Large);
+        };
+        add_signed(sums, alcove.shape, alcove.sign, product)
+    }
+
+    ghost bounds = { λ rule. rule_bounds rule.k rule.n };
+
+    ghost start_is = { start_shape };
+
+    ghost within = { shape_within };
+
+    ghost light = { λ rule. shape_light rule.k rule.n };
+
+    ghost room = { λ rule. shape_room rule.k rule.n };
+
+    ghost made = { λ rule. shape_made rule.k rule.n };
+
+    ghost changed = { λ rule. shape_other rule.k rule.n };
+}
 
 /// The fusion product of the factors for partitions with at most `rows` rows at a level: the product of their Schur
 /// polynomials in `rows` variables, where each term is reflected into the alcove of that level. It is reflected after
@@ -34,60 +108,18 @@ pub fn fusion(
 ) -> Result<Terms<Partition, Int>, SumFault>
     requires variables { (1 ≤ rows) × (rows ≤ 64) }
     requires levels { (1 ≤ level) × (level ≤ 64) }
-    ensures meets { IfOk result (λ terms. Meets (commands.fusion rows level factors.now) (answer kinds.product terms)) }
+    ensures meets { IfOk result (λ terms. Meets (commands.fusion rows level factors.now) (answer kinds.product (as_fractions terms))) }
 
     // Each step collects the reflections of the product of the terms so far with the next factor.
-    ensures steps { IfOk result (λ terms. IsReflectedInSteps rows (rows + level) factors.now (numerators terms)) }
+    ensures steps { IfOk result (IsReflectedInSteps rows (rows + level) factors.now) }
     ensures large { IsErrOf result SumFault.Large → IsHeavy (commands.fusion rows level factors.now) }
 {
-    let sums = product_in_steps(alloc, factors, rows, rows + level)?;
-    let _ = sums.len();
-    Ok(sums.sorted_terms()?)
-}
-
-/// The product of the factors in `k` variables, reflected into the alcove of level `n - k` after each factor.
-fn product_in_steps(
-    alloc: Global,
-    factors: &Factors,
-    k: u16,
-    n: u16,
-) -> Result<Lin<Partition, Int>, SumFault>
-    requires cells { (1 ≤ k) × (k ≤ 64) × (k < n) × (n ≤ 512) }
-    ensures steps { IfOk result (λ sums. IsReflectedInSteps k n factors.now (numerators sums)) }
-    ensures large { IsErrOf result SumFault.Large → IsHeavyFusion k n factors.now }
-    ensures limits { AreFactors factors.now }
-{
-    let _ = factors.len();
-    let mut sums = Lin::new(alloc);
-    if has_long(factors, k) {
-        return Ok(sums);
+    if has_long(factors, rows) {
+        return no_terms(alloc);
     }
-    let first = factors.get(0).unwrap();
-    let second = factors.get(1).unwrap();
-    add_product(alloc, first, Int::new(1), second, k, n, &mut sums)?;
-    let _ = sums.len();
-    times_rest(alloc, sums, factors, 2, k, n)
-}
-
-/// The terms times the factors from a place on, reflected into the alcove of level `n - k` after each factor.
-fn times_rest(
-    alloc: Global,
-    terms: Lin<Partition, Int>,
-    factors: &Factors,
-    at: usize,
-    k: u16,
-    n: u16,
-) -> Result<Lin<Partition, Int>, SumFault>
-    requires place { at ≤ length factors.now }
-    requires room { HaveShapeRoom k (cells_of (drop at factors.now)) terms }
-    requires few { AreFew k (drop at factors.now) }
-    requires cells { (1 ≤ k) × (k ≤ 64) × (k < n) × (n ≤ 512) }
-    ensures steps { IfOk result (λ sums. StepsLead (IsFusionStep k n) (numerators terms) (drop at factors.now) (numerators sums)) }
-    ensures large { IsErrOf result SumFault.Large → HasHeavyShapes k n (numerators terms) (drop at factors.now) }
-{
-    let Some(factor) = factors.get(at) else {
-        return Ok(terms);
+    let rule = Reflections {
+        k: rows,
+        n: rows + level,
     };
-    let next = times_factor(alloc, &terms, factor, k, n)?;
-    times_rest(alloc, next, factors, at + 1, k, n)
+    product_in_steps::<Partition, Reflections>(alloc, &rule, factors)
 }

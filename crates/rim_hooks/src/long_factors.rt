@@ -1,5 +1,6 @@
 //! Factors with more rows than there are variables.
 ghost use Rattle.std.specs.Prelude.{◌≡◌, ◌+◌, ◌≤◌, false, length, drop, IsTrue};
+ghost use Rattle.partitions.specs.FactorList.{AreFactors};
 ghost use Rattle.rim_hooks.specs.FactorRows.{HasLong, AreFew};
 
 use partitions::Factors;
@@ -8,6 +9,7 @@ use partitions::Factors;
 pub(crate) fn has_long(factors: &Factors, k: u16) -> bool
     ensures long { IsTrue result → HasLong k factors.now }
     ensures few { result ≡ false → AreFew k factors.now }
+    ensures limits { AreFactors factors.now }
 {
     has_long_from(factors, 0, k)
 }
@@ -17,6 +19,7 @@ fn has_long_from(factors: &Factors, at: usize, k: u16) -> bool
     requires { at ≤ length factors.now }
     ensures long { IsTrue result → HasLong k (drop at factors.now) }
     ensures few { result ≡ false → AreFew k (drop at factors.now) }
+    ensures limits { AreFactors factors.now }
 {
     let Some(factor) = factors.get(at) else {
         return false;

@@ -1,26 +1,106 @@
 //! Quantum products of several Schur classes.
-ghost use Rattle.std.specs.Prelude.{◌≡◌, ◌+◌, ◌<◌, ◌≤◌, length, drop, IfOk, IsErrOf};
-ghost use Rattle.partitions.specs.FactorList.{cells_of, AreFactors};
+ghost use Rattle.std.specs.Prelude.{◌≡◌, ◌+◌, ◌≤◌, List, IfOk, IsErrOf};
 ghost use Rattle.sym_model.specs.Kind as kinds;
 ghost use Rattle.sym_model.specs.Answer.{answer};
 ghost use Rattle.sym_model.specs.Command as commands;
-ghost use Rattle.sym_model.specs.Target.{Meets};
-ghost use Rattle.sym_model.specs.LabelLimits.{is_power_label};
+ghost use Rattle.sym_model.specs.Target as target;
+ghost use Rattle.sym_model.specs.Target.{AreReductions, Meets, classical_product, reduced_terms};
 ghost use Rattle.sym_model.specs.LargeAnswer.{IsHeavy};
-ghost use Rattle.sym_model.specs.ReductionSteps.{IsQuantumStep, IsReducedInSteps, StepsLead};
-ghost use Rattle.sym_model.specs.WholeTerms.{numerators};
-ghost use Rattle.sparse_polys.specs.Combination.{IsCombination};
-ghost use Rattle.rim_hooks.specs.FactorRows.{AreFew, HaveRoom};
-ghost use Rattle.rim_hooks.specs.HeavySteps.{HasHeavyPowers, IsHeavyQuantum};
-ghost use Rattle.rim_hooks.specs.ReducedLists.{same_power_label};
+ghost use Rattle.sym_model.specs.ReductionSteps.{IsReducedInSteps};
+ghost use Rattle.sym_model.specs.WholeTerms.{as_fractions};
+ghost use Rattle.reduction_laws.specs.AnyOrder.{HaveSameSums};
 
+use crate::collecting::add_signed;
+use crate::core_of;
 use crate::long_factors::has_long;
-use crate::quantum_step::{add_product, times_factor};
-use calc_base::SumFault;
-use coeff_rings::Int;
-use partitions::Factors;
-use sparse_polys::{Lin, Power, Terms};
+use crate::reduction::Reduction;
+use crate::steps::{no_terms, product_in_steps};
+use calc_base::{NoMemory, SumFault};
+use coeff_rings::{Int, Ring};
+use linear_combinations::{Lin, Terms};
+use partitions::{Factors, Partition};
+use sparse_polys::Power;
 use std::alloc::Global;
+
+/// The removal of rim hooks of `n` cells from partitions with at most `k` rows.
+#[derive(Drop)]
+struct RimHooks {
+    k: u16,
+    n: u16,
+}
+
+impl Reduction<Power> for RimHooks {
+    ghost use Rattle.std.specs.Prelude.{◌+◌, ◌<◌, ◌≤◌};
+    ghost use Rattle.sym_model.specs.Partition.{size};
+    ghost use Rattle.sym_model.specs.ReductionSteps.{shape_of, IsQuantumStep};
+    ghost use Rattle.rim_hooks.specs.ReducedLists.{reduced_power};
+    ghost use Rattle.rim_hooks.specs.QuantumLaws.{rule_bounds, start_power, power_within, power_light, power_room, power_made, power_other};
+
+    ghost is_rule = { λ rule. (1 ≤ rule.k) × (rule.k ≤ 64) × (rule.k < rule.n) × (rule.n ≤ 512) };
+
+    ghost variables = { λ rule. rule.k };
+
+    ghost shape = { shape_of };
+
+    ghost cells = { λ label. label.0 + size label.1 };
+
+    ghost start = { λ first. (0, first) };
+
+    ghost reduced = { λ rule. reduced_power rule.k rule.n };
+
+    ghost step = { λ rule. IsQuantumStep rule.k rule.n };
+
+    fn variables(&self) -> u16 {
+        self.k
+    }
+
+    fn shape(label: &Power) -> &Partition {
+        &label.shape
+    }
+
+    fn start(first: &Partition) -> Result<Power, NoMemory> {
+        Ok(Power {
+            power: 0,
+            shape: first.copy()?,
+        })
+    }
+
+    fn add_reduced(
+        &self,
+        alloc: Global,
+        label: &Power,
+        grown: &Partition,
+        c: Int,
+        d: Int,
+        sums: &mut Lin<Power, Int>,
+    ) -> Result<(), SumFault> {
+        let Some(core) = core_of(alloc, grown, self.k, self.n)? else {
+            return Ok(());
+        };
+        let Some(product) = c.mul(d) else {
+            return Err(SumFault::Large);
+        };
+        let reduced = Power {
+            power: label.power + core.power,
+            shape: core.shape,
+        };
+        add_signed(sums, reduced, core.sign, product)
+    }
+
+    ghost bounds = { λ rule. rule_bounds rule.k rule.n };
+
+    ghost start_is = { start_power };
+
+    ghost within = { power_within };
+
+    ghost light = { λ rule. power_light rule.k rule.n };
+
+    ghost room = { λ rule. power_room rule.k rule.n };
+
+    ghost made = { λ rule. power_made rule.k rule.n };
+
+    ghost changed = { λ rule. power_other rule.k rule.n };
+}
 
 /// The quantum product of the factors for partitions with at most `rows` rows and `cols` columns: the product of their
 /// Schur polynomials in `rows` variables, where each term is reduced by rim hooks of `rows + cols` cells. It is reduced
@@ -37,60 +117,23 @@ pub fn quantum(
 ) -> Result<Terms<Power, Int>, SumFault>
     requires variables { (1 ≤ rows) × (rows ≤ 64) }
     requires columns { (1 ≤ cols) × (cols ≤ 64) }
-    ensures meets { IfOk result (λ terms. Meets (commands.quantum rows cols factors.now) (answer kinds.powers terms)) }
+    ensures meets { IfOk result (λ terms. Meets (commands.quantum rows cols factors.now) (answer kinds.powers (as_fractions terms))) }
+
+    // Whichever rim hooks are removed first: these are the sums of every list of reductions of the classical product.
+    ensures only { IfOk result (λ terms. (reductions : List target.Reduction)
+        → AreReductions rows (rows + cols) (classical_product rows factors.now) reductions
+        → HaveSameSums terms (reduced_terms (classical_product rows factors.now) reductions)) }
 
     // Each step collects the reductions of the product of the terms so far with the next factor.
-    ensures steps { IfOk result (λ terms. IsReducedInSteps rows (rows + cols) factors.now (numerators terms)) }
+    ensures steps { IfOk result (IsReducedInSteps rows (rows + cols) factors.now) }
     ensures large { IsErrOf result SumFault.Large → IsHeavy (commands.quantum rows cols factors.now) }
 {
-    let sums = product_in_steps(alloc, factors, rows, rows + cols)?;
-    let _ = sums.len();
-    Ok(sums.sorted_terms()?)
-}
-
-/// The product of the factors in `k` variables, reduced by rim hooks of `n` cells after each factor.
-fn product_in_steps(
-    alloc: Global,
-    factors: &Factors,
-    k: u16,
-    n: u16,
-) -> Result<Lin<Power, Int>, SumFault>
-    requires cells { (1 ≤ k) × (k ≤ 64) × (k < n) × (n ≤ 512) }
-    ensures steps { IfOk result (λ sums. IsReducedInSteps k n factors.now (numerators sums)) }
-    ensures large { IsErrOf result SumFault.Large → IsHeavyQuantum k n factors.now }
-    ensures limits { AreFactors factors.now }
-{
-    let _ = factors.len();
-    let mut sums = Lin::new(alloc);
-    if has_long(factors, k) {
-        return Ok(sums);
+    if has_long(factors, rows) {
+        return no_terms(alloc);
     }
-    let first = factors.get(0).unwrap();
-    let second = factors.get(1).unwrap();
-    add_product(alloc, 0, first, Int::new(1), second, k, n, &mut sums)?;
-    let _ = sums.len();
-    times_rest(alloc, sums, factors, 2, k, n)
-}
-
-/// The terms times the factors from a place on, reduced by rim hooks of `n` cells after each factor.
-fn times_rest(
-    alloc: Global,
-    terms: Lin<Power, Int>,
-    factors: &Factors,
-    at: usize,
-    k: u16,
-    n: u16,
-) -> Result<Lin<Power, Int>, SumFault>
-    requires place { at ≤ length factors.now }
-    requires room { HaveRoom k (cells_of (drop at factors.now)) terms }
-    requires few { AreFew k (drop at factors.now) }
-    requires cells { (1 ≤ k) × (k ≤ 64) × (k < n) × (n ≤ 512) }
-    ensures steps { IfOk result (λ sums. StepsLead (IsQuantumStep k n) (numerators terms) (drop at factors.now) (numerators sums)) }
-    ensures large { IsErrOf result SumFault.Large → HasHeavyPowers k n (numerators terms) (drop at factors.now) }
-{
-    let Some(factor) = factors.get(at) else {
-        return Ok(terms);
+    let rule = RimHooks {
+        k: rows,
+        n: rows + cols,
     };
-    let next = times_factor(alloc, &terms, factor, k, n)?;
-    times_rest(alloc, next, factors, at + 1, k, n)
+    product_in_steps::<Power, RimHooks>(alloc, &rule, factors)
 }

@@ -1,7 +1,7 @@
 //! Lines of the programs that print rows of library calls.
 //!
-//! To print what is computed is dear to prove, and so is a function with several values that are let go and several `?`. So the
-//! printing is done here, and a list of answers goes to one call.
+//! A function that prints computed values is expensive to prove, and so is one that drops several values between several `?`.
+//! So the printing is done here, and a list of answers goes to one call.
 #![tactic(auto)]
 
 use anyhow::Result;

@@ -2,14 +2,13 @@
 --     final_represents      a list with its pairings represents it
 --     final_fits            a list whose coefficients are below 2^127 shows that all its coefficients are
 --     past_from             and a pairing past that shows one that is not
-use Rattle.std.proofs.Common.{◌≡◌, ℕ, zero, suc, ◌+◌, ◌-◌, ◌^◌, ◌≤◌, Bool, true, false, cond, List, [], ◌∷◌, length, refl, sym, ap, ◌∙◌, subst, inl, inr, arith, ℤ, pos, ◌*ℤ◌, ◌≤ℤ◌, nat_lt, None}
+use Rattle.std.proofs.Common.{◌≡◌, ℕ, zero, suc, ◌-◌, ◌^◌, ◌≤◌, Bool, true, false, cond, List, [], ◌∷◌, length, refl, sym, ap, ◌∙◌, subst, inl, inr, arith, ℤ, pos, ◌*ℤ◌, ◌≤ℤ◌, None}
 use Rattle.std.proofs.lemmas.Int.{ints}
 use Rattle.std.proofs.lemmas.Bool.{and_parts}
 use Rattle.sym_model.specs.Sum.{Among}
 use Rattle.sym_model.specs.Polynomial.{Poly, In, same, pair, coefficient as coefficient_of, resize, fits_in, restrict}
 use Rattle.sym_model.specs.Partition.{in_front, without_last_zeros}
 use Rattle.sym_model.specs.Permutation.{IsOneLine, last_descent}
-use Rattle.sym_model.specs.PlaceOrders.{smaller, inversions}
 use Rattle.sym_model.specs.DividedDifference.{x_to, x_to_in}
 use Rattle.sym_model.specs.Schubert as polynomials
 use Rattle.sym_model.specs.Schubert.{schubert_in}
@@ -123,43 +122,3 @@ pub over_identity : (n : ℕ) (φ : List ℕ → ℤ) (w : List ℕ) (terms : Te
 over_identity n φ w terms o d =
     total_ext (λ (t : List ℕ × Fraction). t.1.0 *ℤ acted n φ w t.0) (λ (t : List ℕ × Fraction). t.1.0 *ℤ shown n φ t.0)
     (λ t. ap (λ z. t.1.0 *ℤ z) (acted_identity n φ w t.0 o d)) terms
-
--- ---- how many inversions there are at most
-
--- the pairs of n places
-unfoldable pub pairs_upto : ℕ → ℕ
-pairs_upto zero = 0
-pairs_upto (suc n) = n + pairs_upto n
-
-smaller_within : (a : ℕ) (w : List ℕ) → smaller a w ≤ length w
-smaller_within a [] = omega arith
-smaller_within a (b ∷ w) = by (nat_lt b a) (smaller_within a w)
-  where
-    by : (t : Bool) → smaller a w ≤ length w → cond t 1 0 + smaller a w ≤ suc (length w)
-    by true h = omega arith
-    by false h = omega arith
-
-inversions_within : (w : List ℕ) → inversions w ≤ pairs_upto (length w)
-unfolding pairs_upto
-inversions_within [] = omega arith
-inversions_within (a ∷ w) = let h = smaller_within a w in let i = inversions_within w in omega arith
-
-pairs_more : (k n : ℕ) → pairs_upto n ≤ pairs_upto (k + n)
-unfolding pairs_upto
-pairs_more zero n = let e : 0 + n ≡ n = omega arith in let p = ap pairs_upto e in omega arith
-pairs_more (suc k) n = let h = pairs_more k n in let e : suc k + n ≡ suc (k + n) = omega arith in let p = ap pairs_upto e in omega arith
-
-pairs_most : pairs_upto 255 ≡ 32385
-unfolding pairs_upto
-pairs_most = refl
-
-pub inversions_upto : (n : ℕ) (w : List ℕ) → length w ≤ n → inversions w ≤ pairs_upto n
-inversions_upto n w h =
-    let a = inversions_within w in
-    let b = pairs_more (n - length w) (length w) in
-    let e : (n - length w) + length w ≡ n = omega arith in
-    let p = ap pairs_upto e in
-    omega arith
-
-pub few_inversions : (w : List ℕ) → length w ≤ 255 → inversions w ≤ 32385
-few_inversions w h = let a = inversions_upto 255 w h in let m = pairs_most in omega arith

@@ -16,7 +16,8 @@ use Rattle.schubert_transition.specs.Transitions.{acted, shown, weight}
 use Rattle.schubert_transition.specs.Todo.{WithPolynomial, value_of, load, AreInOrder, IsWaiting, AreWaiting, HasLargeValue}
 use Rattle.schubert_transition.proofs.Acted.{acted_start}
 use Rattle.schubert_transition.proofs.TodoLists.{load_append}
-use Rattle.schubert_transition.proofs.FinalSums.{past_from, few_inversions}
+use Rattle.perm_codes.proofs.InversionCounts.{few_inversions}
+use Rattle.schubert_transition.proofs.FinalSums.{past_from}
 use Rattle.schubert_transition.proofs.WaitingOrder.{order_rest, order_one}
 use lib.IntN.{+ℤ_idr, +ℤ_idl}
 

@@ -24,8 +24,9 @@ use std::num::NonZeroUsize;
 /// The most terms of a polynomial that is kept.
 const MOST_TERMS: usize = 4096;
 
-/// A bounded store of Schubert polynomials, the least recently asked of which goes when another one comes. A contract sees
-/// the permutations with their polynomials, the most recently asked first, and how many there may be. Never are there more.
+/// A bounded store of Schubert polynomials. When a full store takes another one, the least recently asked polynomial is
+/// dropped. A contract sees the permutations with their polynomials, the most recently asked first, and the capacity, which
+/// is never exceeded.
 #[derive(Drop)]
 pub struct Memo {
     cache: LruCache<Perm, Poly<Int>>,
@@ -58,11 +59,11 @@ impl Memo {
         Ok(Memo { cache, alloc })
     }
 
-    /// The Schubert polynomial of a permutation. One that is kept goes first. Another one with at most 4,096 terms is put
-    /// first, and the last of a full store goes; where there is no memory for that, or it has more terms, the store stays as it
-    /// is.
+    /// The Schubert polynomial of a permutation. If it is kept, it moves to the front. Otherwise it is computed and, with at
+    /// most 4,096 terms, put in front, and a full store drops its last one. If there is no memory for that, or it has more
+    /// terms, the store stays as it is.
     ///
-    /// It is refused as `Large` exactly where a coefficient is past 2^127 - 1. Where it is refused, the store stays as it is.
+    /// It is refused as `Large` exactly if a coefficient exceeds 2^127 - 1, and then the store stays as it is.
     pub fn schubert(&mut self, w: &Perm) -> Result<Poly<Int>, SumFault>
         ensures is { IfOk result (IsSchubertOf w.now) }
         ensures large { IsErrOf result SumFault.Large → HasPastCoefficient (commands.schubert w.now) }
@@ -86,7 +87,7 @@ impl Memo {
         }
     }
 
-    /// The polynomial that is kept for a permutation. None exactly where none is kept for it. It takes no memory.
+    /// The polynomial that is kept for a permutation; None exactly if none is kept for it. It takes no memory.
     pub fn kept(&self, w: &Perm) -> Option<&Poly<Int>>
         ensures value { option_copied result ≡ lookup (pointwise nat_eq w.now) self.now.entries }
         ensures is { IfSome result (λ terms. IsSchubertOf w.now terms.now) }

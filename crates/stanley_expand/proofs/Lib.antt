@@ -3,3 +3,4 @@ pub mod Weights
 pub mod ShapeLimits
 pub mod Popped
 pub mod Expansions
+pub mod GreaterLetters

@@ -12,6 +12,7 @@ ghost use Rattle.schubert_transition.specs.Transitions.{IsShort, weight};
 ghost use Rattle.stanley_laws.specs.Grassmannian.{IsRising, front_beta, front_shape};
 ghost use Rattle.stanley_expand.specs.Walk.{AreRising, walked, HasLargeShape};
 
+use crate::letters::has_more_before;
 use calc_base::{NoMemory, SumFault};
 use coeff_rings::{Int, Scalar};
 use partitions::Partition;
@@ -43,9 +44,33 @@ pub(crate) fn in_schurs(alloc: Global, start: Perm, rows: u16) -> Result<Schurs,
     Ok(sum)
 }
 
+/// Works off a permutation: nothing is left of one in which more than `rows` greater letters stand in front of some letter.
+fn work_off(
+    alloc: Global,
+    todo: &mut Vec<Perm>,
+    perm: &Perm,
+    rows: u16,
+    sum: &mut Schurs,
+) -> Result<(), SumFault>
+    requires few { rows ≤ 64 }
+    requires rising { IsRising rows (rows + 16) perm.now }
+    ensures value { OnOk result ((φ : List ℕ → ℤ) → walked rows φ sum.new todo.new.items
+        ≡ walked rows φ sum.old todo.old.items +ℤ pair (schubert_in perm.now rows) φ) }
+    ensures rising { OnOk result (AreRising rows (rows + 16) todo.old.items → AreRising rows (rows + 16) todo.new.items) }
+    ensures terms { OnOk result (AreTerms rows 4096 sum.old → AreTerms rows 4096 sum.new) }
+    ensures weight { OnOk result (weigh weight todo.new.items < weigh weight todo.old.items + weight perm.now) }
+    ensures large { IsErrOf result SumFault.Large → AreRising rows (rows + 16) todo.old.items → AreTerms rows 4096 sum.old
+        → HasLargeShape rows (λ φ. walked rows φ sum.old todo.old.items +ℤ pair (schubert_in perm.now rows) φ) }
+{
+    if has_more_before(perm, rows) {
+        return Ok(());
+    }
+    replace(alloc, todo, perm, rows, sum)
+}
+
 /// Puts in the place of a permutation those that the transition rule makes of it; one without a descent past the place
 /// `rows` is Grassmannian, and its Schur polynomial is added to the sum.
-fn work_off(
+fn replace(
     alloc: Global,
     todo: &mut Vec<Perm>,
     perm: &Perm,
@@ -82,8 +107,8 @@ fn expand(todo: &mut Vec<Perm>, perm: &Perm, r: u16, s: u16) -> Result<(), NoMem
     ensures { OnOk result (todo.new.items ≡ todo.old.items ++ covers_down r (times_swap r s perm.now)) }
 {
     let lower = perm.times_swap(r, s)?;
-    let covers = lower.covers_at(r)?;
-    push_all(todo, covers.down())
+    let covers = lower.covers_down(r)?;
+    push_all(todo, covers.as_slice())
 }
 
 /// Puts copies of some permutations at the end.

@@ -178,7 +178,7 @@ smaller_one_line x v o h l =
     inside a m = let r = o.letters a m in let p = r.0 in let q = r.1 in among_after 0 (length v) a (omega arith) (omega arith)
 
 -- the place of the last descent is at most m
-rises_past : (m : ℕ) (v : List ℕ) → last_descent_place v ≤ m → (b : ℕ) → m ≤ b → suc b < length v → get_or v b 0 ≤ get_or v (suc b) 0
+pub rises_past : (m : ℕ) (v : List ℕ) → last_descent_place v ≤ m → (b : ℕ) → m ≤ b → suc b < length v → get_or v b 0 ≤ get_or v (suc b) 0
 rises_past m v h b l k = by (last_descent v) refl
   where
     by : (d : Option ℕ) → last_descent v ≡ d → get_or v b 0 ≤ get_or v (suc b) 0

@@ -3,3 +3,4 @@ pub mod Grassmannian
 pub mod FirstPlaces
 pub mod Behind
 pub mod SchurPositive
+pub mod GreaterBefore

@@ -1,2 +1,3 @@
 pub mod Grassmannian
 pub mod SchurPositive
+pub mod GreaterBefore

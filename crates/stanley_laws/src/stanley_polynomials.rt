@@ -4,10 +4,11 @@ ghost use Rattle.std.specs.Prelude.{◌≡◌, ℕ, ◌<◌, ◌≤◌, ◌≤�
 ghost use Rattle.sym_model.specs.Alternant.{schur_coefficient};
 ghost use Rattle.sym_model.specs.Partition.{IsPartition, rows};
 ghost use Rattle.sym_model.specs.Permutation.{IsOneLine, IsTransition, times_swap, covers_down};
-ghost use Rattle.sym_model.specs.Polynomial.{Same, coefficient};
+ghost use Rattle.sym_model.specs.Polynomial.{Same, coefficient, nothing};
 ghost use Rattle.sym_model.specs.Schubert.{schubert_in, schuberts_in};
 ghost use Rattle.sym_model.specs.Stanley.{behind, stanley_in};
 ghost use Rattle.sym_model.specs.Sum.{Among};
+ghost use Rattle.stanley_laws.specs.GreaterBefore.{HasMoreBefore};
 ghost use Rattle.stanley_laws.specs.Grassmannian.{RisesTo};
 ghost use Rattle.stanley_laws.specs.SchurPositive.{IsSchurPositive};
 
@@ -22,6 +23,18 @@ pub fn first_places_law()
     ensures rising { (w : List ℕ) (r s m : ℕ) → IsOneLine w → IsTransition w r s → m < r
         → RisesTo m w → (x : List ℕ) → Among x (covers_down r (times_swap r s w)) → RisesTo m x }
     ensures behind { (m : ℕ) (w : List ℕ) → RisesTo m (behind m w) }
+{}
+
+/// Where more than m greater letters stand in front of some letter of a permutation, its Schubert polynomial is 0 in m
+/// variables, since each permutation that the transition rule makes has such a letter too. So each partition of a Stanley
+/// polynomial has at least as many rows as greater letters stand in front of any letter.
+///
+/// Example: in 3 2 1 two greater letters stand in front of 1, so its Schubert polynomial is 0 in one variable.
+pub fn greater_letters_law()
+    ensures none { (w : List ℕ) (m : ℕ) → IsOneLine w → HasMoreBefore m w → Same (schubert_in w m) nothing }
+    ensures kept { (w : List ℕ) (r s m : ℕ) → IsOneLine w → IsTransition w r s → HasMoreBefore m w
+        → (x : List ℕ) → Among x (covers_down r (times_swap r s w)) → HasMoreBefore m x }
+    ensures example { HasMoreBefore 1 (3 ∷ 2 ∷ 1 ∷ []) }
 {}
 
 /// A Stanley polynomial in m variables is a sum of Schur polynomials of partitions with at most m rows, since the

@@ -1,4 +1,4 @@
-pub mod RowStanding
+pub mod CutTableaux
 pub mod CellJudging
 pub mod RowJudging
 pub mod EmptyRows
@@ -9,6 +9,5 @@ pub mod SkewJudging
 pub mod FaultlessRows
 pub mod SkewTableaux
 pub mod FaultlessPairs
-pub mod TabStanding
 pub mod TabJudging
 mod ReadTableaux

@@ -312,11 +312,10 @@ pair_read words (row ∷ rows) (other ∷ others) r e s a t b j =
     ∙ ap (λ p. unrsk (rows_in [] (tableau_rows x)) (rows_in [] p)) (sym (written_entries other others)))
     r (subst (λ os. IsJudged (StandsFor (unrsk (rows_in [] (map numbers first)) (rows_in [] (map numbers second)))) (first_offence os) r) (sym offends) j)
 
-pub pair_read_rows : {A : Type 0} (f : A → Words) (words rest : Words) (xs ys : List A) (r : Result Read WordsFault) → words ≡ codes "unrsk" ∷ rest
-    → AreTwoTableaux (map f xs) (map f ys) rest
+pub pair_read_rows : {A : Type 0} (f : A → Words) (words : Words) (xs ys : List A) (r : Result Read WordsFault) → AreTwoTableaux (map f xs) (map f ys) words
     → IsJudged (StandsFor (unrsk (rows_in [] (map (λ r. numbers (f r)) xs)) (rows_in [] (map (λ r. numbers (f r)) ys)))) (first_offence (pair_offences (map f xs) (map f ys))) r
     → IsRead (unrsk_entry ∷ []) words r
-pair_read_rows f words rest xs ys r e t j =
-    pair_read words (map f xs) (map f ys) r (e ∙ ap (λ ws. codes "unrsk" ∷ ws) t.words_are) t.first_some t.first_numbers t.second_some t.second_numbers
+pair_read_rows f words xs ys r t j =
+    pair_read words (map f xs) (map f ys) r t.words_are t.first_some t.first_numbers t.second_some t.second_numbers
     (subst (λ ns. IsJudged (StandsFor (unrsk (rows_in [] ns) (rows_in [] (map numbers (map f ys))))) (first_offence (pair_offences (map f xs) (map f ys))) r) (sym (map_twice f numbers xs))
     (subst (λ ns. IsJudged (StandsFor (unrsk (rows_in [] (map (λ r. numbers (f r)) xs)) (rows_in [] ns))) (first_offence (pair_offences (map f xs) (map f ys))) r) (sym (map_twice f numbers ys)) j))

@@ -217,11 +217,10 @@ skew_read words outer inner (row ∷ rows) r e o i s a j =
     (ap (λ p. rect (partition outer) (partition inner) (rows_in (partition outer) p)) (sym (written_entries row rows))) r
     (subst (λ os. IsJudged (StandsFor (rect (partition outer) (partition inner) (rows_in (partition outer) (map numbers (row ∷ rows))))) (first_offence os) r) (sym offends) j)
 
-pub skew_read_rows : {A : Type 0} (f : A → Words) (words rest outer inner : Words) (xs : List A) (r : Result Read WordsFault) → words ≡ codes "rect" ∷ rest
-    → AreSkewWords outer inner (map f xs) rest
+pub skew_read_rows : {A : Type 0} (f : A → Words) (words outer inner : Words) (xs : List A) (r : Result Read WordsFault) → AreSkewWords outer inner (map f xs) words
     → IsJudged (StandsFor (rect (partition outer) (partition inner) (rows_in (partition outer) (map (λ r. numbers (f r)) xs)))) (first_offence (all_skew_offences outer inner (map f xs))) r
     → IsRead (rect_entry ∷ []) words r
-skew_read_rows f words rest outer inner xs r e t j =
-    skew_read words outer inner (map f xs) r (e ∙ ap (λ ws. codes "rect" ∷ ws) t.words_are) t.outer_numbers t.inner_numbers t.rows_some t.rows_numbers
+skew_read_rows f words outer inner xs r t j =
+    skew_read words outer inner (map f xs) r t.words_are t.outer_numbers t.inner_numbers t.rows_some t.rows_numbers
     (subst (λ ns. IsJudged (StandsFor (rect (partition outer) (partition inner) (rows_in (partition outer) ns))) (first_offence (all_skew_offences outer inner (map f xs))) r)
     (sym (map_twice f numbers xs)) j)

@@ -262,13 +262,12 @@ tab_read words outer inner (row ∷ rows) r e o i a j =
     (λ os. IsJudged (IsTab (partition outer) (partition inner) (last_of (partition outer) (partition inner) (map numbers (row ∷ rows)))) (first_offence os) r)
     (sym offends) j)
 
-pub tab_read_rows : {A : Type 0} (f : A → Words) (words rest outer inner : Words) (xs : List A) (r : Result Read WordsFault) → words ≡ codes "tab" ∷ rest
-    → AreTabWords outer inner (map f xs) rest
+pub tab_read_rows : {A : Type 0} (f : A → Words) (words outer inner : Words) (xs : List A) (r : Result Read WordsFault) → AreTabWords outer inner (map f xs) words
     → IsJudged (IsTab (partition outer) (partition inner) (last_of (partition outer) (partition inner) (map (λ r. numbers (f r)) xs)))
     (first_offence (all_tab_offences outer inner (map f xs))) r
     → IsRead (tab_entry ∷ []) words r
-tab_read_rows f words rest outer inner xs r e t j =
-    tab_read words outer inner (map f xs) r (e ∙ ap (λ ws. codes "tab" ∷ ws) t.words_are) t.outer_numbers t.inner_numbers t.rows_numbers
+tab_read_rows f words outer inner xs r t j =
+    tab_read words outer inner (map f xs) r t.words_are t.outer_numbers t.inner_numbers t.rows_numbers
     (subst
     (λ ns. IsJudged (IsTab (partition outer) (partition inner) (last_of (partition outer) (partition inner) ns)) (first_offence (all_tab_offences outer inner (map f xs))) r)
     (sym (map_twice f numbers xs)) j)

@@ -1,5 +1,4 @@
 pub mod TableauWords
-pub mod WordRows
 pub mod FoundOffences
 pub mod ReadTableaux
 pub mod PairOffences

@@ -8,16 +8,9 @@ use Rattle.word_laws.specs.WrittenRows.{rows_text, rows_at}
 use Rattle.calc_words.specs.NumberRuns.{IsNumber}
 use Rattle.tableau_words.specs.declared.skew_tableaux.SkewRows.{SkewRows}
 
--- the words are a list of numbers and, behind `-`, a tableau of these rows
-pub record IsListAndRows (list : List (List ℕ)) (rows : List (List (List ℕ))) (words : List (List ℕ)) : Type 0 where
-  pub words_are : words ≡ list ++ codes "-" ∷ rows_text rows
-  pub list_numbers : EachOf IsNumber list
-  pub rows_some : 0 < length rows
-  pub rows_numbers : EachOf (EachOf IsNumber) rows
-
--- the words are two lists of numbers with `/` between them and, behind `-`, a tableau of these rows
+-- the words are `rect` and two lists of numbers with `/` between them and, behind `-`, a tableau of these rows
 pub record AreSkewWords (outer inner : List (List ℕ)) (rows : List (List (List ℕ))) (words : List (List ℕ)) : Type 0 where
-  pub words_are : words ≡ outer ++ codes "/" ∷ (inner ++ codes "-" ∷ rows_text rows)
+  pub words_are : words ≡ codes "rect" ∷ (outer ++ codes "/" ∷ (inner ++ codes "-" ∷ rows_text rows))
   pub outer_numbers : EachOf IsNumber outer
   pub inner_numbers : EachOf IsNumber inner
   pub rows_some : 0 < length rows

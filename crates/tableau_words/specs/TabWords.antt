@@ -14,20 +14,9 @@ abbrev pub from_text : List (List (List ℕ)) → List (List ℕ)
 from_text [] = []
 from_text (row ∷ rows) = codes "-from" ∷ rows_text (row ∷ rows)
 
--- the words are a tableau of these rows behind `-from`, or none where there is no row
-pub record AreFrom (rows : List (List (List ℕ))) (words : List (List ℕ)) : Type 0 where
-  pub words_are : words ≡ from_text rows
-  pub rows_numbers : EachOf (EachOf IsNumber) rows
-
--- the words are a list of numbers, and what may stand behind it
-pub record IsListAndFrom (list : List (List ℕ)) (rows : List (List (List ℕ))) (words : List (List ℕ)) : Type 0 where
-  pub words_are : words ≡ list ++ from_text rows
-  pub list_numbers : EachOf IsNumber list
-  pub rows_numbers : EachOf (EachOf IsNumber) rows
-
--- the words are two lists of numbers with `/` between them, and what may stand behind them
+-- the words are `tab` and two lists of numbers with `/` between them, and what may stand behind them
 pub record AreTabWords (outer inner : List (List ℕ)) (rows : List (List (List ℕ))) (words : List (List ℕ)) : Type 0 where
-  pub words_are : words ≡ outer ++ codes "/" ∷ (inner ++ from_text rows)
+  pub words_are : words ≡ codes "tab" ∷ (outer ++ codes "/" ∷ (inner ++ from_text rows))
   pub outer_numbers : EachOf IsNumber outer
   pub inner_numbers : EachOf IsNumber inner
   pub rows_numbers : EachOf (EachOf IsNumber) rows

@@ -12,12 +12,10 @@ mod earlier;
 mod found;
 mod inner_partition;
 mod pairs;
-mod parts;
 mod row_numbers;
 mod row_offences;
 mod row_words;
 mod skew_tableaux;
-mod skew_words;
 mod tab;
 mod tableaux;
 

@@ -1,5 +1,5 @@
 //! The words of `unrsk`.
-ghost use Rattle.std.specs.Prelude.{◌≡◌, ◌≤◌, ◌<◌, ◌+◌, ◌++◌, ◌^◌, IfOk, [], ◌∷◌, Some, length, map, string_bytes};
+ghost use Rattle.std.specs.Prelude.{◌≡◌, ◌≤◌, ◌<◌, ◌+◌, ◌++◌, ◌^◌, IfOk, IfErr, [], ◌∷◌, Some, length, map, string_bytes};
 ghost use Rattle.sym_model.specs.Command.{unrsk};
 ghost use Rattle.sym_model.specs.CommandOffence.{first_offence, standard_offences, rows_in, most_letters};
 ghost use Rattle.sym_model.specs.Form.{EachOf};
@@ -15,8 +15,8 @@ ghost use Rattle.tableau_words.specs.ReadTableaux.{AreFillings, first_rows_of, s
 ghost use Rattle.tableau_words.specs.WrittenPairs.{IsWrittenPair};
 ghost use Rattle.calc_commands.specs.Commands.{StandsFor};
 ghost use Rattle.calc_commands.specs.Pairs.{IsPair};
-ghost use Rattle.calc_words.specs.Reading.{IsRead, IsJudged};
-ghost use Rattle.tableau_words.specs.WordRows.{refusal_of};
+ghost use Rattle.calc_words.specs.Reading.{IsRead, IsRefusal, IsJudged};
+ghost use Rattle.tableau_words.specs.TableauWords.{AreTwoTableaux};
 ghost use Rattle.tableau_words.specs.PairOffences.{pair_offences};
 
 use crate::earlier::earlier;
@@ -25,11 +25,11 @@ use crate::row_numbers::rows_numbers;
 use crate::row_offences::{
     insertion_offence, left_shape, recorded_number, row_lengths, text_length, total,
 };
-use crate::row_words::{RowsFault, two_tableaux};
+use crate::row_words::rows_of_words;
 use crate::tableaux::tableau_of;
 use calc_base::{NoMemory, WordsFault};
 use calc_commands::Command;
-use calc_words::{behind, refused as offence, syntax};
+use calc_words::{Part, cut, piece_at, refused as offence};
 use partitions::Partition;
 use skew_shapes::{Standard, Tableau};
 use std::alloc::Global;
@@ -147,6 +147,23 @@ fn straight(alloc: Global, rows: &[Vec<u16>]) -> Result<Tableau, NoMemory>
     tableau_of(alloc, outer, inner, rows)
 }
 
+/// The rows of the two tableaux of an `unrsk`; else where its words go wrong.
+fn two_tableaux(
+    alloc: Global,
+    words: &[String],
+) -> Result<(Vec<&[String]>, Vec<&[String]>), WordsFault>
+    ensures ok { IfOk result (λ p. AreTwoTableaux (map (λ r. map string_bytes r.now) p.0.items) (map (λ r. map string_bytes r.now) p.1.items) (map string_bytes words.now)) }
+    ensures wrong { IfErr result (λ fault. IsRefusal (unrsk_entry ∷ []) (map string_bytes words.now) fault) }
+{
+    let parts = &[Part::Tableau, Part::Minus, Part::Tableau];
+    let places = cut(words, "unrsk", parts)?;
+    let insertion = piece_at(words, &places, 0);
+    let first = rows_of_words(alloc, insertion.words)?;
+    let recording = piece_at(words, &places, 2);
+    let second = rows_of_words(alloc, recording.words)?;
+    Ok((first, second))
+}
+
 /// Reads the words of `unrsk`: that word and two tableaux with `-` between them, whose rows stand between words `/`; `.` is a
 /// row without numbers.
 ///
@@ -159,21 +176,6 @@ fn straight(alloc: Global, rows: &[Vec<u16>]) -> Result<Tableau, NoMemory>
 pub fn read_unrsk(alloc: Global, words: &[String]) -> Result<Command, WordsFault>
     ensures { IsRead (unrsk_entry ∷ []) (map string_bytes words.now) result }
 {
-    let Some(rest) = behind(words, "unrsk") else {
-        return Err(syntax(0));
-    };
-    match two_tableaux(alloc, rest) {
-        Ok((first, second)) => read_tableaux(alloc, first.as_slice(), second.as_slice()),
-        Err(fault) => Err(rows_refusal(words.len(), fault)),
-    }
-}
-
-/// The refusal of so many words whose rows were not cut out.
-pub(crate) fn rows_refusal(words: usize, fault: RowsFault) -> WordsFault
-    ensures { result ≡ refusal_of words fault }
-{
-    match fault {
-        RowsFault::Wrong { left } => syntax(words.saturating_sub(left) as u64),
-        RowsFault::NoMemory => WordsFault::NoMemory,
-    }
+    let (first, second) = two_tableaux(alloc, words)?;
+    read_tableaux(alloc, first.as_slice(), second.as_slice())
 }

@@ -1,5 +1,5 @@
 //! The words of `rect`.
-ghost use Rattle.std.specs.Prelude.{◌≡◌, ◌<◌, ◌+◌, ◌^◌, IfOk, true, [], ◌∷◌, Some, length, map, string_bytes};
+ghost use Rattle.std.specs.Prelude.{◌≡◌, ◌<◌, ◌+◌, ◌^◌, IfOk, IfErr, true, [], ◌∷◌, Some, length, map, string_bytes};
 ghost use Rattle.sym_model.specs.Schur.{contains};
 ghost use Rattle.sym_model.specs.Tableau.{IsTableau};
 ghost use Rattle.sym_model.specs.Command.{rect};
@@ -12,20 +12,20 @@ ghost use Rattle.tableau_words.specs.AskedLengths.{asked_lengths};
 ghost use Rattle.tableau_words.specs.FoundOffences.{at_most_entry};
 ghost use Rattle.calc_words.specs.NumberRuns.{IsNumber};
 ghost use Rattle.calc_commands.specs.Commands.{StandsFor};
-ghost use Rattle.calc_words.specs.Reading.{IsRead, IsJudged};
+ghost use Rattle.calc_words.specs.Reading.{IsRead, IsRefusal, IsJudged};
 ghost use Rattle.tableau_words.specs.SkewTotals.{all_skew_offences};
-ghost use Rattle.tableau_words.specs.SkewWords.{AreSkewRows, skew_offences, rows_of};
+ghost use Rattle.tableau_words.specs.SkewWords.{AreSkewRows, AreSkewWords, skew_offences, rows_of};
 
 use crate::earlier::earlier;
 use crate::inner_partition::read_inner;
-use crate::pairs::{rows_of_tableau, rows_refusal};
+use crate::pairs::rows_of_tableau;
 use crate::row_numbers::rows_numbers;
 use crate::row_offences::{left_shape, part_at, skewed_number};
-use crate::skew_words::skew_parts;
+use crate::row_words::rows_of_words;
 use crate::tableaux::tableau_of;
 use calc_base::{NoMemory, WordsFault};
 use calc_commands::Command;
-use calc_words::{behind, read_partition, refused as offence, syntax};
+use calc_words::{Part, cut, piece_at, read_partition, refused as offence};
 use partitions::Partition;
 use std::alloc::Global;
 
@@ -136,6 +136,29 @@ fn read_skew_tableau(
     Ok(Command::Rect { tableau })
 }
 
+/// The numbers of the two shapes of a `rect`, and the rows of its tableau; else where its words go wrong.
+fn skew_parts(
+    alloc: Global,
+    words: &[String],
+) -> Result<(&[String], &[String], Vec<&[String]>), WordsFault>
+    ensures ok { IfOk result (λ p. AreSkewWords (map string_bytes p.0.now) (map string_bytes p.1.now) (map (λ r. map string_bytes r.now) p.2.items) (map string_bytes words.now)) }
+    ensures wrong { IfErr result (λ fault. IsRefusal (rect_entry ∷ []) (map string_bytes words.now) fault) }
+{
+    let parts = &[
+        Part::Shape,
+        Part::Slash,
+        Part::Shape,
+        Part::Minus,
+        Part::Tableau,
+    ];
+    let places = cut(words, "rect", parts)?;
+    let outer = piece_at(words, &places, 0);
+    let inner = piece_at(words, &places, 2);
+    let tableau = piece_at(words, &places, 4);
+    let rows = rows_of_words(alloc, tableau.words)?;
+    Ok((outer.words, inner.words, rows))
+}
+
 /// Reads the words of `rect`: that word, an outer and an inner partition with `/` between them, and, behind `-`, a tableau of
 /// the first over the second, whose rows stand between words `/`; `.` is a row without numbers.
 ///
@@ -146,11 +169,6 @@ fn read_skew_tableau(
 pub fn read_rect(alloc: Global, words: &[String]) -> Result<Command, WordsFault>
     ensures { IsRead (rect_entry ∷ []) (map string_bytes words.now) result }
 {
-    let Some(rest) = behind(words, "rect") else {
-        return Err(syntax(0));
-    };
-    match skew_parts(alloc, rest) {
-        Ok((outer, inner, rows)) => read_skew_tableau(alloc, outer, inner, rows.as_slice()),
-        Err(fault) => Err(rows_refusal(words.len(), fault)),
-    }
+    let (outer, inner, rows) = skew_parts(alloc, words)?;
+    read_skew_tableau(alloc, outer, inner, rows.as_slice())
 }

@@ -1,19 +1,18 @@
 //! The words of `tab`.
-ghost use Rattle.std.specs.Prelude.{◌≡◌, ◌<◌, ◌+◌, ◌^◌, [], ◌∷◌, Some, length, map, string_bytes};
+ghost use Rattle.std.specs.Prelude.{◌≡◌, ◌<◌, ◌+◌, ◌^◌, [], ◌∷◌, Some, IfOk, IfErr, length, map, string_bytes};
 ghost use Rattle.sym_model.specs.CommandOffence.{first_offence};
 ghost use Rattle.sym_model.specs.Form.{EachOf};
 ghost use Rattle.sym_model.specs.Grammar.{tab_entry};
 ghost use Rattle.sym_model.specs.WordForms.{numbers as numbers_of, partition};
 ghost use Rattle.calc_words.specs.NumberRuns.{IsNumber};
-ghost use Rattle.calc_words.specs.Reading.{IsRead, IsJudged};
-ghost use Rattle.tableau_words.specs.TabWords.{last_of, from_offences, all_tab_offences};
+ghost use Rattle.calc_words.specs.Reading.{IsRead, IsRefusal, IsJudged};
+ghost use Rattle.tableau_words.specs.TabWords.{AreTabWords, last_of, from_offences, all_tab_offences};
 
-use crate::pairs::rows_refusal;
-use crate::parts::tab_parts;
+use crate::row_words::rows_of_words;
 use crate::skew_tableaux::rows_of_shape;
 use calc_base::WordsFault;
 use calc_commands::Command;
-use calc_words::{Kind, behind, read_two, refused, syntax};
+use calc_words::{Kind, Part, behind, cut, piece_at, read_two, refused};
 use partitions::Partition;
 use std::alloc::Global;
 use tableau_iter::lattice_reading;
@@ -67,6 +66,27 @@ fn judge_tab(
     judge_last(alloc, at, outer, inner, rows)
 }
 
+/// The numbers of the two shapes of a `tab`, and the rows behind `-from`, none where it is not there; else where its words go
+/// wrong.
+fn tab_parts(
+    alloc: Global,
+    words: &[String],
+) -> Result<(&[String], &[String], Vec<&[String]>), WordsFault>
+    ensures ok { IfOk result (λ p. AreTabWords (map string_bytes p.0.now) (map string_bytes p.1.now) (map (λ r. map string_bytes r.now) p.2.items) (map string_bytes words.now)) }
+    ensures wrong { IfErr result (λ fault. IsRefusal (tab_entry ∷ []) (map string_bytes words.now) fault) }
+{
+    let parts = &[Part::Shape, Part::Slash, Part::Shape, Part::MaybeFrom];
+    let places = cut(words, "tab", parts)?;
+    let outer = piece_at(words, &places, 0);
+    let inner = piece_at(words, &places, 2);
+    let last = piece_at(words, &places, 3);
+    let Some(more) = behind(last.words, "-from") else {
+        return Ok((outer.words, inner.words, Vec::new(alloc)));
+    };
+    let rows = rows_of_words(alloc, more)?;
+    Ok((outer.words, inner.words, rows))
+}
+
 /// Reads the words of `tab`: that word, an outer and an inner partition with `/` between them and, where the list is to go on
 /// behind a tableau, `-from` and that tableau, whose rows stand between words `/`; `.` is a row without numbers.
 ///
@@ -76,11 +96,6 @@ fn judge_tab(
 pub fn read_tab(alloc: Global, words: &[String]) -> Result<Command, WordsFault>
     ensures { IsRead (tab_entry ∷ []) (map string_bytes words.now) result }
 {
-    let Some(rest) = behind(words, "tab") else {
-        return Err(syntax(0));
-    };
-    match tab_parts(alloc, rest) {
-        Ok((outer, inner, rows)) => judge_tab(alloc, outer, inner, rows.as_slice()),
-        Err(fault) => Err(rows_refusal(words.len(), fault)),
-    }
+    let (outer, inner, rows) = tab_parts(alloc, words)?;
+    judge_tab(alloc, outer, inner, rows.as_slice())
 }

@@ -87,8 +87,8 @@ fn expand<L: Label, F: Factor<L>>(
     ensures large { IsErrOf result SumFault.Large → WaitingOverflows todo.old.items (stepped (λ v. F.image (F.made r v)) r s waiting.now) }
 {
     let lower = waiting.perm.times_swap(r, s)?;
-    let covers = lower.covers_at(r)?;
-    add_covers(alloc, todo, covers.down(), &waiting.factor)?;
+    let covers = lower.covers_down(r)?;
+    add_covers(alloc, todo, covers.as_slice(), &waiting.factor)?;
     let factor = F::at(r, &lower);
     add_waiting_by(alloc, todo, lower, &waiting.factor, &factor)
 }

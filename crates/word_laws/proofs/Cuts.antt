@@ -139,14 +139,14 @@ wrong_right f g p rest ws left a k w = record {
 }
 
 -- behind words of two forms stand none of those by which the first may go on
-unlike_second : (f g : Form) (z : Written g) → May g z → (vs : Words) → are_apart (continuing f) (firsts g) ≡ true
+pub unlike_second : (f g : Form) (z : Written g) → May g z → (vs : Words) → are_apart (continuing f) (firsts g) ≡ true
     → Unlike (continuing (sequence f g)) vs → Unlike (continuing f) (words_of g z ++ vs)
 unlike_second f g z m vs a u =
     unlike_front (continuing f) g z m vs a (λ n.
     unlike (continuing f) (continuing (sequence f g)) vs
     (λ t o. of_right (continuing g) (cond (is_skippable g) (continuing f) []) t (of_cond (is_skippable g) (continuing f) t n o)) u)
 
-unlike_last : (f g : Form) (vs : Words) → Unlike (continuing (sequence f g)) vs → Unlike (continuing g) vs
+pub unlike_last : (f g : Form) (vs : Words) → Unlike (continuing (sequence f g)) vs → Unlike (continuing g) vs
 unlike_last f g vs u = unlike (continuing g) (continuing (sequence f g)) vs (λ t o. of_left (continuing g) (cond (is_skippable g) (continuing f) []) t o) u
 
 pub stops_right : (f g : Form) (p rest ws : Words) (left : ℕ) → are_apart (continuing f) (firsts g) ≡ true → IsTaken f p rest ws

@@ -1,6 +1,7 @@
 pub mod Classes
 pub mod Cuts
 pub mod CutParts
+pub mod CutRows
 pub mod Derivatives
 pub mod LongestPrefixes
 pub mod Readings
@@ -8,12 +9,9 @@ pub mod AwaitedExpressions
 pub mod ExpressionWords
 pub mod FirstOffences
 pub mod EntryLists
-pub mod ComputedReadings
-pub mod ComputedExamples
 pub mod CommandFacts
 pub mod Stands
 pub mod ShapedTableaux
-pub mod NumberLists
 pub mod TargetLetters
 pub mod EarlierOffences
 pub mod JudgedRows

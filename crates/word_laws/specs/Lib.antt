@@ -2,6 +2,5 @@ pub mod OneReading
 pub mod Reading
 pub mod Words
 pub mod FirstWords
-pub mod Examples
 pub mod WrittenRows
 pub mod JudgedRows

@@ -1,5 +1,5 @@
 //! Laws of the words of commands: where words go wrong, that they spell one command, which offence comes first, what the words
-//! of a tableau are, and worked examples.
+//! of a tableau are.
 //!
 //! A law function takes nothing, answers nothing and does no work when it runs: its contract is
 //! the law.
@@ -8,25 +8,18 @@
 //!
 //! `one_command_law`: no words spell two commands or have two first offences. `syntax_place_law`:
 //! where words go wrong is the longest prefix that begins a command. `command_offence_law`,
-//! `words_of_commands_law`, `tableau_shape_law`, `batch_lines_law`, and 83 worked refusals with 31
-//! words at the limits that are not refused. `left_shape_law`: where rows as they are written leave
-//! a shape. `judged_rows_law`: the first offence of the rows of a tableau is that of judging each
-//! number once. `earlier_offence_law`: the first offence of two lists is the earlier of their first
-//! ones.
+//! `words_of_commands_law`, `tableau_shape_law`. `left_shape_law`: where rows as they are written
+//! leave a shape. `judged_rows_law`: the first offence of the rows of a tableau is that of judging
+//! each number once. `earlier_offence_law`: the first offence of two lists is the earlier of their
+//! first ones.
 #![tactic(auto)]
 
-mod batch_lines;
 mod commands;
-mod refused_words;
 mod rows_judged;
 mod shapes_left;
 mod tableau_shapes;
 
-pub use batch_lines::batch_lines_law;
 pub use commands::{command_offence_law, one_command_law, syntax_place_law, words_of_commands_law};
-pub use refused_words::{
-    refused_expressions_law, refused_lists_law, refused_tableaux_law, words_that_go_wrong_law,
-};
 pub use rows_judged::{earlier_offence_law, judged_rows_law};
 pub use shapes_left::left_shape_law;
 pub use tableau_shapes::tableau_shape_law;

@@ -1,11 +1,11 @@
 use Rattle.std.proofs.Common.{◌≡◌, [], ◌∷◌, ◌+◌, length, map, arith, refl, sym, ap, ◌∙◌, subst, ◌==◌, ◌++◌, true, false, Ok, Err}
 use Rattle.std.proofs.lemmas.Bool.{eqb-false, eqb-true}
 use Rattle.std.specs.Prelude.{string_bytes}
-use Rattle.calc_expressions.specs.Reading.{IsRead as IsReadAs, IsExpression, IsWrongByte}
+use Rattle.expression_reading.specs.Reading.{IsRead as IsReadAs, IsExpression, IsWrongByte}
 use Rattle.calc_base.specs.declared.words.WordsFault.TheVariants.{Syntax}
 use Rattle.sym_model.specs.Phrase.{Phrase, SpellsPhrase, letter}
 use Rattle.calc_commands.specs.declared.command.Command.TheVariants.{Expand}
-use Rattle.calc_expressions.specs.Trees.{basis_of}
+use Rattle.expression_reading.specs.Trees.{basis_of}
 use Rattle.sym_model.specs.Grammar.{all_bases}
 use Rattle.calc_language.specs.ExpandFront.{front, IsBehindForm}
 use Rattle.calc_language.specs.Reading.{placed}

@@ -1,7 +1,7 @@
 use Rattle.std.proofs.Common.{◌*◌, ◌≤◌, ◌<◌, sym, subst}
 use Rattle.sym_model.specs.Expression.{degree}
 use Rattle.calc_words.specs.Reading.{IsFirst}
-use Rattle.calc_expressions.specs.Trees.{basis_of, tree_of}
+use Rattle.expression_reading.specs.Trees.{basis_of, tree_of}
 use Rattle.sym_model.specs.CommandOffence.{first_offence, plethysm_offences}
 use Rattle.calc_language.proofs.PlethysmJudging.{outer_faulty, inner_faulty, both_past, both_fine, trees_said}
 use Rattle.calc_language.proofs.plethysm_command.judged.Goals as goal

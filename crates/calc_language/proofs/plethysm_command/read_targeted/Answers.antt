@@ -2,7 +2,7 @@ use Rattle.std.proofs.Common.{map, sym, subst}
 use Rattle.std.specs.Prelude.{string_bytes}
 use Rattle.std.proofs.lemmas.Result.{err_from_is_err_and}
 use Rattle.sym_model.specs.Phrase.{SpellsPhrase}
-use Rattle.calc_expressions.specs.Trees.{basis_of}
+use Rattle.expression_reading.specs.Trees.{basis_of}
 use Rattle.calc_language.proofs.PlethysmJudging.{plethysm_read}
 use Rattle.calc_language.proofs.plethysm_command.read_targeted.Goals as goal
 

@@ -3,11 +3,11 @@ use Rattle.std.proofs.lemmas.Result.{IfOk-weaker, err_from_is_err_and}
 use Rattle.sym_model.specs.Expansion.{monomials}
 use Rattle.sym_model.specs.Expression.{cleared_value, degree, denominator}
 use Rattle.sym_model.specs.Weight.{numerator}
-use Rattle.monomial_expand.specs.LabelSizes.{AreWithin}
-use Rattle.monomial_expand.proofs.AtomLists.{greatest-within}
-use Rattle.calc_expressions.specs.Trees.{tree_of}
-use Rattle.calc_expressions.proofs.WeightFacts.{positive}
-use Rattle.calc_expressions.proofs.GrowthFacts.{wide-weight}
+use Rattle.whole_lists.specs.LabelSizes.{AreWithin}
+use Rattle.whole_lists.proofs.Bounds.{greatest-within}
+use Rattle.expression_reading.specs.Trees.{tree_of}
+use Rattle.expression_reading.proofs.WeightFacts.{positive}
+use Rattle.expression_reading.proofs.GrowthFacts.{wide-weight}
 use Rattle.sparse_polys.specs.MonomialProducts.{greatest_size}
 use Rattle.calc_replies.proofs.Compositions.{outer-large, constant-weight}
 use Rattle.calc_replies.proofs.composing.in_target.Goals as goal

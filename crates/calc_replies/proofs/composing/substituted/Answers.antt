@@ -3,10 +3,10 @@ use Rattle.std.proofs.lemmas.Nat.{mul-le}
 use Rattle.std.proofs.lemmas.Result.{IfOk-weaker, err_from_is_err_and}
 use Rattle.sym_model.specs.Expansion.{monomials, IsExpansionOf}
 use Rattle.sym_model.specs.Expression.{cleared_value, degree, denominator}
-use Rattle.monomial_expand.proofs.AtomLists.{greatest-within}
-use Rattle.calc_expressions.specs.Trees.{tree_of}
-use Rattle.calc_expressions.proofs.WeightFacts.{positive}
-use Rattle.calc_expressions.proofs.GrowthFacts.{wide-weight}
+use Rattle.whole_lists.proofs.Bounds.{greatest-within}
+use Rattle.expression_reading.specs.Trees.{tree_of}
+use Rattle.expression_reading.proofs.WeightFacts.{positive}
+use Rattle.expression_reading.proofs.GrowthFacts.{wide-weight}
 use Rattle.plethysm.proofs.InnerLists.{natural-expansion}
 use Rattle.plethysm_laws.proofs.NonnegativeTerms.{denominator-one}
 use Rattle.sparse_polys.specs.MonomialProducts.{greatest_size}

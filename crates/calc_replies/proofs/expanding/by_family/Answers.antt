@@ -1,7 +1,7 @@
 use Rattle.std.proofs.Common.{sym, subst}
 use Rattle.sym_model.specs.Expansion.{IsExpansionOf}
 use Rattle.sym_model.specs.Expression.{cleared_value, denominator}
-use Rattle.calc_expressions.specs.Trees.{tree_of}
+use Rattle.expression_reading.specs.Trees.{tree_of}
 use Rattle.calc_replies.proofs.expanding.by_family.Goals as goal
 
 pub returns-in-Ok-clause-expands : goal.returns-in-Ok-clause-expands

@@ -1,8 +1,8 @@
 use Rattle.std.proofs.Common.{arith}
 use Rattle.std.proofs.lemmas.Result.{IfOk-weaker, err_from_is_err_and}
-use Rattle.calc_expressions.specs.Trees.{basis_of, tree_of}
-use Rattle.calc_expressions.proofs.WeightFacts.{positive}
-use Rattle.calc_expressions.proofs.GrowthFacts.{wide-weight}
+use Rattle.expression_reading.specs.Trees.{basis_of, tree_of}
+use Rattle.expression_reading.proofs.WeightFacts.{positive}
+use Rattle.expression_reading.proofs.GrowthFacts.{wide-weight}
 use Rattle.calc_replies.proofs.Expansions.{heavy_for_m}
 use Rattle.calc_replies.proofs.expanding.by_monomials.Goals as goal
 

@@ -7,8 +7,8 @@ use Rattle.calc_base.specs.declared.faults.SumFault.{SumFault}
 use Rattle.calc_base.specs.declared.faults.SumFault.TheVariants.{Large}
 use Rattle.calc_base.specs.declared.words.Basis.{Basis as Letter}
 use Rattle.calc_base.specs.declared.words.Basis.TheVariants as letters
-use Rattle.calc_expressions.specs.declared.expr.Expr.{Expr}
-use Rattle.calc_expressions.specs.Trees.{basis_of, tree_of}
+use Rattle.expression_reading.specs.declared.expr.Expr.{Expr}
+use Rattle.expression_reading.specs.Trees.{basis_of, tree_of}
 use Rattle.calc_replies.proofs.expanding.in_target.Goals as goal
 
 -- the clauses for the target that is matched

@@ -5,7 +5,7 @@ use Rattle.sym_model.specs.Polynomial.{times}
 use Rattle.sym_model.specs.WholeTerms.{as_fractions}
 use Rattle.sym_model.proofs.PolynomialLaws.{times_comm}
 use Rattle.schubert_transition.proofs.Answering.{if_ok, represents_as}
-use Rattle.schubert_transition.proofs.FinalSums.{pairs_upto, inversions_upto}
+use Rattle.perm_codes.proofs.InversionCounts.{pairs_upto, inversions_upto}
 use Rattle.double_schubert.proofs.product.dschubmult.Goals as goal
 
 pairs_of_eight : pairs_upto 8 ≡ 28

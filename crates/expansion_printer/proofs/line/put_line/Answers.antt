@@ -4,7 +4,7 @@ use Rattle.std.proofs.lemmas.List.{map-append}
 use Rattle.sym_model.specs.Expansion.{Fraction, Terms}
 use Rattle.sym_model.proofs.Lists.{all_read}
 use Rattle.expansion_printer.proofs.GatheringLaws.{Gathers-then, Gathers-as, Gathers-nothing}
-use Rattle.calc_expressions.specs.Trees.{basis_of}
+use Rattle.expression_reading.specs.Trees.{basis_of}
 use Rattle.sparse_polys.specs.Combination.{terms_of}
 use Rattle.expansion_printer.specs.HeldTerms.{AreHeld}
 use Rattle.expansion_printer.proofs.PrintableTerms.{AreHeld-push}

@@ -1,6 +1,6 @@
 use Rattle.std.proofs.Common.{◌≡◌, ◌++◌, map}
 use Rattle.expansion_printer.specs.Gathering.{Gathers}
-use Rattle.calc_expressions.specs.Trees.{basis_of}
+use Rattle.expression_reading.specs.Trees.{basis_of}
 use Rattle.sparse_polys.specs.Combination.{terms_of}
 use Rattle.expansion_printer.specs.HeldTerms.{AreHeld}
 use Rattle.expansion_printer.specs.SignedTerms.{signed_terms, is_empty}

@@ -2,7 +2,7 @@ use Rattle.std.proofs.Common.{ap, sym, ◌∙◌, ℤ, to_z-of_z}
 use Rattle.sym_model.specs.Expansion.{Fraction}
 use Rattle.sym_model.specs.OneLine.{atom_text}
 use Rattle.expansion_printer.proofs.GatheringLaws.{Gathers-then, Gathers-as}
-use Rattle.calc_expressions.specs.Trees.{basis_of}
+use Rattle.expression_reading.specs.Trees.{basis_of}
 use Rattle.expansion_printer.specs.SignedTerms.{sign_text, coefficient_text}
 use Rattle.expansion_printer.proofs.line.put_term.Goals as goal
 

@@ -3,7 +3,7 @@ use Rattle.std.proofs.lemmas.Nat.{mul-le}
 use Rattle.sym_model.specs.Expression.{denominator, degree}
 use Rattle.sym_model.specs.ListWeight.{IsBounded}
 use Rattle.sym_model.specs.Weight.{numerator}
-use Rattle.calc_expressions.specs.Trees.{tree_of}
+use Rattle.expression_reading.specs.Trees.{tree_of}
 use Rattle.sparse_polys.specs.MonomialProducts.{greatest_size}
 use Rattle.plethysm_laws.specs.PositiveExpression.{HasNoSigns}
 use Rattle.plethysm.proofs.InnerLists.{natural-expansion}

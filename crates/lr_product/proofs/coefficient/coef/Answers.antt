@@ -1,8 +1,8 @@
 use Rattle.std.proofs.Common.{◌∙◌}
 use Rattle.lr_product.proofs.GoodCounts.{coef_past, coef_fits}
 use Rattle.alternant_laws.proofs.CountedTerms.{coef_meets}
-use Rattle.sparse_polys.proofs.Coefficients.{if_answered}
-use Rattle.sparse_polys.proofs.ClearedSums.{on_ok}
+use Rattle.linear_combinations.proofs.Steps.{if_answered}
+use Rattle.linear_combinations.proofs.Steps.{on_ok}
 use Rattle.lr_product.proofs.coefficient.coef.Goals as goal
 
 pub returns-clause-meets : goal.returns-clause-meets

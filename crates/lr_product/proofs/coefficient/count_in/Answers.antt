@@ -1,7 +1,7 @@
 use Rattle.std.proofs.Common.{◌∙◌, ap, arith, pos}
 use Rattle.schur_laws.proofs.ProductCounts.{product_exchanged}
-use Rattle.sparse_polys.proofs.Coefficients.{if_answered}
-use Rattle.sparse_polys.proofs.ClearedSums.{on_ok}
+use Rattle.linear_combinations.proofs.Steps.{if_answered}
+use Rattle.linear_combinations.proofs.Steps.{on_ok}
 use Rattle.lr_product.proofs.coefficient.count_in.Goals as goal
 
 pub returns-then-size-clause-value : goal.returns-then-size-clause-value

@@ -1,12 +1,11 @@
-use Rattle.std.proofs.Common.{◌≡◌, ℕ, ◌+◌, ◌^◌, ◌<◌, pos, List, length, take, drop, subst, sym, ap, ap₂, ◌∙◌, arith}
+use Rattle.std.proofs.Common.{◌≡◌, ℕ, ◌+◌, pos, List, length, take, drop, subst, sym, ap, ap₂, ◌∙◌, arith}
 use Rattle.std.specs.Prelude.{Some, Err, slice_get}
 use Rattle.sym_model.specs.Partition.{without_last_zeros}
 use Rattle.partitions.specs.Limits.{IsWithinLimits}
-use Rattle.coeff_rings.specs.Fractions.{whole}
 use Rattle.lr_product.specs.WeighedSum.{weighed, unreached, comes_to}
 use Rattle.lr_product.proofs.Steps.{IsReached, reached-tells, weighed-none}
-use Rattle.lr_product.proofs.CountedLists.{Finds, counted, counted-zero, counted-long, finds_next, finds_same, small_next, past_next, sum_within, take_past, lists_counts}
-use Rattle.sparse_polys.proofs.Steps.{error_is}
+use Rattle.lr_product.proofs.CountedLists.{Finds, counted, counted-zero, counted-long, finds_next, finds_same, held_small, past_next, sum_within, take_past, has_counts}
+use Rattle.linear_combinations.proofs.Steps.{error_is}
 use Rattle.lr_product.proofs.counts.terms_of_table.Goals as goal
 
 reached_here : (n : ℕ) (es : List (List ℕ × ℕ)) (i : ℕ) (key : List ℕ) (w : ℕ) → weighed n (unreached n 4096) es ≡ 0 → slice_get es i ≡ Some (key, w) → (w ≡ 0 → ⊥) → IsReached n 4096 (take n key)
@@ -20,8 +19,7 @@ loop-at-preserved-then-ways-eq0 c =
     let same : (parts : List ℕ) → counted n es (c.loop-at.at + 1) parts ≡ counted n es c.loop-at.at parts = λ parts. counted-zero n es c.loop-at.at c.entry_at-ways.result.0.now c.entry_at-ways.result.1 parts c.entry_at-ways.ensures zero in
     record {
       end = c.loop-at.invariant.end;
-      finds = λ parts. c.loop-at.invariant.finds parts ∙ sym (ap (λ (k : ℕ). whole (pos k)) (same parts));
-      small = λ parts. subst (λ (k : ℕ). k < 2 ^ 127) (sym (same parts)) (c.loop-at.invariant.small parts);
+      finds = λ parts. c.loop-at.invariant.finds parts ∙ sym (ap pos (same parts));
     }
 
 pub slice_bounds-sum-end : goal.slice_bounds-sum-end
@@ -56,7 +54,6 @@ loop-at-preserved c =
     record {
       end = c.loop-at.invariant.end;
       finds = finds_next n es c.loop-at.at key (take c.from.result c.numbers.result.now) c.entry_at-ways.result.1 c.loop-at.terms c.add_sum.new.terms c.entry_at-ways.ensures is c.loop-at.invariant.finds c.in_ok-add_sum.ensures.more;
-      small = small_next n es c.loop-at.at key (take c.from.result c.numbers.result.now) c.entry_at-ways.result.1 c.loop-at.terms c.entry_at-ways.ensures is c.loop-at.invariant.finds c.loop-at.invariant.small c.in_ok-add_sum.ensures.fits;
     }
 
 pub returns-clause-counts : goal.returns-clause-counts
@@ -64,7 +61,16 @@ returns-clause-counts c =
     let n = c.args.letters in
     let es = c.args.table.now.entries in
     let all : take c.loop-at.at es ≡ es = take_past es c.loop-at.at (omega (arith, c.loop-at.invariant.end, c.loop-at-test.false)) in
-    lists_counts n (λ parts. weighed n (comes_to parts) es) c.in_ok-sorted_terms.field-0 c.in_ok-sorted_terms.ensures.combination
+    has_counts n (λ parts. weighed n (comes_to parts) es) c.in_ok-sorted_terms.field-0 c.in_ok-sorted_terms.ensures.combination
     (finds_same (λ parts. weighed n (comes_to parts) es) c.loop-at.terms c.in_ok-sorted_terms.field-0 c.in_ok-sorted_terms.ensures.same
     (subst (λ (l : List (List ℕ × ℕ)). Finds (λ parts. weighed n (comes_to parts) l) c.loop-at.terms) all c.loop-at.invariant.finds))
     (λ parts. counted-long n es parts)
+
+pub returns-clause-fits : goal.returns-clause-fits
+returns-clause-fits c =
+    let n = c.args.letters in
+    let es = c.args.table.now.entries in
+    let all : take c.loop-at.at es ≡ es = take_past es c.loop-at.at (omega (arith, c.loop-at.invariant.end, c.loop-at-test.false)) in
+    held_small c.in_ok-sorted_terms.field-0 (λ parts. weighed n (comes_to parts) es) c.in_ok-sorted_terms.ensures.held
+    (finds_same (λ parts. weighed n (comes_to parts) es) c.loop-at.terms c.in_ok-sorted_terms.field-0 c.in_ok-sorted_terms.ensures.same
+    (subst (λ (l : List (List ℕ × ℕ)). Finds (λ parts. weighed n (comes_to parts) l) c.loop-at.terms) all c.loop-at.invariant.finds))

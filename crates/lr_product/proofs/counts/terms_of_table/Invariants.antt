@@ -1,4 +1,4 @@
-use Rattle.std.proofs.Common.{◌≡◌, ℕ, ◌^◌, ◌<◌, List, length}
+use Rattle.std.proofs.Common.{◌≡◌, length}
 use Rattle.lr_product.proofs.CountedLists.{Finds, counted}
 use Rattle.lr_product.proofs.counts.terms_of_table.Given as goal
 
@@ -6,5 +6,4 @@ abbrev pub invariant-loop-at : goal.invariant-loop-at
 invariant-loop-at l = record {
   end : l.at-end ≡ length l.table.entries;
   finds : Finds (counted l.letters l.table.entries l.at) l.terms;
-  small : (parts : List ℕ) → counted l.letters l.table.entries l.at parts < 2 ^ 127;
 }

@@ -1,8 +1,8 @@
 use Rattle.std.proofs.Common.{◌≡◌, ◌∙◌, ap, max, map}
 use Rattle.std.specs.Option.{unwrap_or}
 use Rattle.sym_model.specs.Partition.{size, rows}
-use Rattle.sparse_polys.proofs.Coefficients.{if_answered}
-use Rattle.sparse_polys.proofs.ClearedSums.{on_ok}
+use Rattle.linear_combinations.proofs.Steps.{if_answered}
+use Rattle.linear_combinations.proofs.Steps.{on_ok}
 use Rattle.lr_product.proofs.Results.{on_any}
 use Rattle.lr_product.proofs.PastCoefficients.{past_factors, small_factors}
 use Rattle.lr_product.proofs.NothingLeft.{nothing_meets, nothing_fits}

@@ -1,11 +1,10 @@
 use Rattle.std.proofs.Common.{◌≡◌, ℕ, ◌+◌, ◌^◌, ◌<◌, min, List, [], subst, sym, arith}
 use Rattle.sym_model.specs.Partition.{rows}
 use Rattle.sym_model.specs.GoodTableau.{product_count}
-use Rattle.alternant_laws.specs.GoodSums.{ListsCounts}
-use Rattle.lr_product.specs.Counts.{good_count, IsPastSomewhere}
+use Rattle.lr_product.specs.Counts.{good_count, HasCounts, IsPastSomewhere}
 use Rattle.schur_laws.proofs.ProductCounts.{product_count-none}
-use Rattle.sparse_polys.proofs.Coefficients.{if_answered}
-use Rattle.sparse_polys.proofs.ClearedSums.{on_ok}
+use Rattle.linear_combinations.proofs.Steps.{if_answered}
+use Rattle.linear_combinations.proofs.Steps.{on_ok}
 use Rattle.lr_product.proofs.GoodCounts.{none_counted, same_product, lists_in, fits_in, past_in}
 use Rattle.lr_product.proofs.Results.{on_any}
 use Rattle.lr_product.proofs.product.counts_in.Goals as goal
@@ -14,7 +13,7 @@ pub returns-then-rows-letters-clause-counts : goal.returns-then-rows-letters-cla
 returns-then-rows-letters-clause-counts c =
     let few : c.args.variables < rows c.args.left.now = omega (arith, c.if-rows-letters.true, c.min-letters.ensures, c.rows-3.ensures.value, c.rows.ensures.value, c.rows-2.ensures.value) in
     let counts = none_counted c.args.variables (product_count c.args.variables c.args.left.now c.args.right.now) (λ ν. product_count-none c.args.variables c.args.left.now c.args.right.now ν few) in
-    if_answered c.no_terms.result c.no_terms.ensures.none (λ terms e. subst (ListsCounts c.args.variables (product_count c.args.variables c.args.left.now c.args.right.now)) (sym e) counts)
+    if_answered c.no_terms.result c.no_terms.ensures.none (λ terms e. subst (HasCounts c.args.variables (product_count c.args.variables c.args.left.now c.args.right.now)) (sym e) counts)
 
 pub returns-then-rows-letters-clause-fits : goal.returns-then-rows-letters-clause-fits
 returns-then-rows-letters-clause-fits c =
@@ -27,7 +26,7 @@ returns-clause-counts c =
     let same = same_product c.min-letters.result c.args.variables c.args.left.now c.args.right.now n c.rows.ensures.limits.partition c.rows-2.ensures.limits.partition (omega (arith, c.if-rows-letters.false, c.rows-3.ensures.value)) in
     if_answered c.good_counts.result c.good_counts.ensures.counts
     (λ terms l. lists_in c.min-letters.result c.args.variables (good_count c.min-letters.result c.args.left.now c.args.right.now []) (product_count c.args.variables c.args.left.now c.args.right.now) terms same
-    (subst (λ s. ListsCounts c.min-letters.result (good_count c.min-letters.result s c.args.right.now []) terms) c.parts.ensures.value l))
+    (subst (λ s. HasCounts c.min-letters.result (good_count c.min-letters.result s c.args.right.now []) terms) c.parts.ensures.value l))
 
 pub returns-clause-fits : goal.returns-clause-fits
 returns-clause-fits c =

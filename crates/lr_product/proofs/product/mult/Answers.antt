@@ -1,8 +1,8 @@
 use Rattle.std.proofs.Common.{◌≡◌, ◌+◌, ◌∙◌, ap, ap₂}
 use Rattle.std.specs.Option.{unwrap_or}
 use Rattle.sym_model.specs.Partition.{rows}
-use Rattle.sparse_polys.proofs.Coefficients.{if_answered}
-use Rattle.sparse_polys.proofs.ClearedSums.{on_ok}
+use Rattle.linear_combinations.proofs.Steps.{if_answered}
+use Rattle.linear_combinations.proofs.Steps.{on_ok}
 use Rattle.lr_product.proofs.GoodCounts.{mult_counts, mult_answers, mult_past, mult_fits, classical_if, heavy_if}
 use Rattle.lr_product.proofs.product.mult.Goals as goal
 

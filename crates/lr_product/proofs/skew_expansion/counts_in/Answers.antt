@@ -1,10 +1,9 @@
 use Rattle.std.proofs.Common.{◌≡◌, ℕ, ◌^◌, ◌<◌, min, List, [], subst, ap, ◌∙◌}
 use Rattle.sym_model.specs.Partition.{rows}
 use Rattle.sym_model.specs.GoodTableau.{skew_count}
-use Rattle.alternant_laws.specs.GoodSums.{ListsCounts}
-use Rattle.sparse_polys.proofs.Coefficients.{if_answered}
-use Rattle.sparse_polys.proofs.ClearedSums.{on_ok}
-use Rattle.lr_product.specs.Counts.{good_count, IsPastSomewhere}
+use Rattle.linear_combinations.proofs.Steps.{if_answered}
+use Rattle.linear_combinations.proofs.Steps.{on_ok}
+use Rattle.lr_product.specs.Counts.{good_count, HasCounts, IsPastSomewhere}
 use Rattle.lr_product.proofs.GoodCounts.{same_skew, lists_in, fits_in, past_in}
 use Rattle.lr_product.proofs.skew_expansion.counts_in.Goals as goal
 
@@ -14,7 +13,7 @@ returns-clause-counts c =
     let same = same_skew c.min-letters.result c.args.variables c.args.outer.now c.args.inner.now n c.rows.ensures.limits.partition c.parts.ensures.limits.partition c.requires.inside in
     if_answered c.good_counts.result c.good_counts.ensures.counts
     (λ terms l. lists_in c.min-letters.result c.args.variables (good_count c.min-letters.result [] c.args.outer.now c.args.inner.now) (skew_count c.args.outer.now c.args.inner.now) terms same
-    (subst (λ s. ListsCounts c.min-letters.result (good_count c.min-letters.result [] c.args.outer.now s) terms) c.parts.ensures.value l))
+    (subst (λ s. HasCounts c.min-letters.result (good_count c.min-letters.result [] c.args.outer.now s) terms) c.parts.ensures.value l))
 
 pub returns-clause-fits : goal.returns-clause-fits
 returns-clause-fits c =

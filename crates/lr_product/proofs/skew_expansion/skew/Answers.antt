@@ -5,8 +5,9 @@ use Rattle.sym_model.specs.Command.{skew}
 use Rattle.sym_model.specs.Kind.{product}
 use Rattle.sym_model.specs.Answer.{answer}
 use Rattle.sym_model.specs.Target.{Meets}
-use Rattle.sparse_polys.proofs.Coefficients.{if_answered}
-use Rattle.sparse_polys.proofs.ClearedSums.{on_ok}
+use Rattle.sym_model.specs.WholeTerms.{as_fractions}
+use Rattle.linear_combinations.proofs.Steps.{if_answered}
+use Rattle.linear_combinations.proofs.Steps.{on_ok}
 use Rattle.strip_laws.proofs.Containment.{contains-from, contains-tells}
 use Rattle.lr_product.proofs.GoodCounts.{contains-false, skew_counted, outside_answers, outside_fits, skew_answers, skew_past, skew_fits}
 use Rattle.lr_product.proofs.Results.{on_any}
@@ -15,7 +16,7 @@ use Rattle.lr_product.proofs.skew_expansion.skew.Goals as goal
 pub returns-then-not-contains-clause-meets : goal.returns-then-not-contains-clause-meets
 returns-then-not-contains-clause-meets c =
     let outside = contains-false c.args.outer.now c.args.inner.now (λ h. let yes : c.contains.result ≡ true = c.contains.ensures.1 h in absurd (cc)) in
-    if_answered c.no_terms.result c.no_terms.ensures.none (λ terms e. subst (λ ts. Meets (skew c.args.rows false c.args.outer.now c.args.inner.now) (answer product ts)) (sym e) (outside_answers c.args.rows c.args.outer.now c.args.inner.now outside))
+    if_answered c.no_terms.result c.no_terms.ensures.none (λ terms e. subst (λ ts. Meets (skew c.args.rows false c.args.outer.now c.args.inner.now) (answer product (as_fractions ts))) (sym e) (outside_answers c.args.rows c.args.outer.now c.args.inner.now outside))
 
 pub returns-then-not-contains-clause-counts : goal.returns-then-not-contains-clause-counts
 returns-then-not-contains-clause-counts c holds =

@@ -1,5 +1,5 @@
 use Rattle.std.proofs.Common.{◌≡◌, ℕ, ◌+◌, ◌*◌, List, length, take, drop, sym, ap, ap₂, ◌∙◌}
-use Rattle.sparse_polys.proofs.ClearedSums.{on_ok}
+use Rattle.linear_combinations.proofs.Steps.{on_ok}
 use Rattle.lr_product.specs.WeighedSum.{weighed}
 use Rattle.lr_product.specs.Extension.{extended}
 use Rattle.lr_product.proofs.Agreeing.{agree_then, agree_same}

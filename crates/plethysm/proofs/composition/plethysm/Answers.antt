@@ -4,13 +4,13 @@ use Rattle.sym_model.specs.ListWeight.{IsBounded}
 use Rattle.sym_model.specs.Plethysm.{plethysm, repeated_monomials}
 use Rattle.sym_model.specs.WholeTerms.{numerators}
 use Rattle.monomial_laws.specs.ExpressionTerms.{in_monomials}
-use Rattle.calc_expressions.specs.Trees.{basis_of}
+use Rattle.expression_reading.specs.Trees.{basis_of}
 use Rattle.sparse_polys.specs.MonomialProducts.{greatest_size}
 use Rattle.sparse_polys.proofs.Coefficients.{if_answered}
 use Rattle.sparse_polys.proofs.Rows.{greatest_size-among}
 use Rattle.sparse_polys.proofs.Steps.{error_is}
-use Rattle.monomial_expand.proofs.AtomLists.{greatest-within}
-use Rattle.basis_change.proofs.ClearedAnswers.{greatest_is}
+use Rattle.whole_lists.proofs.Bounds.{greatest-within}
+use Rattle.change_from_monomials.proofs.ClearedAnswers.{greatest_is}
 use Rattle.plethysm_laws.proofs.RepeatedMonomials.{repeated-places}
 use Rattle.plethysm_laws.proofs.PathWeights.{weight-finished, weight-number, weight-rises}
 use Rattle.plethysm.proofs.Constants.{constant-expansion}

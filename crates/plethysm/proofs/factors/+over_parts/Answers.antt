@@ -5,8 +5,8 @@ use Rattle.sym_model.proofs.Parts.{split_first}
 use Rattle.sparse_polys.specs.MonomialProducts.{greatest_size}
 use Rattle.sparse_polys.proofs.Coefficients.{if_answered}
 use Rattle.sparse_polys.proofs.Steps.{error_is}
-use Rattle.monomial_expand.proofs.AtomLists.{greatest-within}
-use Rattle.monomial_expand.proofs.WholeLists.{Once-labels}
+use Rattle.whole_lists.proofs.Bounds.{greatest-within}
+use Rattle.whole_lists.proofs.WholeLists.{Once-labels}
 use Rattle.plethysm.specs.PathSums.{IsProductPast}
 use Rattle.plethysm.proofs.FactorLists.{list-dilated, list-none, list-more, within-product, large-factor, large-later}
 use Rattle.plethysm.proofs.factors.+over_parts.Goals as goal

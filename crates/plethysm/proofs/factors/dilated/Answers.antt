@@ -14,10 +14,10 @@ use Rattle.sparse_polys.specs.MonomialProducts.{greatest_size}
 use Rattle.sparse_polys.proofs.Steps.{all_done, error_is, IsCombination-empty}
 use Rattle.sparse_polys.proofs.Rows.{list_whole, list_among}
 use Rattle.sparse_polys.proofs.WholeTables.{labels_term}
-use Rattle.monomial_expand.specs.Tables.{equal, found, IsTable}
-use Rattle.monomial_expand.specs.LabelSizes.{AreWithin}
-use Rattle.monomial_expand.proofs.WholeLists.{Finds, Finds-next, equal_tells, more_as, Same-from_look_ups}
-use Rattle.basis_change.proofs.Bounds.{itself}
+use Rattle.whole_lists.specs.Tables.{equal, found, IsTable}
+use Rattle.whole_lists.specs.LabelSizes.{AreWithin}
+use Rattle.whole_lists.proofs.WholeLists.{Finds, Finds-next, equal_tells, more_as, Same-from_look_ups}
+use Rattle.change_from_monomials.proofs.Bounds.{itself}
 use Rattle.plethysm_laws.specs.PowerSumPlethysm.{dilated}
 use Rattle.plethysm_laws.proofs.Dilations.{coefficient-dilated}
 use Rattle.plethysm.proofs.FactorLists.{IsWithinLimits-multiplied, size-multiplied, label_of, dilated-push, none_before, refused-found}

@@ -2,9 +2,9 @@ use Rattle.std.proofs.Common.{◌≡◌, ◌++◌, ◌*◌, map}
 use Rattle.std.specs.Map.Iter.{deref_pair}
 use Rattle.sym_model.specs.WholeTerms.{numerators}
 use Rattle.sparse_polys.specs.MonomialProducts.{greatest_size}
-use Rattle.monomial_expand.specs.Tables.{IsTable}
-use Rattle.monomial_expand.specs.LabelSizes.{AreWithin}
-use Rattle.monomial_expand.proofs.WholeLists.{Finds}
+use Rattle.whole_lists.specs.Tables.{IsTable}
+use Rattle.whole_lists.specs.LabelSizes.{AreWithin}
+use Rattle.whole_lists.proofs.WholeLists.{Finds}
 use Rattle.plethysm_laws.specs.PowerSumPlethysm.{dilated}
 use Rattle.plethysm.proofs.factors.dilated.Given as goal
 

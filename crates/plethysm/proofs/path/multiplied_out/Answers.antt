@@ -10,7 +10,7 @@ use Rattle.sparse_polys.proofs.Steps.{all_done, error_is}
 use Rattle.sparse_polys.specs.MonomialProducts.{greatest_size}
 use Rattle.sparse_polys.proofs.Rows.{list_whole, list_among, greatest_size-among}
 use Rattle.plethysm.specs.PathSums.{power_sum_in}
-use Rattle.basis_change.proofs.Bounds.{itself}
+use Rattle.change_from_monomials.proofs.Bounds.{itself}
 use Rattle.plethysm.proofs.PathSteps.{path-step, past-from_step}
 use Rattle.plethysm.proofs.path.multiplied_out.Goals as goal
 use native.Mathlib.Nat.{mul-le-mul_right}

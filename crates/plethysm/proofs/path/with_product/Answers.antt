@@ -5,7 +5,7 @@ use Rattle.sym_model.specs.WholeTerms.{numerators}
 use Rattle.monomial_laws.specs.ExpressionTerms.{IsList}
 use Rattle.sparse_polys.proofs.Coefficients.{if_answered}
 use Rattle.sparse_polys.proofs.Steps.{error_is}
-use Rattle.monomial_expand.specs.Large.{SumIsLarge}
+use Rattle.whole_lists.specs.Large.{SumIsLarge}
 use Rattle.plethysm.specs.PathSums.{power_sum_in, IsProductPast}
 use Rattle.plethysm.proofs.PathSteps.{sum-value, sum-large}
 use Rattle.plethysm.proofs.path.with_product.Goals as goal

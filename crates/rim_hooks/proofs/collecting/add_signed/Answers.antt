@@ -1,22 +1,30 @@
-use Rattle.std.proofs.Common.{◌≡◌, ◌∙◌, ap, subst, ◌*ℤ◌}
-use Rattle.std.proofs.lemmas.Result.{on_ok_weaker}
-use Rattle.coeff_rings.specs.Fractions.{whole}
-use Rattle.coeff_rings.proofs.Sizes.{answered_is}
-use Rattle.sparse_polys.specs.Combination.{HasMoreAt}
-use Rattle.rim_hooks.proofs.CollectedTerms.{collects-more, refused_sum, kept_through}
+use Rattle.std.proofs.Common.{◌≡◌, [], ◌∷◌, ◌∙◌, ap, sym, subst, ◌*ℤ◌, None}
+use Rattle.std.specs.Prelude.{OnOk}
+use Rattle.coeff_rings.specs.Checked.{checked_i128}
+use Rattle.coeff_rings.proofs.Sizes.{answered_is, refused_size}
+use Rattle.linear_combinations.specs.Gains.{Gains, Overflows}
+use Rattle.linear_combinations.proofs.Gains.{gains_term, overflows_alone, overflows_term}
+use Rattle.linear_combinations.proofs.Steps.{on_ok}
+use Rattle.rim_hooks.proofs.SignCasts.{kept_through}
 use Rattle.rim_hooks.proofs.collecting.add_signed.Goals as goal
 
-pub returns-clause-ok : goal.returns-clause-ok
-returns-clause-ok g c = λ before was.
+pub returns-in_default-clause-large : goal.returns-in_default-clause-large
+returns-in_default-clause-large g c err =
+    let sign = kept_through c.args.sign c.from.result c.new.result c.requires c.from.ensures c.new.ensures in
+    overflows_alone g.met.L.Eq.laws g.met.L.Label.same_label c.args.sums.now c.args.label (c.args.c *ℤ c.args.sign)
+    (refused_size (c.args.c *ℤ c.args.sign) (subst (λ s. checked_i128 (c.args.c *ℤ s) ≡ None) sign (sym c.in_default.ensures.product)))
+
+pub returns-clause-gains : goal.returns-clause-gains
+returns-clause-gains g c =
     let sign = kept_through c.args.sign c.from.result c.new.result c.requires c.from.ensures c.new.ensures in
     let signed : c.in-Some.signed ≡ c.args.c *ℤ c.args.sign = answered_is (c.args.c *ℤ c.new.result) c.in-Some.signed c.in-Some.ensures.product ∙ ap (λ s. c.args.c *ℤ s) sign in
-    on_ok_weaker c.add_term.result
-    (λ more. collects-more g.L.PartialEq.eq g.met.L.Label.same_label before c.args.label (c.args.c *ℤ c.args.sign) c.args.sums.now c.add_term.new.self was
-    (subst (λ z. HasMoreAt g.L.PartialEq.eq c.args.sums.now c.args.label (whole z) c.add_term.new.self) signed more))
-    c.add_term.ensures.ok
+    subst (λ z. OnOk c.add_term.result (Gains c.args.sums.now ((c.args.label, z) ∷ []) c.add_term.new.self)) signed
+    (on_ok c.add_term.result c.add_term.ensures.ok
+    (λ more. gains_term g.met.L.Eq.laws g.met.L.Label.same_label c.args.sums.now c.add_term.new.self c.add_term.ensures.was c.add_term.ensures.combination c.args.label c.in-Some.signed more))
 
 pub returns-clause-large : goal.returns-clause-large
-returns-clause-large g c = λ before was err.
+returns-clause-large g c err =
     let sign = kept_through c.args.sign c.from.result c.new.result c.requires c.from.ensures c.new.ensures in
     let signed : c.in-Some.signed ≡ c.args.c *ℤ c.args.sign = answered_is (c.args.c *ℤ c.new.result) c.in-Some.signed c.in-Some.ensures.product ∙ ap (λ s. c.args.c *ℤ s) sign in
-    refused_sum g.L.PartialEq.eq before c.args.label c.args.c c.args.sign c.in-Some.signed c.args.sums.now c.requires signed was (c.add_term.ensures.large.0 err)
+    subst (λ z. Overflows g.L.PartialEq.eq c.args.sums.now ((c.args.label, z) ∷ [])) signed
+    (overflows_term g.met.L.Eq.laws g.met.L.Label.same_label c.args.sums.now c.add_term.ensures.was.distinct c.args.label c.in-Some.signed (c.add_term.ensures.large.0 err).refused)

@@ -1,23 +1,43 @@
-use Rattle.std.proofs.Common.{◌+◌, ap, arith}
-use Rattle.std.specs.Prelude.{Err}
-use Rattle.sym_model.specs.WholeTerms.{numerators}
-use Rattle.sparse_polys.proofs.Steps.{error_is}
-use Rattle.product_laws.proofs.FusionSteps.{fusion_steps_meet}
-use Rattle.rim_hooks.proofs.FusionSteps.{fusion_sorted}
+use Rattle.std.proofs.Common.{◌+◌, sym, subst, arith}
+use Rattle.sym_model.specs.Answer.{answer}
+use Rattle.sym_model.specs.Command.{fusion}
+use Rattle.sym_model.specs.Kind.{product}
+use Rattle.sym_model.specs.ReductionSteps.{IsReflectedInSteps}
+use Rattle.sym_model.specs.Target.{Meets}
+use Rattle.sym_model.specs.WholeTerms.{as_fractions}
+use Rattle.linear_combinations.proofs.Steps.{if_answered}
+use Rattle.rim_hooks.proofs.FusionSteps.{fusion_none, fusion_led, fusion_heavy, fusion_meets}
 use Rattle.rim_hooks.proofs.fusion_product.fusion.Goals as goal
 
-pub returns-in_err-sums-clause-large : goal.returns-in_err-sums-clause-large
-returns-in_err-sums-clause-large c err = c.in_err-sums.ensures.large (ap Err (error_is _ _ _ c.from_residual.ensures.1 err))
+pub returns-then-has_long-clause-steps : goal.returns-then-has_long-clause-steps
+returns-then-has_long-clause-steps c =
+    let l = c.has_long.ensures.limits in
+    if_answered c.no_terms.result c.no_terms.ensures.none
+    (λ terms none. subst (IsReflectedInSteps c.args.rows (c.args.rows + c.args.level) c.args.factors.now) (sym none)
+    (fusion_none c.args.rows (c.args.rows + c.args.level) c.args.factors.now l.least l.small.partitions (c.has_long.ensures.long c.if-has_long.true)))
+
+pub product_in_steps-requires-clause-few : goal.product_in_steps-requires-clause-few
+product_in_steps-requires-clause-few c = c.has_long.ensures.few c.if-has_long.false
+
+pub returns-clause-steps : goal.returns-clause-steps
+returns-clause-steps c =
+    if_answered c.product_in_steps.result c.product_in_steps.ensures.steps (λ terms led. fusion_led c.args.rows (c.args.rows + c.args.level) c.args.factors.now terms led)
 
 pub returns-clause-meets : goal.returns-clause-meets
 returns-clause-meets c =
     let some = c.requires.variables.0 in
-    let l = c.in_ok-sums.ensures.limits in
-    fusion_steps_meet c.args.rows (c.args.rows + c.args.level) c.args.factors.now (numerators c.in_ok-sorted_terms.field-0) (omega arith) l.least l.small.partitions
-    (fusion_sorted c.args.rows (c.args.rows + c.args.level) c.args.factors.now c.in_ok-sums.sums c.in_ok-sorted_terms.field-0 l.least c.len.ensures.combination c.in_ok-sorted_terms.ensures.combination
-    c.in_ok-sorted_terms.ensures.same c.in_ok-sums.ensures.steps)
+    let l = c.has_long.ensures.limits in
+    if_answered c.product_in_steps.result c.product_in_steps.ensures.steps
+    (λ terms led. fusion_meets c.args.rows (c.args.rows + c.args.level) c.args.factors.now terms (omega arith) l.least l.small.partitions (fusion_led c.args.rows (c.args.rows + c.args.level) c.args.factors.now terms led))
 
-pub returns-clause-steps : goal.returns-clause-steps
-returns-clause-steps c =
-    fusion_sorted c.args.rows (c.args.rows + c.args.level) c.args.factors.now c.in_ok-sums.sums c.in_ok-sorted_terms.field-0 c.in_ok-sums.ensures.limits.least c.len.ensures.combination c.in_ok-sorted_terms.ensures.combination
-    c.in_ok-sorted_terms.ensures.same c.in_ok-sums.ensures.steps
+pub returns-clause-large : goal.returns-clause-large
+returns-clause-large c err = fusion_heavy c.args.rows (c.args.rows + c.args.level) c.args.factors.now (c.product_in_steps.ensures.large err)
+
+pub returns-then-has_long-clause-meets : goal.returns-then-has_long-clause-meets
+returns-then-has_long-clause-meets c =
+    let some = c.requires.variables.0 in
+    let l = c.has_long.ensures.limits in
+    if_answered c.no_terms.result c.no_terms.ensures.none
+    (λ terms none. subst (λ ts. Meets (fusion c.args.rows c.args.level c.args.factors.now) (answer product (as_fractions ts))) (sym none)
+    (fusion_meets c.args.rows (c.args.rows + c.args.level) c.args.factors.now _ (omega arith) l.least l.small.partitions
+    (fusion_none c.args.rows (c.args.rows + c.args.level) c.args.factors.now l.least l.small.partitions (c.has_long.ensures.long c.if-has_long.true))))

@@ -1,22 +1,64 @@
-use Rattle.std.proofs.Common.{◌+◌, ap, arith}
-use Rattle.std.specs.Prelude.{Err}
-use Rattle.sparse_polys.proofs.Steps.{error_is}
-use Rattle.product_laws.proofs.QuantumSteps.{quantum_steps_meet}
-use Rattle.rim_hooks.proofs.QuantumSteps.{quantum_sorted}
+use Rattle.std.proofs.Common.{◌+◌, sym, subst, arith}
+use Rattle.sym_model.specs.Answer.{answer}
+use Rattle.sym_model.specs.Command.{quantum}
+use Rattle.sym_model.specs.Kind.{powers}
+use Rattle.sym_model.specs.ReductionSteps.{IsReducedInSteps}
+use Rattle.sym_model.specs.Target.{Meets, classical_product, reduced_terms}
+use Rattle.sym_model.specs.WholeTerms.{as_fractions}
+use Rattle.linear_combinations.proofs.Found.{numerators-as_fractions}
+use Rattle.linear_combinations.proofs.Steps.{if_answered}
+use Rattle.reduction_laws.specs.AnyOrder.{HaveSameSums}
+use Rattle.reduction_laws.proofs.AnyReductions.{any_reductions}
+use Rattle.rim_hooks.proofs.QuantumSteps.{quantum_none, quantum_led, quantum_heavy, quantum_meets}
 use Rattle.rim_hooks.proofs.quantum_product.quantum.Goals as goal
 
-pub returns-in_err-sums-clause-large : goal.returns-in_err-sums-clause-large
-returns-in_err-sums-clause-large c err = c.in_err-sums.ensures.large (ap Err (error_is _ _ _ c.from_residual.ensures.1 err))
+pub returns-then-has_long-clause-steps : goal.returns-then-has_long-clause-steps
+returns-then-has_long-clause-steps c =
+    let some = c.requires.variables.0 in
+    let l = c.has_long.ensures.limits in
+    if_answered c.no_terms.result c.no_terms.ensures.none
+    (λ terms none. subst (IsReducedInSteps c.args.rows (c.args.rows + c.args.cols) c.args.factors.now) (sym none)
+    (quantum_none c.args.rows (c.args.rows + c.args.cols) c.args.factors.now (omega arith) l.least l.small.partitions (c.has_long.ensures.long c.if-has_long.true)))
+
+pub returns-then-has_long-clause-meets : goal.returns-then-has_long-clause-meets
+returns-then-has_long-clause-meets c =
+    let some = c.requires.variables.0 in
+    let l = c.has_long.ensures.limits in
+    if_answered c.no_terms.result c.no_terms.ensures.none
+    (λ terms none. subst (λ ts. Meets (quantum c.args.rows c.args.cols c.args.factors.now) (answer powers (as_fractions ts))) (sym none)
+    (quantum_meets c.args.rows (c.args.rows + c.args.cols) c.args.factors.now _ (omega arith) l.least l.small.partitions
+    (quantum_none c.args.rows (c.args.rows + c.args.cols) c.args.factors.now (omega arith) l.least l.small.partitions (c.has_long.ensures.long c.if-has_long.true))))
+
+pub product_in_steps-requires-clause-few : goal.product_in_steps-requires-clause-few
+product_in_steps-requires-clause-few c = c.has_long.ensures.few c.if-has_long.false
+
+pub returns-clause-steps : goal.returns-clause-steps
+returns-clause-steps c =
+    if_answered c.product_in_steps.result c.product_in_steps.ensures.steps (λ terms led. quantum_led c.args.rows (c.args.rows + c.args.cols) c.args.factors.now terms led)
 
 pub returns-clause-meets : goal.returns-clause-meets
 returns-clause-meets c =
     let some = c.requires.variables.0 in
-    let l = c.in_ok-sums.ensures.limits in
-    quantum_steps_meet c.args.rows (c.args.rows + c.args.cols) c.args.factors.now c.in_ok-sorted_terms.field-0 (omega arith) l.least l.small.partitions
-    (quantum_sorted c.args.rows (c.args.rows + c.args.cols) c.args.factors.now c.in_ok-sums.sums c.in_ok-sorted_terms.field-0 l.least c.len.ensures.combination c.in_ok-sorted_terms.ensures.combination
-    c.in_ok-sorted_terms.ensures.same c.in_ok-sums.ensures.steps)
+    let l = c.has_long.ensures.limits in
+    if_answered c.product_in_steps.result c.product_in_steps.ensures.steps
+    (λ terms led. quantum_meets c.args.rows (c.args.rows + c.args.cols) c.args.factors.now terms (omega arith) l.least l.small.partitions (quantum_led c.args.rows (c.args.rows + c.args.cols) c.args.factors.now terms led))
 
-pub returns-clause-steps : goal.returns-clause-steps
-returns-clause-steps c =
-    quantum_sorted c.args.rows (c.args.rows + c.args.cols) c.args.factors.now c.in_ok-sums.sums c.in_ok-sorted_terms.field-0 c.in_ok-sums.ensures.limits.least c.len.ensures.combination c.in_ok-sorted_terms.ensures.combination
-    c.in_ok-sorted_terms.ensures.same c.in_ok-sums.ensures.steps
+pub returns-clause-large : goal.returns-clause-large
+returns-clause-large c err = quantum_heavy c.args.rows (c.args.rows + c.args.cols) c.args.factors.now (c.product_in_steps.ensures.large err)
+
+-- the sums of every other list of reductions
+pub returns-then-has_long-clause-only : goal.returns-then-has_long-clause-only
+returns-then-has_long-clause-only c =
+    let some = c.requires.variables.0 in
+    if_answered c.no_terms.result (returns-then-has_long-clause-meets c)
+    (λ terms meets reductions reduce.
+    subst (λ ts. HaveSameSums ts (reduced_terms (classical_product c.args.rows c.args.factors.now) reductions)) (numerators-as_fractions terms)
+    (any_reductions c.args.rows (c.args.rows + c.args.cols) c.args.factors.now (as_fractions terms) reductions (omega arith) reduce meets))
+
+pub returns-clause-only : goal.returns-clause-only
+returns-clause-only c =
+    let some = c.requires.variables.0 in
+    if_answered c.product_in_steps.result (returns-clause-meets c)
+    (λ terms meets reductions reduce.
+    subst (λ ts. HaveSameSums ts (reduced_terms (classical_product c.args.rows c.args.factors.now) reductions)) (numerators-as_fractions terms)
+    (any_reductions c.args.rows (c.args.rows + c.args.cols) c.args.factors.now (as_fractions terms) reductions (omega arith) reduce meets))

@@ -1,5 +1,5 @@
-use Rattle.std.proofs.Common.{◌≤◌, length, sym, subst, arith}
-use Rattle.schubert_laws.proofs.Members.{place_within, short_transition}
+use Rattle.std.proofs.Common.{arith}
+use Rattle.schubert_laws.proofs.Members.{place_within}
 use Rattle.stanley_expand.proofs.walk.expand.Goals as goal
 
 pub times_swap-requires-clause-first : goal.times_swap-requires-clause-first
@@ -14,16 +14,11 @@ times_swap-requires-clause-second c =
     let few = c.requires.short.few in
     omega arith
 
-pub covers_at-requires-clause-place : goal.covers_at-requires-clause-place
-covers_at-requires-clause-place c = (place_within c.args.perm.now c.args.r c.args.s c.requires.short.one_line c.requires.places).0
+pub covers_down-requires-clause-place : goal.covers_down-requires-clause-place
+covers_down-requires-clause-place c = (place_within c.args.perm.now c.args.r c.args.s c.requires.short.one_line c.requires.places).0
 
-pub covers_at-requires-clause-last : goal.covers_at-requires-clause-last
-covers_at-requires-clause-last c =
+pub covers_down-requires-clause-last : goal.covers_down-requires-clause-last
+covers_down-requires-clause-last c =
     let p = (place_within c.args.perm.now c.args.r c.args.s c.requires.short.one_line c.requires.places).1 in
     let few = c.requires.short.few in
     omega arith
-
-pub covers_at-requires-clause-letters : goal.covers_at-requires-clause-letters
-covers_at-requires-clause-letters c =
-    let few = (short_transition 254 c.args.perm.now c.args.r c.args.s c.requires.short c.requires.places).few in
-    subst (λ v. length v ≤ 254) (sym c.in_ok-lower.ensures) few

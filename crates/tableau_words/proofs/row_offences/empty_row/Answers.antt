@@ -5,7 +5,7 @@ use Rattle.sym_model.specs.CommandOffence.{first_offence}
 use Rattle.word_laws.specs.WrittenRows.{row_text, rows_at}
 use Rattle.tableau_words.proofs.RowJudging.{rows_next, room_next}
 use Rattle.tableau_words.proofs.EmptyRows.{empties, two_rows, one_row, empty_first, empty_later}
-use Rattle.calc_words.proofs.Standing.{no_more, some_more}
+use Rattle.calc_words.proofs.ReadingFacts.{no_more, some_more}
 use Rattle.tableau_words.proofs.row_offences.empty_row.Goals as goal
 
 pub returns-then-rows-lt2 : goal.returns-then-rows-lt2

@@ -1,11 +1,13 @@
-use Rattle.std.proofs.Common.{map, subst}
+use Rattle.std.proofs.Common.{map}
 use Rattle.std.specs.Prelude.{string_bytes}
-use Rattle.std.proofs.lemmas.List.{length-map}
-use Rattle.tableau_words.specs.TableauWords.{WrongTableau}
-use Rattle.tableau_words.proofs.RowStanding.{wrong_row}
+use Rattle.tableau_words.proofs.CutTableaux.{dot_row, number_row}
 use Rattle.tableau_words.proofs.row_words.row_first.Goals as goal
 
-pub returns-in_default-first_number-clause-wrong : goal.returns-in_default-first_number-clause-wrong
-returns-in_default-first_number-clause-wrong c =
-    let words = map string_bytes c.args.words.now in
-    subst (λ n. WrongTableau words n) (length-map c.args.words.now string_bytes) (wrong_row words c.in_default.ensures c.in_default-first_number.ensures)
+pub returns-in-Some-clause-is : goal.returns-in-Some-clause-is
+returns-in-Some-clause-is c = λ row rows n e. dot_row row (map string_bytes c.args.words.now) (map string_bytes c.in-Some.rest.now) rows n e c.in-Some.ensures
+
+pub returns-in-None-clause-is : goal.returns-in-None-clause-is
+returns-in-None-clause-is c =
+    λ row rows n e.
+    number_row row (map string_bytes c.args.words.now) (map string_bytes c.numbers.result.0.now) (map string_bytes c.numbers.result.1.now) rows n e
+    c.in-None.ensures c.numbers.ensures.parts c.numbers.ensures.numbers c.numbers.ensures.rest

@@ -1,48 +1,14 @@
-use Rattle.std.proofs.Common.{◌≡◌, ◌-◌, ℕ, List, length, map, refl, sym, ap, subst, arith, ◌∷◌, []}
-use Rattle.std.specs.Prelude.{string_bytes, codes}
-use Rattle.std.proofs.lemmas.List.{length-map}
-use Rattle.sym_model.specs.Form.{Form, sequence}
-use Rattle.sym_model.specs.Grammar.{rect_words, rect_entry}
-use Rattle.sym_model.specs.WordForms.{the, partition_words, tableau_words}
-use Rattle.calc_base.specs.declared.words.WordsFault.{WordsFault}
-use Rattle.tableau_words.specs.declared.row_words.RowsFault.{RowsFault}
-use Rattle.tableau_words.specs.declared.row_words.RowsFault.TheVariants.{Wrong, NoMemory}
+use Rattle.std.proofs.Common.{map, sym, subst}
+use Rattle.std.specs.Prelude.{string_bytes}
 use Rattle.tableau_words.specs.SkewWords.{AreSkewWords}
-use Rattle.calc_words.specs.Reading.{IsRefusal}
-use Rattle.calc_words.specs.Standing.{WrongAt}
-use Rattle.tableau_words.specs.WordRows.{IsWrongFor, refusal_of}
-use Rattle.calc_words.proofs.Standing.{wrong_the, behind_the}
-use Rattle.calc_words.proofs.Commands.{syntax_read}
 use Rattle.tableau_words.proofs.SkewJudging.{skew_read_rows}
 use Rattle.tableau_words.proofs.skew_tableaux.read_rect.Goals as goal
 
-abbrev skew_more : Form
-skew_more = sequence partition_words (sequence (the (codes "/")) (sequence partition_words (sequence (the (codes "-")) tableau_words)))
-
-refused : (words rest : List (List ℕ)) (n : ℕ) (fault : RowsFault) (refusal : WordsFault) → words ≡ codes "rect" ∷ rest → length words ≡ n → IsWrongFor skew_more fault rest
-    → refusal ≡ refusal_of n fault → IsRefusal (rect_entry ∷ []) words refusal
-refused words rest n (Wrong left) refusal e l w f =
-    syntax_read rect_entry words left (n - left) refusal refl
-    (subst (λ ws. WrongAt rect_words ws left) (sym e) (behind_the (codes "rect") skew_more rest left w)) (ap (λ k. k - left) (sym l)) f
-refused words rest n NoMemory refusal e l w f = subst (λ x. IsRefusal (rect_entry ∷ []) words x) (sym f) tt
-
-pub returns-in_default : goal.returns-in_default
-returns-in_default c =
+pub returns : goal.returns
+returns c =
     let words = map string_bytes c.args.words.now in
-    syntax_read rect_entry words (length words) 0 c.syntax.result refl
-    (wrong_the (codes "rect") skew_more words c.in_default.ensures) (omega arith) c.syntax.ensures
-
-pub returns-in-Ok : goal.returns-in-Ok
-returns-in-Ok c =
-    let rest = map string_bytes c.in-Some.rest.now in
-    let rows = c.as_slice.result.now in
-    let outer = map string_bytes c.in-Ok.outer.now in
-    let inner = map string_bytes c.in-Ok.inner.now in
-    skew_read_rows (λ r. map string_bytes r.now) (map string_bytes c.args.words.now) rest outer inner rows c.read_skew_tableau.result c.in-Some.ensures
-    (subst (λ v. AreSkewWords outer inner (map (λ r. map string_bytes r.now) v) rest) (sym c.as_slice.ensures.value) c.in-Ok.ensures.ok)
+    let outer = map string_bytes c.in_ok-outer.outer.now in
+    let inner = map string_bytes c.in_ok-outer.inner.now in
+    skew_read_rows (λ r. map string_bytes r.now) words outer inner c.as_slice.result.now c.read_skew_tableau.result
+    (subst (λ v. AreSkewWords outer inner (map (λ r. map string_bytes r.now) v) words) (sym c.as_slice.ensures.value) c.in_ok-outer.ensures.ok)
     c.read_skew_tableau.ensures
-
-pub returns-in-Err : goal.returns-in-Err
-returns-in-Err c =
-    refused (map string_bytes c.args.words.now) (map string_bytes c.in-Some.rest.now) (length c.args.words.now) c.in-Err.fault c.rows_refusal.result
-    c.in-Some.ensures (length-map c.args.words.now string_bytes) c.in-Err.ensures.wrong c.rows_refusal.ensures

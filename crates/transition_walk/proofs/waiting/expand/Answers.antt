@@ -1,4 +1,4 @@
-use Rattle.std.proofs.Common.{[], ◌∷◌, length, refl, sym, ap, ◌∙◌, subst, arith}
+use Rattle.std.proofs.Common.{[], ◌∷◌, refl, sym, ap, ◌∙◌, subst, arith}
 use Rattle.std.specs.Prelude.{Err}
 use Rattle.schubert_laws.proofs.Members.{short_transition, place_within}
 use Rattle.linear_combinations.specs.Gains.{replaced}
@@ -20,19 +20,12 @@ pub times_swap-requires-clause-second : goal.times_swap-requires-clause-second
 times_swap-requires-clause-second g c =
     let p = place_within c.args.waiting.now.perm c.args.r c.args.s c.requires.permutation.one_line c.requires.places in let q = p.3 in let f = c.requires.permutation.few in omega arith
 
-pub covers_at-requires-clause-place : goal.covers_at-requires-clause-place
-covers_at-requires-clause-place g c = let p = place_within c.args.waiting.now.perm c.args.r c.args.s c.requires.permutation.one_line c.requires.places in p.0
+pub covers_down-requires-clause-place : goal.covers_down-requires-clause-place
+covers_down-requires-clause-place g c = let p = place_within c.args.waiting.now.perm c.args.r c.args.s c.requires.permutation.one_line c.requires.places in p.0
 
-pub covers_at-requires-clause-last : goal.covers_at-requires-clause-last
-covers_at-requires-clause-last g c =
+pub covers_down-requires-clause-last : goal.covers_down-requires-clause-last
+covers_down-requires-clause-last g c =
     let p = place_within c.args.waiting.now.perm c.args.r c.args.s c.requires.permutation.one_line c.requires.places in let q = p.1 in let f = c.requires.permutation.few in omega arith
-
-pub covers_at-requires-clause-letters : goal.covers_at-requires-clause-letters
-covers_at-requires-clause-letters g c =
-    let v = short_transition 254 c.args.waiting.now.perm c.args.r c.args.s c.requires.permutation c.requires.places in
-    let f = v.few in
-    let e = ap length c.in_ok-lower.ensures in
-    omega arith
 
 pub at-factor-requires : goal.at-factor-requires
 at-factor-requires g c = let p = place_within c.args.waiting.now.perm c.args.r c.args.s c.requires.permutation.one_line c.requires.places in p.0
@@ -50,21 +43,21 @@ returns-clause-joins g c =
     on_ok c.add_waiting_by.result c.add_waiting_by.ensures.joins
     (λ more.
     subst (λ l. Joins c.args.todo.now.items l c.add_waiting_by.new.todo.items)
-    (stepped_as g.F.Rule.image (g.F.Factor.made c.args.r) c.args.r c.args.s c.args.waiting.now c.down.result.now c.in_ok-lower.lower c.at-factor.result c.in_ok-lower.ensures (c.down.ensures ∙ c.in_ok-covers.ensures.down) c.at-factor.ensures)
-    (joins_both c.args.todo.now.items (each_waits c.args.waiting.now.factor c.down.result.now) c.add_covers.new.todo.items
+    (stepped_as g.F.Rule.image (g.F.Factor.made c.args.r) c.args.r c.args.s c.args.waiting.now c.as_slice.result.now c.in_ok-lower.lower c.at-factor.result c.in_ok-lower.ensures (c.as_slice.ensures.value ∙ c.in_ok-covers.ensures) c.at-factor.ensures)
+    (joins_both c.args.todo.now.items (each_waits c.args.waiting.now.factor c.as_slice.result.now) c.add_covers.new.todo.items
     ((record { perm = c.in_ok-lower.lower; factor = replaced (g.F.Rule.image c.at-factor.result) c.args.waiting.now.factor }) ∷ []) c.add_waiting_by.new.todo.items c.in_ok-add_covers.ensures.joins more))
 
 pub returns-clause-large : goal.returns-clause-large
 returns-clause-large g c err =
     subst (WaitingOverflows c.args.todo.now.items)
-    (stepped_as g.F.Rule.image (g.F.Factor.made c.args.r) c.args.r c.args.s c.args.waiting.now c.down.result.now c.in_ok-lower.lower c.at-factor.result c.in_ok-lower.ensures (c.down.ensures ∙ c.in_ok-covers.ensures.down) c.at-factor.ensures)
-    (overflows_both c.args.todo.now.items (each_waits c.args.waiting.now.factor c.down.result.now) c.add_covers.new.todo.items
+    (stepped_as g.F.Rule.image (g.F.Factor.made c.args.r) c.args.r c.args.s c.args.waiting.now c.as_slice.result.now c.in_ok-lower.lower c.at-factor.result c.in_ok-lower.ensures (c.as_slice.ensures.value ∙ c.in_ok-covers.ensures) c.at-factor.ensures)
+    (overflows_both c.args.todo.now.items (each_waits c.args.waiting.now.factor c.as_slice.result.now) c.add_covers.new.todo.items
     ((record { perm = c.in_ok-lower.lower; factor = replaced (g.F.Rule.image c.at-factor.result) c.args.waiting.now.factor }) ∷ []) c.in_ok-add_covers.ensures.joins (c.add_waiting_by.ensures.large err))
 
 pub returns-in_err-add_covers-clause-large : goal.returns-in_err-add_covers-clause-large
 returns-in_err-add_covers-clause-large g c err =
     subst (WaitingOverflows c.args.todo.now.items)
-    (stepped_as g.F.Rule.image (g.F.Factor.made c.args.r) c.args.r c.args.s c.args.waiting.now c.down.result.now c.in_ok-lower.lower (g.F.Factor.made c.args.r c.in_ok-lower.lower) c.in_ok-lower.ensures (c.down.ensures ∙ c.in_ok-covers.ensures.down) refl)
-    (overflows_more c.args.todo.now.items (each_waits c.args.waiting.now.factor c.down.result.now)
+    (stepped_as g.F.Rule.image (g.F.Factor.made c.args.r) c.args.r c.args.s c.args.waiting.now c.as_slice.result.now c.in_ok-lower.lower (g.F.Factor.made c.args.r c.in_ok-lower.lower) c.in_ok-lower.ensures (c.as_slice.ensures.value ∙ c.in_ok-covers.ensures) refl)
+    (overflows_more c.args.todo.now.items (each_waits c.args.waiting.now.factor c.as_slice.result.now)
     ((record { perm = c.in_ok-lower.lower; factor = replaced (g.F.Rule.image (g.F.Factor.made c.args.r c.in_ok-lower.lower)) c.args.waiting.now.factor }) ∷ [])
     (c.in_err-add_covers.ensures.large (ap Err (error_is _ _ _ c.from_residual-in_err-add_covers.ensures.1 err))))

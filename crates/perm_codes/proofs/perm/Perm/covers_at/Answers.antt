@@ -1,8 +1,10 @@
 use Rattle.std.proofs.Common.{◌≡◌, ◌+◌, ◌-◌, ◌≤◌, IfOk, List, ℕ, map, max, length, refl, rules, sym, ap, ap₂, ◌∙◌, subst, arith}
+use Rattle.sym_model.specs.PlaceOrders.{inversions}
 use Rattle.sym_model.specs.Partition.{after}
 use Rattle.sym_model.specs.Permutation.{covers_among, covers_down, covers_up, times_swap, with_fixed}
 use Rattle.perm_codes.specs.Limits.{IsShortPermutation}
-use Rattle.perm_codes.proofs.CoverSteps.{covers_down_fixed, covers_up_fixed}
+use Rattle.perm_codes.proofs.CoverSteps.{covers_down_fixed, covers_up_fixed, same_inversions}
+use Rattle.perm_codes.proofs.InversionCounts.{few_inversions}
 use Rattle.perm_codes.proofs.WithinLimits.{length-with_fixed, short_fixed}
 use Rattle.perm_codes.proofs.perm.Perm.covers_at.Goals as goal
 
@@ -60,3 +62,18 @@ returns-clause-down c =
     ∙ ap (covers_down c.args.r) letters
     ∙ covers_down_fixed w c.args.r last (few (length w) c.args.r c.requires.letters c.requires.last) c.letters.ensures.limits in
     subst (λ list. IfOk c.of_letters.result (λ covers. covers.down ≡ list)) is found
+
+pub overflow_add-self-inside : goal.overflow_add-self-inside
+overflow_add-self-inside c =
+    let few = few_inversions c.self.inside.letters.items c.self.invariant.limits.few in
+    let count = c.self.invariant.count_is in
+    omega arith
+
+pub of_letters-requires-clause-count : goal.of_letters-requires-clause-count
+of_letters-requires-clause-count c =
+    let w = c.args.self.now in
+    let is = letters_are _ _ _ _ _ _ _ _ c.as_slice.ensures c.in_ok-letters.ensures c.letters.ensures.value c.from.ensures c.max-last.ensures c.len.ensures.value in
+    ap (λ n. n + 1)
+    (c.self.invariant.count_is ∙ ap inversions c.self.view_is
+    ∙ sym (same_inversions w (max (length w) c.args.r + 1) (few (length w) c.args.r c.requires.letters c.requires.last) c.letters.ensures.limits)
+    ∙ ap inversions (sym is))

@@ -1,9 +1,0 @@
-use Rattle.std.proofs.Common.{◌≡◌, take}
-use Rattle.expression_laws.specs.LeftToRight.{start}
-use Rattle.expression_laws.proofs.PhraseRuns.{read_on}
-use Rattle.calc_expressions.specs.Building.{state_of}
-use Rattle.calc_expressions.proofs.BuildRuns.{tree_state}
-use Rattle.calc_expressions.proofs.builder.build.Given as goal
-
-abbrev pub invariant-loop-byte : goal.invariant-loop-byte
-invariant-loop-byte l = state_of l.builder ≡ tree_state (read_on (take l.byte-index l.word) start)

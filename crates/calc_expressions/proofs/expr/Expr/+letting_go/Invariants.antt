@@ -1,6 +1,0 @@
-use Rattle.std.proofs.Common.{◌≤◌}
-use Rattle.calc_expressions.specs.declared.expr.Expr.{size-Expr}
-use Rattle.calc_expressions.proofs.expr.Expr.+letting_go.Given as goal
-
-abbrev pub invariant-drop-loop-left : goal.invariant-drop-loop-left
-invariant-drop-loop-left l = size-Expr l.rest ≤ size-Expr l.fn.self

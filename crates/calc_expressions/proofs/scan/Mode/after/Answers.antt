@@ -1,4 +1,0 @@
-use Rattle.calc_expressions.proofs.scan.Mode.after.Goals as goal
-
-pub returns-in-Entry : goal.returns-in-Entry
-returns-in-Entry c = rw c.in-Entry.is (c.in_entry.ensures c.args.at)

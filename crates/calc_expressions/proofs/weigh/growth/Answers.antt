@@ -1,7 +1,0 @@
-use Rattle.calc_expressions.proofs.GrowthFacts.{growth-past}
-use Rattle.calc_expressions.proofs.weigh.growth.Goals as goal
-
-pub returns-in_err-power-in-P : goal.returns-in_err-power-in-P
-returns-in_err-power-in-P c =
-    rw c.from_residual.ensures
-    (growth-past c.args.target c.in-P.is c.args.d c.from-in-P.result c.from-exponent.result c.from-in-P.ensures c.from-exponent.ensures c.in_err-power-in-P.ensures)

@@ -1,0 +1,188 @@
+-- Bounds of the numbers at the two ends of a conversion.
+use Rattle.std.proofs.Common.{◌≡◌, ◌⊎◌, ℕ, zero, suc, ◌+◌, ◌-◌, ◌*◌, ◌/◌, ◌^◌, ◌<◌, ◌≤◌, Bool, true, false, cond, List, [], ◌∷◌, ◌++◌, take, refl, sym, ap, ◌∙◌, subst, inl, inr, arith, ℤ, pos, ◌*ℤ◌}
+use Rattle.std.specs.Prelude.{nat_abs, slice_get, Some, IsSome}
+use Rattle.std.specs.Int.{◌∣◌}
+use Rattle.std.proofs.lemmas.Int.{ints, unsigned_abs-mul}
+use Rattle.std.proofs.lemmas.Bool.{cases_lt}
+use Rattle.coeff_rings.specs.Fractions.{lowest_terms}
+use Rattle.coeff_rings.specs.Room.{magnitude, HasRoomForSum}
+use Rattle.coeff_rings.specs.Checked.{IsFraction, checked_fraction_sum}
+use Rattle.coeff_rings.specs.Proved.Fractions.{Stands, Stands-lowest_terms}
+use Rattle.coeff_rings.specs.Proved.Cleared.{scaled-Stands}
+use Rattle.coeff_rings.specs.Proved.FractionAnswers.{sum_answers_fraction}
+use Rattle.sym_model.specs.Sum.{Among}
+use Rattle.sym_model.specs.Partition.{size}
+use Rattle.sym_model.specs.Polynomial.{same, coefficient}
+use Rattle.sym_model.specs.Expansion.{Fraction, Terms}
+use Rattle.sym_model.proofs.Sums.{Among_from_append}
+use Rattle.sparse_polys.specs.Combination.{terms_of}
+use Rattle.sparse_polys.specs.Refusal.{IsRefused}
+use Rattle.whole_lists.specs.Tables.{found}
+use Rattle.whole_lists.specs.LabelSizes.{AreWithin}
+use Rattle.whole_lists.proofs.Quotients.{Quotients}
+use Rattle.change_from_monomials.specs.declared.mixed.MixedLabel.{MixedLabel}
+use Rattle.change_from_monomials.specs.Mixed.{Mixed, weight, converted_terms}
+use Rattle.change_from_monomials.specs.Arranging.{at_label}
+use Rattle.change_from_monomials.proofs.Tables.{at_label-itself}
+use Rattle.std.proofs.lemmas.Nat.{le-div, mul-le}
+use Rattle.std.proofs.Common.{lit≤, pow-suc}
+use Rattle.sym_model.specs.Expansion.{Basis}
+use Rattle.sym_model.specs.Weight.{factorial, growth}
+use Rattle.sym_model.proofs.Numbers.{power-base, power-positive}
+use Rattle.sym_model.proofs.Integers.{nat_abs-sum}
+use Rattle.whole_lists.specs.declared.family.Family.{Family}
+use Rattle.whole_lists.specs.declared.family.Family.TheVariants.{Elementary, Complete, PowerSum}
+use Rattle.whole_lists.specs.Families.{basis_in}
+use native.Mathlib.Nat.{mul-le-mul_left, mul-le-mul_right}
+use Rattle.monomial_laws.proofs.Growths.{factorial-mono}
+
+pub itself : (es : Terms (List ℕ)) → terms_of (λ (r : Fraction). r) es ≡ es
+itself [] = refl
+itself (t ∷ es) = ap (λ l. t ∷ l) (itself es)
+
+pub AreWithin-push : (g h : ℕ) (done : Terms (List ℕ)) (k : List ℕ) (v : Fraction) → AreWithin g done → g ≤ h → size k ≤ h → AreWithin h (done ++ (k, v) ∷ [])
+AreWithin-push g h done k v w l s t m = by (Among_from_append t done ((k, v) ∷ []) m)
+  where
+    by : Among t done ⊎ Among t ((k, v) ∷ []) → size t.0 ≤ h
+    by (inl n) = let x = w t n in omega arith
+    by (inr n) = here n
+      where
+        here : Among t ((k, v) ∷ []) → size t.0 ≤ h
+        here (inl e) = let x = ap (λ (u : List ℕ × Fraction). size u.0) e in omega arith
+        here (inr n) = absurd n
+
+pub large-product : (z : ℤ) (q n : ℕ) → n ≤ nat_abs z → 0 < q → n ≤ nat_abs (z *ℤ pos q)
+large-product z q n h p =
+    let e = unsigned_abs-mul z (pos q) in
+    let m : nat_abs z * 1 ≤ nat_abs z * q = mul-le-mul_left (nat_abs z) p in
+    let f : nat_abs (z *ℤ pos q) ≡ nat_abs z * q = e in
+    omega arith
+
+pub quotient-positive : (a b : ℕ) → 0 < b → b ≤ a → 0 < a / b
+quotient-positive a b p h = le-div 1 a b p (omega arith)
+
+-- ---- a refused quotient
+
+coefficient-size : (es : Mixed) (label : List ℕ) → nat_abs (coefficient (converted_terms es) label) ≤ weight (at_label label) es
+coefficient-size [] label = omega (arith, ints)
+coefficient-size (t ∷ es) label =
+    let r = coefficient-size es label in
+    let s = nat_abs-sum (cond (same t.0.converted label) t.1 (pos 0)) (coefficient (converted_terms es) label) in
+    let h = by (same t.0.converted label) t.1 in
+    omega arith
+  where
+    by : (b : Bool) (z : ℤ) → nat_abs (cond b z (pos 0)) ≤ nat_abs z * cond b 1 0
+    by true z = omega arith
+    by false z = let e : nat_abs (pos 0) ≡ 0 = refl in omega arith
+
+refused-quotients : (d : ℕ) (z c : ℤ) (a b : Fraction) → 0 < d → d < 2 ^ 127 → a ≡ lowest_terms z d → b ≡ lowest_terms c d → IsRefused IsFraction (λ (r : Fraction). r) checked_fraction_sum a b → 2 ^ 127 ≤ nat_abs z + nat_abs c
+refused-quotients d z c a b p l e f r = by (cases_lt (nat_abs z + nat_abs c) (2 ^ 127))
+  where
+    size-of : (x : ℤ) (t : Fraction) → t ≡ lowest_terms x d → (t.1 ∣ d) × (magnitude d t ≡ nat_abs x)
+    size-of x t e =
+        let s = scaled-Stands d x t (subst (λ (u : Fraction). Stands u x d) (sym e) (Stands-lowest_terms x d p)) in
+        (s.0, sym (unsigned_abs-mul t.0 (pos (d / t.1))) ∙ ap nat_abs s.1)
+
+    by : (nat_abs z + nat_abs c < 2 ^ 127) ⊎ (2 ^ 127 ≤ nat_abs z + nat_abs c) → 2 ^ 127 ≤ nat_abs z + nat_abs c
+    by (inr h) = h
+    by (inl h) =
+        let u = size-of z r.left (r.left_value ∙ e) in
+        let v = size-of c r.right (r.right_value ∙ f) in
+        let m = u.1 in
+        let n = v.1 in
+        let room : HasRoomForSum d r.left r.right = record { positive = p; small = l; left = u.0; right = v.0; room = omega arith } in
+        let some = (sum_answers_fraction r.left r.right r.left_held r.right_held).room d room in
+        absurd (let t : IsSome (checked_fraction_sum r.left r.right) = some in let none = r.refused in cc)
+
+pub refused-weight : (d : ℕ) (es : Mixed) (i : ℕ) (l : MixedLabel) (c : ℤ) (old : Terms (List ℕ)) → 0 < d → d < 2 ^ 127 → slice_get es i ≡ Some (l, c) → Quotients d old (converted_terms (take i es))
+    → (key : List ℕ) (b : Fraction) → key ≡ l.converted → b ≡ lowest_terms c d → IsRefused IsFraction (λ (r : Fraction). r) checked_fraction_sum (found old key) b → 2 ^ 127 ≤ weight (at_label l.converted) es
+refused-weight d es i l c old p s e q key b k f r =
+    let z = coefficient (converted_terms (take i es)) l.converted in
+    let h = refused-quotients d z c (found old key) b p s (ap (found old) k ∙ q l.converted) f r in
+    let w = coefficient-size (take i es) l.converted in
+    let t = weight-at es i e in
+    omega arith
+  where
+    weight-at : (es : Mixed) (i : ℕ) → slice_get es i ≡ Some (l, c) → weight (at_label l.converted) (take i es) + nat_abs c ≤ weight (at_label l.converted) es
+    weight-at [] i e = cc
+    weight-at (t ∷ es) zero e =
+        let here : t ≡ (l, c) = cc in
+        let x = ap (λ (u : MixedLabel × ℤ). nat_abs u.1 * at_label l.converted u.0) here in
+        let y = mul-le-mul_left (nat_abs c) (at_label-itself l) in
+        omega arith
+    weight-at (t ∷ es) (suc i) e = let r = weight-at es i e in omega arith
+
+-- ---- the growth into the families
+
+pub same_growth : (family : Family) (d : ℕ) → growth (basis_in family) d ≡ growth Basis.completes d
+same_growth Elementary zero = refl
+same_growth Elementary (suc d) = refl
+same_growth Complete zero = refl
+same_growth Complete (suc d) = refl
+same_growth PowerSum zero = refl
+same_growth PowerSum (suc d) = refl
+
+growth-up : (d : ℕ) → growth Basis.completes d ≤ growth Basis.completes (suc d)
+growth-up zero = lit≤ tt
+growth-up (suc d) =
+    let f = factorial-mono (suc d) (suc (suc d)) (omega arith) in
+    let p = power-base (2 * suc d) (2 * suc (suc d)) (suc d) (omega arith) in
+    let o : 1 ≤ 2 * suc (suc d) = omega arith in
+    let q : (2 * suc (suc d)) ^ suc d * 1 ≤ (2 * suc (suc d)) ^ suc d * (2 * suc (suc d)) = mul-le-mul_left ((2 * suc (suc d)) ^ suc d) o in
+    let s = pow-suc (2 * suc (suc d)) (suc d) in
+    mul-le (factorial (suc d)) ((2 * suc d) ^ suc d) (factorial (suc (suc d))) ((2 * suc (suc d)) ^ suc (suc d)) f (omega arith)
+
+growth-far : (d j : ℕ) → growth Basis.completes d ≤ growth Basis.completes (j + d)
+growth-far d zero = let e : 0 + d ≡ d = omega arith in subst (λ k. growth Basis.completes d ≤ growth Basis.completes k) (sym e) (omega arith)
+growth-far d (suc j) =
+    let e : suc j + d ≡ suc (j + d) = omega arith in
+    let h = growth-far d j in
+    let k = growth-up (j + d) in
+    subst (λ k. growth Basis.completes d ≤ growth Basis.completes k) (sym e) (omega arith)
+
+growth-rises : (d e : ℕ) → d ≤ e → growth Basis.completes d ≤ growth Basis.completes e
+growth-rises d e h = let i : (e - d) + d ≡ e = omega arith in subst (λ k. growth Basis.completes d ≤ growth Basis.completes k) i (growth-far d (e - d))
+
+factorial-within : (d : ℕ) → factorial d ≤ growth Basis.completes d
+factorial-within zero = omega arith
+factorial-within (suc d) =
+    let p = power-positive (2 * suc d) (suc d) (omega arith) in
+    let m : factorial (suc d) * 1 ≤ factorial (suc d) * (2 * suc d) ^ suc d = mul-le-mul_left (factorial (suc d)) p in
+    omega arith
+
+-- a number that is too large, and the weight with it
+pub large-number : (family : Family) (N D size d x : ℕ) → 1 ≤ D → size ≤ d → 2 ^ 127 ≤ x → x ≤ N * growth Basis.completes size → 2 ^ 127 ≤ N * D * growth (basis_in family) d
+large-number family N D size d x h l large within =
+    let e = same_growth family d in
+    let g = growth-rises size d l in
+    let a : N * growth Basis.completes size ≤ N * growth Basis.completes d = mul-le-mul_left N g in
+    let b : (N * growth Basis.completes d) * 1 ≤ (N * growth Basis.completes d) * D = mul-le-mul_left (N * growth Basis.completes d) h in
+    subst (λ k. 2 ^ 127 ≤ N * D * k) (sym e) (closing (2 ^ 127) x N (growth Basis.completes size) (growth Basis.completes d) D large within a b)
+  where
+    closing : (n x N g k D : ℕ) → n ≤ x → x ≤ N * g → N * g ≤ N * k → (N * k) * 1 ≤ (N * k) * D → n ≤ N * D * k
+    closing n x N g k D a b c d = let e : (N * k) * D ≡ N * D * k = omega arith in omega arith
+
+pub large-denominator : (family : Family) (N D size d : ℕ) → 1 ≤ N → size ≤ d → 2 ^ 127 ≤ D * factorial size → 2 ^ 127 ≤ N * D * growth (basis_in family) d
+large-denominator family N D size d h l large =
+    let e = same_growth family d in
+    let g = growth-rises size d l in
+    let f = factorial-within size in
+    let t : factorial size ≤ growth Basis.completes d = omega arith in
+    let a : D * factorial size ≤ D * growth Basis.completes d = mul-le-mul_left D t in
+    let b : 1 * (D * growth Basis.completes d) ≤ N * (D * growth Basis.completes d) = mul-le-mul_right (D * growth Basis.completes d) h in
+    subst (λ k. 2 ^ 127 ≤ N * D * k) (sym e) (closing (2 ^ 127) (D * factorial size) N (growth Basis.completes d) D large a b)
+  where
+    closing : (n x N k D : ℕ) → n ≤ x → x ≤ D * k → 1 * (D * k) ≤ N * (D * k) → n ≤ N * D * k
+    closing n x N k D a b c = let e : N * (D * k) ≡ N * D * k = omega arith in omega arith
+
+pub at_label-within : (ν : List ℕ) (l : MixedLabel) → at_label ν l ≤ 1
+at_label-within ν l = by (same l.converted ν)
+  where
+    by : (b : Bool) → cond {A = ℕ} b 1 0 ≤ 1
+    by true = omega arith
+    by false = omega arith
+
+-- every label costs at least 1
+pub weight-mono : (w v : MixedLabel → ℕ) (es : Mixed) → ((l : MixedLabel) → w l ≤ v l) → weight w es ≤ weight v es
+weight-mono w v [] h = omega arith
+weight-mono w v (t ∷ es) h = let r = weight-mono w v es h in let m : nat_abs t.1 * w t.0 ≤ nat_abs t.1 * v t.0 = mul-le-mul_left (nat_abs t.1) (h t.0) in omega arith

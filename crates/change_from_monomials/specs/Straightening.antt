@@ -1,0 +1,18 @@
+-- A list of terms in m with its fractions cleared, in Schur polynomials (this project's own).
+use Rattle.std.specs.Prelude.{ℕ, ◌^◌, ◌≤◌, ◌⊎◌, nat_abs, List, []}
+use Rattle.sym_model.specs.Sum.{each, Among}
+use Rattle.sym_model.specs.Expansion.{Fraction, Terms}
+use Rattle.change_from_monomials.specs.Mixed.{Mixed}
+use Rattle.coeff_rings.specs.Fractions.{scaled}
+use Rattle.change_from_monomials.specs.Arranging.{straight_terms, OverflowsSomewhere}
+
+-- the list times den, each label straightened in so many places
+abbrev pub straightened_list : ℕ → ℕ → Terms (List ℕ) → Mixed
+straightened_list den places terms =
+    each (λ (t : List ℕ × Fraction). straight_terms (scaled den t.1) t.0 places) terms
+
+-- a coefficient of the list times den reaches 2^127, or one of the Schur polynomials does
+abbrev pub IsPast : ℕ → ℕ → Terms (List ℕ) → Type 0
+IsPast den places terms =
+    ((t : List ℕ × Fraction) × Among t terms × (2 ^ 127 ≤ nat_abs (scaled den t.1)))
+    ⊎ OverflowsSomewhere (straightened_list den places terms) []

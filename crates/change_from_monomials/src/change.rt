@@ -1,0 +1,100 @@
+//! The change from the monomial basis to any other.
+ghost use Rattle.std.specs.Prelude.{◌≡◌, ℕ, ◌*◌, ◌^◌, ◌≤◌, IfOk, IsErrOf};
+ghost use Rattle.sym_model.specs.Expansion.{monomials, IsExpansionOf};
+ghost use Rattle.sym_model.specs.ListWeight.{IsBounded};
+ghost use Rattle.sym_model.specs.Polynomial.{Poly};
+ghost use Rattle.sym_model.specs.Weight.{factorial, growth};
+ghost use Rattle.sparse_polys.specs.MonomialProducts.{greatest_size};
+ghost use Rattle.expression_reading.specs.Trees.{basis_of};
+ghost use Rattle.whole_lists.specs.LabelSizes.{AreWithin};
+ghost use Rattle.change_from_monomials.specs.Limits.{most_cells};
+ghost use Rattle.whole_lists.specs.Families.{basis_in};
+ghost use Rattle.change_from_monomials.specs.ClearedAnswer.{IsClearedBy, IsMultiplied};
+
+use crate::clearing::{greatest_size, in_augmented, is_table};
+use crate::division::divided;
+use crate::rewriting::converted;
+use crate::straightening::by_arrangements;
+use calc_base::{Basis, SumFault, Weight};
+use coeff_rings::Frac;
+use family_lists::power_sums;
+use partitions::Partition;
+use sparse_polys::Lin;
+use std::alloc::Global;
+use whole_lists::Family;
+use whole_numbers::{denominator_product, factorial};
+
+/// The list, read as an expansion in m, as an expansion in the target, in every number of variables: of whatever polynomial the
+/// one is an expansion, of that the other is.
+///
+/// The list is bounded by `bound`, of which both numbers are at least 1, and its labels have at most 20 cells for the targets m
+/// and s, at most 15 for e, h and p. It is refused as `Large` only where the product of the two numbers and of the growth into the
+/// target at the greatest size of a label is 2^127 or more.
+///
+/// Into e, h and p, with d the greatest size of a label: `bound.den` times d! times each coefficient of the answer is whole, the
+/// absolute values of these products add up to at most `bound.num` times the growth at d, and no label of the answer has more
+/// than d cells.
+pub fn to_basis(
+    alloc: Global,
+    list: &Lin<Partition, Frac>,
+    bound: Weight,
+    target: Basis,
+) -> Result<Lin<Partition, Frac>, SumFault>
+    requires bounded { IsBounded bound.num bound.den list.now }
+    requires positive { (1 ≤ bound.num) × (1 ≤ bound.den) }
+    requires sizes { AreWithin (most_cells (basis_of target)) list.now }
+    ensures value { IfOk result (λ answer. (n : ℕ) (f : Poly) (q : ℕ)
+        → IsExpansionOf monomials list.now n f q → IsExpansionOf (basis_of target) answer n f q) }
+    ensures cleared { let d = greatest_size list.now in IfOk result (λ answer. IsMultiplied (basis_of target)
+        → IsClearedBy (bound.den * factorial d) (bound.num * growth (basis_of target) d) d answer) }
+    ensures large { IsErrOf result SumFault.Large → (d : ℕ) → AreWithin d list.now
+        → 2 ^ 127 ≤ bound.num * bound.den * growth (basis_of target) d }
+{
+    match target {
+        Basis::M => copy_of(list),
+        Basis::E => by_augmented(alloc, list, bound, Family::Elementary),
+        Basis::H => by_augmented(alloc, list, bound, Family::Complete),
+        Basis::P => by_augmented(alloc, list, bound, Family::PowerSum),
+        Basis::S => by_arrangements(alloc, list, bound),
+    }
+}
+
+/// An equal list.
+fn copy_of(list: &Lin<Partition, Frac>) -> Result<Lin<Partition, Frac>, SumFault>
+    ensures value { IfOk result (λ answer. (n : ℕ) (f : Poly) (q : ℕ)
+        → IsExpansionOf monomials list.now n f q → IsExpansionOf monomials answer n f q) }
+    ensures small { ¬ IsErrOf result SumFault.Large }
+{
+    is_table(list);
+    Ok(list.copy()?)
+}
+
+/// The change into a family whose polynomials are multiplied over the parts: by augmented monomials, whose parts become power
+/// sums one after another.
+fn by_augmented(
+    alloc: Global,
+    list: &Lin<Partition, Frac>,
+    bound: Weight,
+    family: Family,
+) -> Result<Lin<Partition, Frac>, SumFault>
+    requires bounded { IsBounded bound.num bound.den list.now }
+    requires positive { (1 ≤ bound.num) × (1 ≤ bound.den) }
+    requires sizes { AreWithin 15 list.now }
+    ensures value { IfOk result (λ answer. (n : ℕ) (f : Poly) (q : ℕ)
+        → IsExpansionOf monomials list.now n f q → IsExpansionOf (basis_in family) answer n f q) }
+    ensures cleared { let d = greatest_size list.now in
+        IfOk result (IsClearedBy (bound.den * factorial d) (bound.num * growth (basis_in family) d) d) }
+    ensures large { IsErrOf result SumFault.Large → (d : ℕ) → AreWithin d list.now
+        → 2 ^ 127 ≤ bound.num * bound.den * growth (basis_in family) d }
+{
+    is_table(list);
+    let size = greatest_size(list);
+    let factor = factorial(size);
+    let Some(den) = denominator_product(bound.den, factor) else {
+        return Err(SumFault::Large);
+    };
+    let powers = power_sums(alloc, family, size)?;
+    let start = in_augmented(alloc, list, bound.den, factor)?;
+    let end = converted(alloc, family, start, &powers[1..], size)?;
+    divided(alloc, &end, den)
+}

@@ -1,0 +1,162 @@
+//! A list of terms with its fractions cleared: with whole coefficients, and a list in m in augmented monomials.
+ghost use Rattle.std.specs.Prelude.{◌≡◌, ℕ, ◌+◌, ◌*◌, ◌/◌, ◌^◌, ◌<◌, ◌≤◌, [], ◌∷◌, pos, nat_abs, MatchOption, IfOk, OnOk, IsErrOf};
+ghost use Rattle.sym_model.specs.ListWeight.{absolute_sum};
+ghost use Rattle.sym_model.specs.Polynomial.{Same};
+ghost use Rattle.sym_model.specs.WholeTerms.{numerators};
+ghost use Rattle.monomial_laws.specs.ExpressionTerms.{over};
+ghost use Rattle.basis_change_laws.specs.AugmentedMonomial.{multiplicity_factorials};
+ghost use Rattle.whole_lists.specs.LabelSizes.{AreWithin};
+ghost use Rattle.whole_lists.specs.Tables.{IsTable};
+ghost use Rattle.coeff_rings.specs.Fractions.{scaled};
+ghost use Rattle.change_from_monomials.specs.Clearing.{cleared_number, cleared_terms, HasFactors};
+ghost use Rattle.change_from_monomials.specs.Mixed.{mixed, Added, Overflows};
+
+use crate::mixed::MixedLabel;
+use crate::parts::multiplicity_factorials;
+use crate::table::{Mixed, add};
+use calc_base::SumFault;
+use coeff_rings::{Frac, Int, Ring};
+use indexmap::IndexMap;
+use partitions::Partition;
+use sparse_polys::Lin;
+use std::alloc::Global;
+use whole_lists::{Whole, is_whole};
+
+/// Denominators are below this.
+pub(crate) const LIMIT: u128 = 1 << 127;
+
+/// The greatest size of a label, 0 for the empty list.
+pub fn greatest_size(list: &Lin<Partition, Frac>) -> u16
+    ensures within { AreWithin result list.now }
+    ensures least { (d : ℕ) → AreWithin d list.now → result ≤ d }
+{
+    let mut greatest = 0;
+    for (label, _) in list.iter() {
+        let size = label.size();
+        if size > greatest {
+            greatest = size;
+        }
+    }
+    greatest
+}
+
+/// Does nothing when it runs: it tells a proof what a list is.
+pub fn is_table(list: &Lin<Partition, Frac>)
+    ensures { IsTable list.now }
+{
+    let _ = list.len();
+}
+
+/// The whole number.
+pub fn whole_of(n: u128) -> Int
+    requires { n < 2 ^ 127 }
+    ensures { result ≡ pos n }
+{
+    Int::new(n as i128)
+}
+
+/// The numerator.
+pub fn numerator_of(c: Frac) -> Int
+    ensures { result ≡ c.0 }
+{
+    Int::new(c.num())
+}
+
+/// The denominator.
+pub fn denominator_of(c: Frac) -> u128
+    ensures value { result ≡ c.1 }
+    ensures positive { 0 < c.1 }
+    ensures low { c.1 < 2 ^ 127 }
+{
+    c.den() as u128
+}
+
+/// The coefficient times the common denominator; none where it is too large.
+pub fn scaled_number(c: Frac, den: u128) -> Option<Int>
+    requires { den < 2 ^ 127 }
+    ensures { MatchOption result (2 ^ 127 ≤ nat_abs (scaled den c)) (λ z. z ≡ scaled den c) }
+{
+    let scale = den / denominator_of(c);
+    numerator_of(c).mul(whole_of(scale))
+}
+
+/// The list times the number, each coefficient over its own denominator. It is refused as `Large` only where the absolute values
+/// come to 2^127 or more.
+pub fn whole_terms(alloc: Global, list: &Lin<Partition, Frac>, den: u128) -> Result<Whole, SumFault>
+    requires { den < 2 ^ 127 }
+    ensures value { IfOk result (λ terms. Same (numerators terms) (over den list.now)) }
+    ensures large { IsErrOf result SumFault.Large → 2 ^ 127 ≤ absolute_sum den list.now }
+{
+    is_table(list);
+    let mut terms = Lin::new(alloc);
+    is_whole(&terms);
+    for (label, c) in list.iter() {
+        let Some(number) = scaled_number(*c, den) else {
+            return Err(SumFault::Large);
+        };
+        terms.add_term(label.copy()?, number)?;
+    }
+    Ok(terms)
+}
+
+/// The coefficient times the common denominator, times `factor` over the factorials of the multiplicities; none where it is too
+/// large.
+fn cleared_number(c: Frac, den: u128, factor: u128, label: &Partition) -> Option<Int>
+    requires den { den < 2 ^ 127 }
+    requires factor { factor < 2 ^ 127 }
+    requires multiplicities { multiplicity_factorials label.now ≤ factor }
+    ensures { MatchOption result (2 ^ 127 ≤ nat_abs (cleared_number den factor label.now c))
+        (λ z. z ≡ cleared_number den factor label.now c) }
+{
+    let quotient = factor / multiplicity_factorials(label.parts());
+    let Some(scaled) = scaled_number(c, den) else {
+        return None;
+    };
+    scaled.mul(whole_of(quotient))
+}
+
+/// Adds a term of the list.
+fn add_cleared(
+    alloc: Global,
+    sum: &mut Mixed,
+    label: &Partition,
+    c: Frac,
+    den: u128,
+    factor: u128,
+) -> Result<(), SumFault>
+    requires den { den < 2 ^ 127 }
+    requires factor { factor < 2 ^ 127 }
+    requires multiplicities { multiplicity_factorials label.now ≤ factor }
+    ensures ok { OnOk result (Added ((mixed [] label.now, cleared_number den factor label.now c) ∷ []) sum.old.entries sum.new.entries) }
+    ensures large { IsErrOf result SumFault.Large
+        → Overflows ((mixed [] label.now, cleared_number den factor label.now c) ∷ []) sum.old.entries }
+{
+    let Some(number) = cleared_number(c, den, factor, label) else {
+        return Err(SumFault::Large);
+    };
+    let label = MixedLabel {
+        converted: Partition::from_valid_parts(alloc, &[])?,
+        augmented: label.copy()?,
+    };
+    add(sum, label, number)
+}
+
+/// The list times `den` and `factor`, in augmented monomials.
+pub(crate) fn in_augmented(
+    alloc: Global,
+    list: &Lin<Partition, Frac>,
+    den: u128,
+    factor: u128,
+) -> Result<Mixed, SumFault>
+    requires den { den < 2 ^ 127 }
+    requires factor { factor < 2 ^ 127 }
+    requires multiplicities { HasFactors factor list.now }
+    ensures ok { IfOk result (λ sum. Added (cleared_terms den factor list.now) [] sum.entries) }
+    ensures large { IsErrOf result SumFault.Large → Overflows (cleared_terms den factor list.now) [] }
+{
+    let mut sum = IndexMap::new(alloc);
+    for (label, c) in list.iter() {
+        add_cleared(alloc, &mut sum, label, *c, den, factor)?;
+    }
+    Ok(sum)
+}

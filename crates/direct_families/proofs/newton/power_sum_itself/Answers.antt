@@ -1,5 +1,0 @@
-use Rattle.direct_families.proofs.PowerSteps.{stands-power}
-use Rattle.direct_families.proofs.newton.power_sum_itself.Goals as goal
-
-pub returns-clause-value : goal.returns-clause-value
-returns-clause-value c = stands-power c.args.k c.in_ok-list.list c.requires.0 c.is_whole.ensures.table c.in_ok-list.ensures.value

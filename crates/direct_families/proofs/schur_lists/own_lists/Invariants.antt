@@ -1,8 +1,0 @@
-use Rattle.std.proofs.Common.{◌≡◌, length}
-use Rattle.basis_change.specs.Factors.{polynomial_of}
-use Rattle.direct_families.specs.Families.{AreFactors}
-use Rattle.direct_families.proofs.schur_lists.own_lists.Given as goal
-
--- the lists so far are at their places
-abbrev pub invariant-loop-k : goal.invariant-loop-k
-invariant-loop-k l = (length l.lists.items ≡ l.k) × AreFactors (polynomial_of l.fn.target) l.fn.target l.k l.lists.items

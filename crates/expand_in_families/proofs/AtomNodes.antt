@@ -1,0 +1,37 @@
+-- An atom of a family as a node.
+use Rattle.std.proofs.Common.{◌≡◌, ℕ, ◌*◌, ◌^◌, ◌≤◌, List, subst, arith}
+use Rattle.sym_model.specs.Polynomial.{Poly}
+use Rattle.sym_model.specs.Partition.{size}
+use Rattle.sym_model.specs.Bases.{product_over}
+use Rattle.sym_model.specs.Expansion.{Basis, elementaries, completes, power_sums, basis_polynomial}
+use Rattle.sym_model.specs.Expression.{atom}
+use Rattle.sym_model.specs.Weight.{factorial, weight}
+use Rattle.sym_model.specs.WholeTerms.{numerators}
+use Rattle.expand_in_families.specs.declared.node.Node.{Node}
+use Rattle.whole_lists.specs.declared.family.Family.{Family}
+use Rattle.whole_lists.specs.declared.family.Family.TheVariants.{Elementary, Complete, PowerSum}
+use Rattle.whole_lists.specs.Families.{basis_in, polynomial_of}
+use Rattle.basis_change_laws.specs.JoinedLists.{Stands}
+use Rattle.expand_in_families.specs.Nodes.{ClearsTo}
+use Rattle.basis_change_laws.proofs.GrowthBounds.{grown}
+
+-- in any basis, m and s too
+pub clears-atom : (P : ℕ → ℕ → Poly) (basis : Basis) (parts : List ℕ) (c : Node) → c.den ≡ 1 → c.degree ≡ size parts
+    → Stands P (factorial (size parts)) (grown (size parts)) (size parts) (λ n. basis_polynomial basis parts n) (numerators c.terms) → ClearsTo P (atom basis parts) c
+clears-atom P basis parts c d g s =
+    let e : grown (size parts) ≡ 1 * grown (size parts) = omega arith in
+    record {
+      den_is = d;
+      degree_is = g;
+      stands = subst (λ m. Stands P (factorial (size parts)) m (size parts) (λ n. basis_polynomial basis parts n) (numerators c.terms)) e s;
+    }
+
+-- the products over the parts are the polynomials of the basis
+pub family-atom : (P : ℕ → ℕ → Poly) (family : Family) (parts : List ℕ) (c : Node) → c.den ≡ 1 → c.degree ≡ size parts
+    → Stands P (factorial (size parts)) (grown (size parts)) (size parts) (product_over (polynomial_of family) parts) (numerators c.terms) → ClearsTo P (atom (basis_in family) parts) c
+family-atom P Elementary parts c d g s = clears-atom P elementaries parts c d g s
+family-atom P Complete parts c d g s = clears-atom P completes parts c d g s
+family-atom P PowerSum parts c d g s = clears-atom P power_sums parts c d g s
+
+pub large-atom : (basis : Basis) (parts : List ℕ) → 2 ^ 127 ≤ grown (size parts) → 2 ^ 127 ≤ weight Basis.completes (atom basis parts)
+large-atom basis parts h = let e : 1 * 1 * grown (size parts) ≡ grown (size parts) = omega arith in omega arith

@@ -1,0 +1,10 @@
+pub mod AtomNodes
+pub mod ClearedLists
+pub mod Nodes
+pub mod NodeSums
+pub mod Endings
+pub mod SmallNumbers
+pub mod MonomialAtoms
+pub mod Weights
+pub mod HookProducts
+pub mod PeelingSteps

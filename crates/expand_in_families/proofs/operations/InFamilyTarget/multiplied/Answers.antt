@@ -1,0 +1,49 @@
+use Rattle.std.proofs.Common.{◌+◌, ◌*◌, ◌<◌, ◌≤◌, ◌^◌, ◌++◌, List, ℕ, arith, ap, subst, refl, Err}
+use Rattle.std.specs.Prelude.{nat_abs}
+use Rattle.sym_model.specs.Expression.{product}
+use Rattle.sym_model.specs.Expansion.{Terms}
+use Rattle.sym_model.specs.Polynomial.{Same, scale}
+use Rattle.sym_model.specs.WholeTerms.{numerators, absolute_total}
+use Rattle.basis_change_laws.specs.JoinedLists.{joined}
+use Rattle.expression_evaluation.proofs.Making.{failed, done, refused}
+use Rattle.whole_lists.specs.Families.{polynomial_of}
+use Rattle.whole_lists.proofs.Families.{In-family}
+use Rattle.expand_in_families.specs.Nodes.{ClearsTo, IsHeavy}
+use Rattle.expand_in_families.proofs.Nodes.{node-greatest, clears-product, large-product, large-product_denominator}
+use Rattle.expand_in_families.proofs.operations.InFamilyTarget.multiplied.Goals as goal
+
+pub returns-in_default : goal.returns-in_default
+returns-in_default c e f t h k =
+    refused (ClearsTo (polynomial_of c.args.self.now.family)) IsHeavy (product e f) (large-product_denominator (polynomial_of c.args.self.now.family) e f c.args.left c.args.right t.plain.0 t.plain.1 h k (let not_below : c.args.left.den * c.args.right.den < 2 ^ 127 → ⊥ = c.in_default.ensures in omega arith))
+
+pub returns-in_err-add_products : goal.returns-in_err-add_products
+returns-in_err-add_products c e f t h k =
+    failed (ClearsTo (polynomial_of c.args.self.now.family)) IsHeavy (product e f) _ _ c.from_residual.ensures.0 c.from_residual.ensures.1
+    (λ large.
+    large-product (polynomial_of c.args.self.now.family) e f c.args.left c.args.right c.binomial.result c.whole_of-ways.result t.plain.0 t.plain.1 c.whole_of-ways.ensures c.binomial.ensures.value h k
+    (λ m l o.
+    subst (λ (ts : Terms (List ℕ)). 2 ^ 127 ≤ absolute_total (numerators ts) + nat_abs c.whole_of-ways.result * absolute_total (numerators c.args.left.terms) * m) c.new-terms.ensures
+    (c.in_err-add_products.ensures.large (ap Err large) m l o)))
+
+pub returns : goal.returns
+returns c e f t h k =
+    done (ClearsTo (polynomial_of c.args.self.now.family)) IsHeavy (product e f) _
+    (clears-product (polynomial_of c.args.self.now.family) (In-family c.args.self.now.family) e f c.args.left c.args.right _ c.binomial.result c.is_whole.ensures.table c.in-Some.ensures.1 refl c.binomial.ensures.value
+    (subst (λ z. Same (numerators c.add_products.new.sum) (joined (scale z (numerators c.args.left.terms)) (numerators c.args.right.terms))) c.whole_of-ways.ensures
+    (subst (λ (ts : Terms (List ℕ)). Same (numerators c.add_products.new.sum) (numerators ts ++ joined (scale c.whole_of-ways.result (numerators c.args.left.terms)) (numerators c.args.right.terms))) c.new-terms.ensures
+    c.in_ok-add_products.ensures.value))
+    h k)
+
+pub binomial-requires : goal.binomial-requires
+binomial-requires c =
+    let x = c.requires.3.degree_is in
+    let y = c.requires.4.degree_is in
+    let low = c.requires.2.low in
+    omega arith
+
+pub add_products-requires : goal.add_products-requires
+add_products-requires c =
+    let x = node-greatest (polynomial_of c.args.self.now.family) c.requires.0 c.args.left c.requires.3 in
+    let y = node-greatest (polynomial_of c.args.self.now.family) c.requires.1 c.args.right c.requires.4 in
+    let low = c.requires.2.low in
+    omega arith

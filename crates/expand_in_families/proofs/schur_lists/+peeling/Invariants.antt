@@ -1,0 +1,26 @@
+use Rattle.std.proofs.Common.{◌*◌, ◌+◌, length, take}
+use Rattle.sym_model.specs.Partition.{size}
+use Rattle.sym_model.specs.Sum.{each}
+use Rattle.sym_model.specs.Weight.{factorial}
+use Rattle.sym_model.specs.WholeTerms.{numerators}
+use Rattle.basis_change_laws.specs.JoinedLists.{Stands}
+use Rattle.whole_lists.specs.Families.{polynomial_of}
+use Rattle.special_hook_laws.specs.SpecialHooks.{special_hooks}
+use Rattle.expand_in_families.specs.SchurLists.{AreSchurLists}
+use Rattle.expand_in_families.proofs.HookProducts.{hook_term, peeled}
+use Rattle.expand_in_families.proofs.schur_lists.+peeling.Given as goal
+
+abbrev pub decreases-list_of : goal.decreases-list_of
+decreases-list_of l = 2 * length l.shape.now
+
+abbrev pub decreases-index_of : goal.decreases-index_of
+decreases-index_of l = 2 * length l.shape + 1
+
+-- the parts of the hooks so far are added, each with its bound
+abbrev pub invariant-list_of-loop-row : goal.invariant-list_of-loop-row
+invariant-list_of-loop-row l = record {
+  stands :
+      Stands (polynomial_of l.target) (factorial (size l.shape)) (l.row * peeled (size l.shape)) (size l.shape)
+      (λ n. each (hook_term l.family n) (take l.row (special_hooks l.shape))) (numerators l.sum);
+  store : AreSchurLists (polynomial_of l.target) l.family l.store.entries;
+}

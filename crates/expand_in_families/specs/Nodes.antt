@@ -1,0 +1,25 @@
+-- When a node stands for an expression with its fractions cleared (this project's own).
+use Rattle.std.specs.Prelude.{◌≡◌, ℕ, ◌*◌, ◌^◌, ◌≤◌, Result}
+use Rattle.calc_base.specs.declared.faults.SumFault.{SumFault}
+use Rattle.sym_model.specs.Polynomial.{Poly}
+use Rattle.sym_model.specs.Expansion.{Basis}
+use Rattle.sym_model.specs.Expression.{Tree, denominator, degree, cleared_value}
+use Rattle.sym_model.specs.Weight.{factorial, growth, numerator, weight}
+use Rattle.sym_model.specs.WholeTerms.{numerators}
+use Rattle.basis_change_laws.specs.JoinedLists.{Stands}
+use Rattle.expression_evaluation.specs.Values.{IsMade}
+use Rattle.expand_in_families.specs.declared.node.Node.{Node}
+
+-- the list is the cleared value of the expression times the factorial of its degree, and is bounded by N and the growth
+pub record ClearsTo (P : ℕ → ℕ → Poly) (e : Tree) (c : Node) : Type 0 where
+  pub den_is : c.den ≡ denominator e
+  pub degree_is : c.degree ≡ degree e
+  pub stands : Stands P (factorial (degree e)) (numerator e * growth Basis.completes (degree e)) (degree e) (cleared_value e) (numerators c.terms)
+
+-- the weight is 2^127 or more
+abbrev pub IsHeavy : Tree → Type 0
+IsHeavy e = 2 ^ 127 ≤ weight Basis.completes e
+
+-- the expression is converted, and refused for size only where it is heavy
+abbrev pub IsConverted : (ℕ → ℕ → Poly) → Tree → Result Node SumFault → Type 0
+IsConverted P e result = IsMade (ClearsTo P) IsHeavy e result

@@ -1,0 +1,202 @@
+//! Partitions in the five bases, as lists of terms in the target.
+ghost use Rattle.std.specs.Prelude.{◌≡◌, ◌+◌, ◌*◌, ◌<◌, ◌≤◌, ◌^◌, length, IfOk, IsErrOf};
+ghost use Rattle.sym_model.specs.Bases.{product_over};
+ghost use Rattle.sym_model.specs.Expansion.{completes, schurs};
+ghost use Rattle.sym_model.specs.Expression.{atom};
+ghost use Rattle.sym_model.specs.Partition.{IsPartition, columns, size};
+ghost use Rattle.sym_model.specs.Schur.{schur};
+ghost use Rattle.sym_model.specs.Weight.{factorial, growth};
+ghost use Rattle.sym_model.specs.WholeTerms.{numerators};
+ghost use Rattle.basis_change_laws.specs.JoinedLists.{Stands};
+ghost use Rattle.whole_lists.specs.Families.{basis_in, polynomial_of};
+ghost use Rattle.expression_reading.specs.Trees.{basis_of};
+ghost use Rattle.family_lists.specs.FactorLists.{over_number, AreFactors};
+ghost use Rattle.expand_in_families.specs.Nodes.{IsConverted};
+
+use crate::factorials::{binomial, rise};
+use crate::node::Node;
+use crate::schur_lists::schur_list;
+use calc_base::{Basis, SumFault, Weight};
+use change_from_monomials::{is_table, to_basis, whole_of, whole_terms};
+use expand_in_monomials::atom_to_monomial;
+use family_lists::{add_products, factor_lists};
+use partitions::Partition;
+use sparse_polys::Lin;
+use std::alloc::Global;
+use whole_lists::{Family, Whole, is_whole, single};
+use whole_numbers::factorial;
+
+/// What the product of the list of k with a list over size! is multiplied by, to be over (k + size)!.
+fn ways(family: Family, k: u16, size: u16) -> u128
+    requires { k + size ≤ 20 }
+    ensures value { result * (over_number family k * factorial size) ≡ factorial (k + size) }
+    ensures small { result < 2 ^ 127 }
+{
+    match family {
+        Family::PowerSum => rise(size, k + size),
+        Family::Elementary => binomial(k, size),
+        Family::Complete => binomial(k, size),
+    }
+}
+
+/// The product over the parts, times the factorial of their sum, and their sum. The lists are those of the family's polynomials.
+fn over_parts(
+    alloc: Global,
+    target: Family,
+    family: Family,
+    lists: &[Whole],
+    parts: &[u16],
+) -> Result<(Whole, u16), SumFault>
+    requires lists { AreFactors (polynomial_of target) family (length lists.now) lists.now }
+    requires partition { IsPartition parts.now }
+    requires low { size parts.now ≤ 20 }
+    requires enough { columns parts.now < length lists.now }
+    ensures value { IfOk result (λ r. Stands (polynomial_of target) (factorial (size parts.now)) (growth completes (size parts.now))
+        (size parts.now) (product_over (polynomial_of family) parts.now) (numerators r.0)) }
+    ensures size { IfOk result (λ r. r.1 ≡ size parts.now) }
+    ensures large { IsErrOf result SumFault.Large → 2 ^ 127 ≤ growth completes (size parts.now) }
+{
+    let [k, rest @ ..] = parts else {
+        let one = single(alloc, &[], 1)?;
+        is_whole(&one);
+        return Ok((one, 0));
+    };
+    let (others, size) = over_parts(alloc, target, family, lists, rest)?;
+    let ways = whole_of(ways(family, *k, size));
+    let mut product = Lin::new(alloc);
+    add_products(alloc, &mut product, &lists[usize::from(*k)], ways, &others)?;
+    Ok((product, *k + size))
+}
+
+/// A partition in another family than the target, by the lists of its parts.
+fn by_parts(
+    alloc: Global,
+    target: Family,
+    family: Family,
+    label: &Partition,
+) -> Result<Node, SumFault>
+    requires { size label.now ≤ 20 }
+    ensures { IsConverted (polynomial_of target) (atom (basis_in family) label.now) result }
+{
+    let lists = factor_lists(alloc, target, family, label.part(1))?;
+    let (terms, degree) = over_parts(alloc, target, family, lists.as_slice(), label.parts())?;
+    Ok(Node {
+        terms,
+        den: 1,
+        degree,
+    })
+}
+
+/// A partition in the target, whatever that is.
+fn itself(alloc: Global, label: &Partition) -> Result<Node, SumFault>
+    requires { size label.now ≤ 20 }
+    ensures { (target : Family) → IsConverted (polynomial_of target) (atom (basis_in target) label.now) result }
+{
+    let degree = label.size();
+    let terms = single(alloc, label.parts(), whole_of(factorial(degree)).get())?;
+    is_whole(&terms);
+    Ok(Node {
+        terms,
+        den: 1,
+        degree,
+    })
+}
+
+/// A partition in e, h or p.
+fn from_family(
+    alloc: Global,
+    target: Family,
+    family: Family,
+    label: &Partition,
+) -> Result<Node, SumFault>
+    requires { size label.now ≤ 20 }
+    ensures { IsConverted (polynomial_of target) (atom (basis_in family) label.now) result }
+{
+    if family == target {
+        return itself(alloc, label);
+    }
+    by_parts(alloc, target, family, label)
+}
+
+/// The basis of the family.
+fn letter_of(family: Family) -> Basis
+    ensures { basis_of result ≡ basis_in family }
+{
+    match family {
+        Family::Elementary => Basis::E,
+        Family::Complete => Basis::H,
+        Family::PowerSum => Basis::P,
+    }
+}
+
+/// A partition in s, by special rim hooks: read as h_k, those of its shape, and into e as e_k, those of the conjugate shape.
+fn by_hooks(alloc: Global, target: Family, label: &Partition) -> Result<Node, SumFault>
+    requires { size label.now ≤ 15 }
+    ensures { IsConverted (polynomial_of target) (atom schurs label.now) result }
+{
+    let degree = label.size();
+    let terms = schur_terms(alloc, target, label)?;
+    Ok(Node {
+        terms,
+        den: 1,
+        degree,
+    })
+}
+
+/// The list in the target of a Schur polynomial.
+fn schur_terms(alloc: Global, target: Family, label: &Partition) -> Result<Whole, SumFault>
+    requires partition { IsPartition label.now }
+    requires low { size label.now ≤ 15 }
+    ensures value { IfOk result (λ terms. Stands (polynomial_of target) (factorial (size label.now)) (growth completes (size label.now))
+        (size label.now) (λ n. schur label.now n) (numerators terms)) }
+    ensures large { IsErrOf result SumFault.Large → 2 ^ 127 ≤ growth completes (size label.now) }
+{
+    if target == Family::Elementary {
+        let shape = label.conjugate()?;
+        return schur_list(alloc, target, Family::Elementary, &shape);
+    }
+    schur_list(alloc, target, Family::Complete, label)
+}
+
+/// A partition in any basis, by way of m.
+fn by_monomials(
+    alloc: Global,
+    target: Family,
+    basis: Basis,
+    label: &Partition,
+) -> Result<Node, SumFault>
+    requires { size label.now ≤ 15 }
+    ensures { IsConverted (polynomial_of target) (atom (basis_of basis) label.now) result }
+{
+    let list = atom_to_monomial(alloc, basis, label)?;
+    let answer = to_basis(alloc, &list, Weight { num: 1, den: 1 }, letter_of(target))?;
+    is_table(&list);
+    is_table(&answer);
+    let degree = label.size();
+    let terms = whole_terms(alloc, &answer, factorial(degree))?;
+    is_whole(&terms);
+    Ok(Node {
+        terms,
+        den: 1,
+        degree,
+    })
+}
+
+/// A partition in a basis.
+pub(crate) fn atom(
+    alloc: Global,
+    target: Family,
+    basis: Basis,
+    label: &Partition,
+) -> Result<Node, SumFault>
+    requires { size label.now ≤ 15 }
+    ensures { IsConverted (polynomial_of target) (atom (basis_of basis) label.now) result }
+{
+    match basis {
+        Basis::M => by_monomials(alloc, target, Basis::M, label),
+        Basis::E => from_family(alloc, target, Family::Elementary, label),
+        Basis::H => from_family(alloc, target, Family::Complete, label),
+        Basis::P => from_family(alloc, target, Family::PowerSum, label),
+        Basis::S => by_hooks(alloc, target, label),
+    }
+}

@@ -1,0 +1,40 @@
+//! The expansion of an expression in e, h or p.
+ghost use Rattle.std.specs.Prelude.{◌≡◌, ℕ, ◌^◌, ◌≤◌, IfOk, IsErrOf};
+ghost use Rattle.sym_model.specs.Expansion.{IsExpansionOf};
+ghost use Rattle.sym_model.specs.Expression.{cleared_value, degree, denominator};
+ghost use Rattle.sym_model.specs.Weight.{weight};
+ghost use Rattle.expression_reading.specs.Trees.{tree_of};
+ghost use Rattle.whole_lists.specs.Families.{basis_in};
+
+use crate::operations::InFamily;
+use calc_base::SumFault;
+use coeff_rings::Frac;
+use expression_evaluation::evaluate;
+use expression_reading::Formula;
+use partitions::Partition;
+use sparse_polys::Lin;
+use std::alloc::Global;
+use whole_lists::{Family, divided};
+use whole_numbers::{denominator_product, factorial};
+
+/// The expansion of a formula of degree at most 15 in the basis of a family, in every number of variables.
+///
+/// It is refused as `Large` only where the weight for the target is 2^127 or more.
+///
+/// Example: p_2 in e is e_1^2 - 2·e_2, and h_2 in p is (p_1^2 + p_2)/2.
+pub fn to_family(
+    alloc: Global,
+    target: Family,
+    formula: &Formula,
+) -> Result<Lin<Partition, Frac>, SumFault>
+    requires { degree (tree_of formula.now.tree) ≤ 15 }
+    ensures value { let e = tree_of formula.now.tree in
+        IfOk result (λ list. (n : ℕ) → IsExpansionOf (basis_in target) list n (cleared_value e n) (denominator e)) }
+    ensures large { IsErrOf result SumFault.Large → 2 ^ 127 ≤ weight (basis_in target) (tree_of formula.now.tree) }
+{
+    let node = evaluate(alloc, &InFamily { family: target }, formula.tree())?;
+    let Some(den) = denominator_product(node.den, factorial(node.degree)) else {
+        return Err(SumFault::Large);
+    };
+    divided(alloc, &node.terms, den)
+}

@@ -1,0 +1,23 @@
+//! Quotients of factorials.
+ghost use Rattle.std.specs.Prelude.{◌≡◌, ◌+◌, ◌*◌, ◌<◌, ◌≤◌, ◌^◌};
+ghost use Rattle.sym_model.specs.Weight.{factorial};
+
+use whole_numbers::factorial;
+
+/// How many ways there are to choose so many of a + b.
+pub(crate) fn binomial(a: u16, b: u16) -> u128
+    requires { a + b ≤ 20 }
+    ensures value { result * (factorial a * factorial b) ≡ factorial (a + b) }
+    ensures small { result < 2 ^ 127 }
+{
+    factorial(a + b) / (factorial(a) * factorial(b))
+}
+
+/// The product of the numbers past a, up to d.
+pub(crate) fn rise(a: u16, d: u16) -> u128
+    requires { (a ≤ d) × (d ≤ 20) }
+    ensures value { result * factorial a ≡ factorial d }
+    ensures small { result < 2 ^ 127 }
+{
+    factorial(d) / factorial(a)
+}

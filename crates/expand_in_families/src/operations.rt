@@ -1,0 +1,107 @@
+//! The targets e, h and p: numbers, atoms, negations, sums and products as lists in the target.
+ghost use Rattle.std.specs.Prelude.{◌≡◌, ◌<◌, ◌≤◌, ◌^◌, ◌*ℤ◌, pos, nat_abs, MatchOption};
+ghost use Rattle.whole_lists.specs.Families.{polynomial_of};
+ghost use Rattle.expand_in_families.specs.Nodes.{ClearsTo, IsHeavy};
+ghost use Rattle.expand_in_families.specs.TargetLaws.{clears-difference, heavy-whole};
+
+use crate::atoms::atom;
+use crate::factorials::{binomial, rise};
+use crate::node::Node;
+use calc_base::{Basis, SumFault};
+use change_from_monomials::whole_of;
+use coeff_rings::Int;
+use expression_evaluation::Target;
+use family_lists::{add_products, product_of};
+use partitions::Partition;
+use sparse_polys::Lin;
+use std::alloc::Global;
+use whole_lists::{Family, is_whole, single, sum_of};
+use whole_numbers::{common_denominator, denominator_product};
+
+/// The target of a family.
+#[derive(Clone, Copy)]
+pub(crate) struct InFamily {
+    pub(crate) family: Family,
+}
+
+/// A number times another; none where it is too large.
+fn times(from: i128, by: u128) -> Option<Int>
+    requires { by < 2 ^ 127 }
+    ensures { MatchOption result (2 ^ 127 ≤ nat_abs (from *ℤ pos by)) (λ p. p ≡ from *ℤ pos by) }
+{
+    product_of(Int::new(from), whole_of(by))
+}
+
+impl Target for InFamily {
+    type Value = Node;
+
+    ghost limit = { 15 };
+
+    ghost stands = { λ t. ClearsTo (polynomial_of t.family) };
+
+    ghost heavy = { λ _. IsHeavy };
+
+    fn quotient(&self, alloc: Global, num: i128, den: u128) -> Result<Node, SumFault> {
+        let terms = single(alloc, &[], num)?;
+        is_whole(&terms);
+        Ok(Node {
+            terms,
+            den,
+            degree: 0,
+        })
+    }
+
+    fn atom(&self, alloc: Global, basis: Basis, label: &Partition) -> Result<Node, SumFault> {
+        atom(alloc, self.family, basis, label)
+    }
+
+    fn negated(&self, _: Global, inner: Node) -> Result<Node, SumFault> {
+        let Node { terms, den, degree } = inner;
+        is_whole(&terms);
+        let terms = terms.scale(Int::new(-1))?;
+        is_whole(&terms);
+        Ok(Node { terms, den, degree })
+    }
+
+    /// Over the least common denominator and the factorial of the greater degree.
+    fn added(&self, _: Global, left: Node, right: Node) -> Result<Node, SumFault> {
+        let Some(common) = common_denominator(left.den, right.den) else {
+            return Err(SumFault::Large);
+        };
+        let degree = left.degree.max(right.degree);
+        let by_left = rise(left.degree, degree);
+        let by_right = rise(right.degree, degree);
+        let Some(p) = times(common.from_left, by_left) else {
+            return Err(SumFault::Large);
+        };
+        let Some(q) = times(common.from_right, by_right) else {
+            return Err(SumFault::Large);
+        };
+        let terms = sum_of(left.terms, p.get(), right.terms, q.get())?;
+        is_whole(&terms);
+        Ok(Node {
+            terms,
+            den: common.den,
+            degree,
+        })
+    }
+
+    fn multiplied(&self, alloc: Global, left: Node, right: Node) -> Result<Node, SumFault> {
+        let Some(den) = denominator_product(left.den, right.den) else {
+            return Err(SumFault::Large);
+        };
+        let ways = whole_of(binomial(left.degree, right.degree));
+        let mut terms = Lin::new(alloc);
+        add_products(alloc, &mut terms, &left.terms, ways, &right.terms)?;
+        is_whole(&terms);
+        Ok(Node {
+            terms,
+            den,
+            degree: left.degree + right.degree,
+        })
+    }
+
+    ghost differs = { λ t. clears-difference (polynomial_of t.family) };
+
+    ghost grows = { λ _. heavy-whole };
+}

@@ -1,0 +1,190 @@
+//! Schur polynomials as lists in e, h and p, by special rim hooks (Egecioglu and Remmel). A shape is peeled once: its list is kept
+//! in a store.
+ghost use Rattle.std.specs.Prelude.{◌≡◌, ◌≢◌, ℕ, ◌+◌, ◌-◌, ◌*◌, ◌<◌, ◌≤◌, ◌^◌, ◌*ℤ◌, ◌++◌, pos, length, take, drop, vec_len, IfOk, OnOk, IsErrOf};
+ghost use Rattle.sym_model.specs.Expansion.{completes};
+ghost use Rattle.sym_model.specs.Partition.{IsPartition, size};
+ghost use Rattle.sym_model.specs.PlaceOrders.{minus_one_to};
+ghost use Rattle.sym_model.specs.Weight.{factorial, growth};
+ghost use Rattle.sym_model.specs.WholeTerms.{numerators};
+ghost use Rattle.basis_change_laws.specs.JoinedLists.{Stands};
+ghost use Rattle.special_hook_laws.specs.SpecialHooks.{shortened};
+ghost use Rattle.whole_lists.specs.Families.{polynomial_of};
+ghost use Rattle.family_lists.specs.FactorLists.{AreFactors};
+ghost use Rattle.family_lists.specs.KeptLists.{StandsAt};
+ghost use Rattle.expand_in_families.specs.SchurLists.{AreSchurLists, IsSchurList};
+
+use crate::factorials::binomial;
+use calc_base::{NoMemory, SumFault};
+use change_from_monomials::whole_of;
+use coeff_rings::Int;
+use family_lists::{Lists, add_products, factor_lists, is_negative, keep, list_at, place_of};
+use indexmap::IndexMap;
+use partitions::Partition;
+use sparse_polys::Lin;
+use std::alloc::Global;
+use whole_lists::{Family, Whole, is_whole, single};
+use whole_numbers::factorial;
+
+/// The number with the sign of a special rim hook that has so many rows below its first one.
+fn signed(below: u16, number: u128) -> Int
+    requires { number < 2 ^ 127 }
+    ensures { result ≡ pos number *ℤ minus_one_to below }
+{
+    if is_negative(Family::Elementary, below) {
+        Int::new(-(number as i128))
+    } else {
+        whole_of(number)
+    }
+}
+
+/// What the special rim hook that goes from a row, counted from 0, down to the last one leaves: the rows above, and each row below
+/// a cell shorter.
+fn left_by_hook(alloc: Global, shape: &[u16], row: usize) -> Result<Partition, NoMemory>
+    requires within { row < length shape.now }
+    requires partition { IsPartition shape.now }
+    requires low { size shape.now ≤ 20 }
+    ensures { IfOk result (λ rest. rest ≡ take row shape.now ++ shortened (drop (row + 1) shape.now)) }
+{
+    let mut parts = Vec::from_slice(alloc, &shape[..row])?;
+    for part in &shape[row + 1..] {
+        parts.push(part.saturating_sub(1))?;
+    }
+    Partition::from_valid_numbers(alloc, &parts)
+}
+
+/// The list of a shape: over its special rim hooks, the sum of the list of the hook's cells times that of what the hook leaves,
+/// with the hook's sign. Each summand is brought over the factorial of the size, and that of no rows is 1.
+#[cycle(peeling)]
+fn list_of(
+    alloc: Global,
+    target: Family,
+    family: Family,
+    lists: &[Whole],
+    store: &mut Lists,
+    shape: &[u16],
+) -> Result<Whole, SumFault>
+    requires hooks { family ≢ Family.PowerSum }
+    requires lists { AreFactors (polynomial_of target) family (length lists.now) lists.now }
+    requires store { AreSchurLists (polynomial_of target) family store.old.entries }
+    requires partition { IsPartition shape.now }
+    requires low { size shape.now ≤ 20 }
+    requires enough { size shape.now < length lists.now }
+    ensures value { IfOk result (IsSchurList (polynomial_of target) family shape.now) }
+    ensures store { OnOk result (AreSchurLists (polynomial_of target) family store.new.entries) }
+    ensures large { IsErrOf result SumFault.Large → 2 ^ 127 ≤ growth completes (size shape.now) }
+{
+    if shape.is_empty() {
+        let one = single(alloc, &[], 1)?;
+        is_whole(&one);
+        return Ok(one);
+    }
+    let mut sum = Lin::new(alloc);
+    for row in 0..shape.len() {
+        let below = (shape.len() - 1 - row) as u16;
+        let rest = left_by_hook(alloc, shape, row)?;
+        let size = rest.size();
+        let at = index_of(alloc, target, family, lists, store, rest)?;
+        let cells = shape[row] + below;
+        let ways = signed(below, binomial(cells, size));
+        let (_, list) = list_at(store, at);
+        add_products(alloc, &mut sum, &lists[usize::from(cells)], ways, list)?;
+    }
+    Ok(sum)
+}
+
+/// The index of the list of a shape, which is made where it is not there.
+#[cycle(peeling)]
+fn index_of(
+    alloc: Global,
+    target: Family,
+    family: Family,
+    lists: &[Whole],
+    store: &mut Lists,
+    shape: Partition,
+) -> Result<usize, SumFault>
+    requires hooks { family ≢ Family.PowerSum }
+    requires lists { AreFactors (polynomial_of target) family (length lists.now) lists.now }
+    requires store { AreSchurLists (polynomial_of target) family store.old.entries }
+    requires low { size shape ≤ 20 }
+    requires enough { size shape < length lists.now }
+    ensures index { IfOk result (StandsAt store.new.entries shape) }
+    ensures store { OnOk result (AreSchurLists (polynomial_of target) family store.new.entries) }
+    ensures large { IsErrOf result SumFault.Large → 2 ^ 127 ≤ growth completes (size shape) }
+{
+    if let Some(at) = place_of(store, &shape) {
+        return Ok(at);
+    }
+    let list = list_of(alloc, target, family, lists, store, shape.parts())?;
+    Ok(keep(store, shape, list)?)
+}
+
+/// k!·e_k in e, k!·h_k in h or k!·p_k in p; nothing for k = 0.
+fn own_list(alloc: Global, k: u16) -> Result<Whole, SumFault>
+    requires { k ≤ 20 }
+    ensures value { IfOk result (λ list. (target : Family) → 0 < k
+        → Stands (polynomial_of target) (factorial k) (factorial k * 2 ^ k) k (λ n. polynomial_of target k n) (numerators list)) }
+    ensures small { ¬ IsErrOf result SumFault.Large }
+{
+    if k == 0 {
+        return Ok(Lin::new(alloc));
+    }
+    let list = single(alloc, &[k], whole_of(factorial(k)).get())?;
+    is_whole(&list);
+    Ok(list)
+}
+
+/// 1!·e_1, .., d!·e_d in e, or those of h in h, each at its place.
+fn own_lists(alloc: Global, target: Family, d: u16) -> Result<Vec<Whole>, SumFault>
+    requires newton { target ≢ Family.PowerSum }
+    requires low { d ≤ 20 }
+    ensures length { IfOk result (λ lists. vec_len lists ≡ d + 1) }
+    ensures ok { IfOk result (λ lists. AreFactors (polynomial_of target) target (d + 1) lists.items) }
+    ensures small { ¬ IsErrOf result SumFault.Large }
+{
+    let _ = target;
+    let mut lists = Vec::new(alloc);
+    for k in 0..d + 1 {
+        let next = own_list(alloc, k)?;
+        lists.push(next)?;
+    }
+    Ok(lists)
+}
+
+/// e_k or h_k times k!, up to d, each at its place as a list in the target.
+fn hook_lists(alloc: Global, target: Family, family: Family, d: u16) -> Result<Vec<Whole>, SumFault>
+    requires hooks { family ≢ Family.PowerSum }
+    requires low { d ≤ 20 }
+    ensures length { IfOk result (λ lists. vec_len lists ≡ d + 1) }
+    ensures ok { IfOk result (λ lists. AreFactors (polynomial_of target) family (d + 1) lists.items) }
+    ensures small { ¬ IsErrOf result SumFault.Large }
+{
+    if family == target {
+        return own_lists(alloc, target, d);
+    }
+    factor_lists(alloc, target, family, d)
+}
+
+/// The list in the target of the Schur polynomial of a shape, where its special rim hooks are read as h_k; where they are read as
+/// e_k, it is that of the conjugate shape. It is refused as `Large` only where the growth is 2^127 or more.
+pub(crate) fn schur_list(
+    alloc: Global,
+    target: Family,
+    family: Family,
+    shape: &Partition,
+) -> Result<Whole, SumFault>
+    requires hooks { family ≢ Family.PowerSum }
+    requires low { size shape.now ≤ 20 }
+    ensures value { IfOk result (IsSchurList (polynomial_of target) family shape.now) }
+    ensures large { IsErrOf result SumFault.Large → 2 ^ 127 ≤ growth completes (size shape.now) }
+{
+    let lists = hook_lists(alloc, target, family, shape.size())?;
+    let mut store = IndexMap::new(alloc);
+    list_of(
+        alloc,
+        target,
+        family,
+        lists.as_slice(),
+        &mut store,
+        shape.parts(),
+    )
+}

@@ -1,0 +1,274 @@
+-- Contents made part by part, with the ways to take a list of terms off with them.
+--     counts-end, -none, -missed, -step   the contents by their next part, if any
+--     fresh-longer, limits-longer         what holds of the parts chosen holds with one more
+--     list-counted, lists-counted         with all contents the list is the Schur polynomial, or the list of these
+use Rattle.std.proofs.Common.{◌≡◌, ◌⊎◌, ℕ, ◌-◌, ◌≤◌, ◌<◌, min, List, [], ◌∷◌, ◌++◌, length, sym, ◌∙◌, ap, ap₂, subst, refl, inl, inr, arith, append_assoc, append-nil, cond, drop, length-append, ℤ, pos, ◌+ℤ◌, ◌*ℤ◌}
+use Rattle.std.specs.Prelude.{FitsSigned}
+use Rattle.std.specs.Int.{w128}
+use Rattle.std.proofs.Math.Nat.{eq-or-lt_of_le}
+use Rattle.std.proofs.lemmas.Bool.{cases_lt}
+use Rattle.coeff_rings.specs.Checked.{checked_i128}
+use Rattle.coeff_rings.specs.Fractions.{whole}
+use Rattle.coeff_rings.specs.Proved.Whole.{same_whole}
+use Rattle.sym_model.specs.Partition.{IsPartition, ArePositive, Falls, size}
+use Rattle.sym_model.specs.Polynomial.{same, coefficient, pair, Same}
+use Rattle.sym_model.specs.Schur.{schur}
+use Rattle.sym_model.specs.Expansion.{Fraction, Terms}
+use Rattle.sym_model.specs.WholeTerms.{WholeTerms, AreWhole, combined, numerators}
+use Rattle.sym_model.specs.Sum.{Among}
+use Rattle.sym_model.proofs.Sums.{total_none, Among_from_map}
+use Rattle.sym_model.proofs.Polynomials.{coefficient_pair, coefficient_plus, pair_determined}
+use Rattle.sym_model.proofs.Exponents.{same_apart, same_from}
+use Rattle.monomial_laws.specs.ExpressionTerms.{IsList}
+use Rattle.partitions.specs.Limits.{IsWithinLimits}
+use Rattle.sparse_polys.specs.Combination.{HasMoreAt}
+use Rattle.sparse_polys.specs.Refusal.{IsRefused}
+use Rattle.schur_laws.specs.Kostka.{kostka}
+use Rattle.schur_laws.proofs.SchurLists.{list-schur, kostka-other_size}
+use Rattle.whole_lists.specs.LabelSizes.{AreWithin}
+use Rattle.expand_in_monomials.specs.Contents.{IsContent, HasNoneBehind, CountsContents}
+use Rattle.expand_in_monomials.specs.Strips.{strip_terms}
+use Rattle.whole_lists.specs.Tables.{equal, found, IsTable}
+use Rattle.whole_lists.proofs.WholeLists.{Finds, Finds-next, Same-from_look_ups, coefficient-whole, not_refused}
+use Rattle.whole_lists.proofs.PartitionTerms.{IsWithinLimits-low}
+use Rattle.expand_in_monomials.proofs.SchurSums.{list-schurs}
+use Rattle.whole_lists.proofs.TableSums.{label-partition}
+use Rattle.expand_in_monomials.proofs.StripTables.{ways-alone, pair-strip_terms}
+use lib.IntN.{+ℤ_idl, +ℤ_idr, *ℤ-zero}
+
+-- ---- contents
+
+-- a greater part allows more
+content-more : (largest more left : ℕ) (rest : List ℕ) → largest ≤ more → IsContent largest left rest → IsContent more left rest
+content-more largest more left [] h c = c
+content-more largest more left (a ∷ rest) h c = ((c.0.0, let l = c.0.1 in omega arith, c.0.2), c.1)
+
+-- a content is a partition
+content-falls : (largest left : ℕ) (rest : List ℕ) → IsContent largest left rest → Falls rest × ArePositive rest × (size rest ≤ left)
+content-falls largest left [] c = (tt, tt, omega arith)
+content-falls largest left (a ∷ []) c = (tt, (c.0.0, tt), let l = c.0.2 in omega arith)
+content-falls largest left (a ∷ b ∷ rest) c =
+    let r = content-falls a (left - a) (b ∷ rest) c.1 in
+    ((c.1.0.1, r.0), (c.0.0, r.1), let l = c.0.2 in let e = r.2 in omega arith)
+
+-- and a partition is one
+partition-content : (largest left : ℕ) (parts : List ℕ) → IsPartition parts → size parts ≤ left → Falls (largest ∷ parts) → IsContent largest left parts
+partition-content largest left [] p e f = tt
+partition-content largest left (a ∷ []) p e f = ((p.positive.0, f.0, omega arith), tt)
+partition-content largest left (a ∷ b ∷ parts) p e f = (
+  (p.positive.0, f.0, omega arith),
+  partition-content a (left - a) (b ∷ parts) (record { falls = p.falls.1; positive = p.positive.1 }) (omega arith) p.falls,
+)
+
+first_few : (parts : List ℕ) (d : ℕ) → size parts ≤ d → Falls parts → Falls (d ∷ parts)
+first_few [] d e f = tt
+first_few (a ∷ parts) d e f = (omega arith, f)
+
+-- within the limits
+pub limits-content : (largest d : ℕ) (rest : List ℕ) → d ≤ 512 → IsContent largest d rest → IsWithinLimits rest
+limits-content largest d rest h c =
+    let is = content-falls largest d rest c in
+    IsWithinLimits-low rest (record { falls = is.0; positive = is.1 }) (let e = is.2 in omega arith)
+
+-- ---- one part more
+
+pub limits-longer : (chosen longer : List ℕ) (part largest left : ℕ) → longer ≡ chosen ++ part ∷ [] → 1 ≤ part → part ≤ largest → part ≤ left
+    → ((rest : List ℕ) → IsContent largest left rest → IsWithinLimits (chosen ++ rest))
+    → (rest : List ℕ) → IsContent part (left - part) rest → IsWithinLimits (longer ++ rest)
+limits-longer chosen longer part largest left e p h l limits rest c =
+    subst IsWithinLimits (sym (append_assoc chosen (part ∷ []) rest) ∙ ap (λ xs. xs ++ rest) (sym e)) (limits (part ∷ rest) ((p, h, l), c))
+
+-- lists that go on behind the same chosen parts
+same_behind : (chosen : List ℕ) (a b : ℕ) (xs ys : List ℕ) → chosen ++ (a ∷ xs) ≡ chosen ++ (b ∷ ys) → a ≡ b
+same_behind [] a b xs ys e = ap (λ (l : List ℕ). first l) e
+  where
+    first : List ℕ → ℕ
+    first [] = 0
+    first (x ∷ xs) = x
+same_behind (x ∷ chosen) a b xs ys e = same_behind chosen a b xs ys (ap (drop 1) e)
+
+not_nothing : (chosen : List ℕ) (b : ℕ) (ys : List ℕ) → chosen ++ [] ≡ chosen ++ (b ∷ ys) → ⊥
+not_nothing chosen b ys e = let h = ap length e in omega (arith, length-append chosen [], length-append chosen (b ∷ ys))
+
+-- what is counted with smaller parts is none of what begins with this part
+apart : (chosen rest behind : List ℕ) (part left : ℕ) → 1 ≤ part → IsContent (part - 1) left rest → chosen ++ (part ∷ behind) ≡ chosen ++ rest → ⊥
+apart chosen [] behind part left p c e = not_nothing chosen part behind (sym e)
+apart chosen (a ∷ rest) behind part left p c e = let h = same_behind chosen part a behind rest e in let l = c.0.1 in omega arith
+
+none_here : (terms : WholeTerms) (chosen : List ℕ) (part left : ℕ) (old list : WholeTerms) → 1 ≤ part → HasNoneBehind chosen old
+    → CountsContents terms chosen (part - 1) left old list → (rest : List ℕ) → coefficient list (chosen ++ (part ∷ rest)) ≡ pos 0
+none_here terms chosen part left old list p none so_far rest =
+    so_far.others (chosen ++ (part ∷ rest)) (λ other c e. apart chosen other rest part left p c e) ∙ none (part ∷ rest)
+
+pub fresh-longer : (terms : WholeTerms) (chosen longer : List ℕ) (part left : ℕ) (old list : WholeTerms) → longer ≡ chosen ++ part ∷ [] → 1 ≤ part
+    → HasNoneBehind chosen old → CountsContents terms chosen (part - 1) left old list → HasNoneBehind longer list
+fresh-longer terms chosen longer part left old list l p none so_far rest =
+    ap (coefficient list) (ap (λ xs. xs ++ rest) l ∙ append_assoc chosen (part ∷ []) rest) ∙ none_here terms chosen part left old list p none so_far rest
+
+-- the ways with this part, one strip before
+ways : (part : ℕ) (terms next : WholeTerms) (rest : List ℕ) → Same next (strip_terms part terms)
+    → pair next (λ shape. kostka shape rest) ≡ pair terms (λ shape. kostka shape (part ∷ rest))
+ways part terms next rest e = pair_determined next (strip_terms part terms) (λ shape. kostka shape rest) e ∙ pair-strip_terms part terms (λ shape. kostka shape rest)
+
+-- the contents with this part where no shape is left
+pub counts-missed : (terms next : WholeTerms) (chosen : List ℕ) (part left : ℕ) (old list : WholeTerms) → 1 ≤ part → next ≡ [] → Same next (strip_terms part terms)
+    → HasNoneBehind chosen old → CountsContents terms chosen (part - 1) left old list → CountsContents terms chosen part left old list
+counts-missed terms next chosen part left old list p nothing e none so_far = record {
+  counted = counted;
+  others = λ label no. so_far.others label (λ rest c. no rest (content-more (part - 1) part left rest (omega arith) c));
+}
+  where
+    counted : (rest : List ℕ) → IsContent part left rest → coefficient list (chosen ++ rest) ≡ pair terms (λ shape. kostka shape rest)
+    counted [] c = so_far.counted [] tt
+    counted (a ∷ rest) c = by (eq-or-lt_of_le {n = a} {m = part} c.0.1)
+      where
+        by : (a ≡ part) ⊎ (a < part) → coefficient list (chosen ++ (a ∷ rest)) ≡ pair terms (λ shape. kostka shape (a ∷ rest))
+        by (inl s) =
+            ap (λ b. coefficient list (chosen ++ (b ∷ rest))) s
+            ∙ none_here terms chosen part left old list p none so_far rest
+            ∙ ap (λ (l : WholeTerms). pair l (λ shape. kostka shape rest)) (sym nothing)
+            ∙ ways part terms next rest e
+            ∙ ap (λ b. pair terms (λ shape. kostka shape (b ∷ rest))) (sym s)
+        by (inr l) = so_far.counted (a ∷ rest) ((c.0.0, omega arith, c.0.2), c.1)
+
+-- the contents with this part
+pub counts-step : (terms next : WholeTerms) (chosen longer : List ℕ) (part left : ℕ) (old list new : WholeTerms) → longer ≡ chosen ++ part ∷ [] → 1 ≤ part → part ≤ left
+    → Same next (strip_terms part terms) → CountsContents terms chosen (part - 1) left old list → CountsContents next longer part (left - part) list new
+    → CountsContents terms chosen part left old new
+counts-step terms next chosen longer part left old list new l p low e so_far more = record {
+  counted = counted;
+  others = λ label no.
+      more.others label (λ rest c is. no (part ∷ rest) ((p, omega arith, low), c) (is ∙ behind rest))
+      ∙ so_far.others label (λ rest c. no rest (content-more (part - 1) part left rest (omega arith) c));
+}
+  where
+    behind : (rest : List ℕ) → longer ++ rest ≡ chosen ++ (part ∷ rest)
+    behind rest = ap (λ xs. xs ++ rest) l ∙ append_assoc chosen (part ∷ []) rest
+
+    counted : (rest : List ℕ) → IsContent part left rest → coefficient new (chosen ++ rest) ≡ pair terms (λ shape. kostka shape rest)
+    counted [] c = more.others (chosen ++ []) (λ rest d is. not_nothing chosen part rest (is ∙ behind rest)) ∙ so_far.counted [] tt
+    counted (a ∷ rest) c = by (eq-or-lt_of_le {n = a} {m = part} c.0.1)
+      where
+        by : (a ≡ part) ⊎ (a < part) → coefficient new (chosen ++ (a ∷ rest)) ≡ pair terms (λ shape. kostka shape (a ∷ rest))
+        by (inl s) =
+            ap (λ b. coefficient new (chosen ++ (b ∷ rest))) s
+            ∙ ap (coefficient new) (sym (behind rest))
+            ∙ more.counted rest (subst (λ b. IsContent b (left - b) rest) s c.1)
+            ∙ ways part terms next rest e
+            ∙ ap (λ b. pair terms (λ shape. kostka shape (b ∷ rest))) (sym s)
+        by (inr less) =
+            more.others (chosen ++ (a ∷ rest)) (λ other d is. let h = same_behind chosen a part rest other (is ∙ behind other) in omega arith)
+            ∙ so_far.counted (a ∷ rest) ((c.0.0, omega arith, c.0.2), c.1)
+
+-- the ways to the empty shape
+number-nothing : (terms : Terms (List ℕ)) (nothing : List ℕ) (number : ℤ) → IsTable terms → AreWhole terms → nothing ≡ [] → whole number ≡ found terms nothing
+    → number ≡ pair (numerators terms) (λ shape. kostka shape [])
+number-nothing terms nothing number is w n f =
+    same_whole number (coefficient (numerators terms) []) (f ∙ ap (found terms) n ∙ coefficient-whole terms is w [])
+    ∙ coefficient_pair (numerators terms) []
+
+-- the chosen parts alone
+pub counts-end : (terms : Terms (List ℕ)) (chosen label nothing : List ℕ) (left : ℕ) (number : ℤ) (old new : Terms (List ℕ)) → IsTable terms → AreWhole terms
+    → IsTable old → AreWhole old → IsTable new → label ≡ chosen → nothing ≡ [] → whole number ≡ found terms nothing → HasNoneBehind chosen (numerators old)
+    → HasMoreAt equal old label (whole number) new → CountsContents (numerators terms) chosen 0 left (numerators old) (numerators new)
+counts-end terms chosen label nothing left number old new is w old_is old_w new_is l n f none more = record {
+  counted = counted;
+  others = λ other no.
+      told other
+      ∙ ap (λ b. coefficient (numerators old) other +ℤ (cond b number (pos 0) +ℤ pos 0)) (same_apart chosen other (λ e. no [] tt (sym (append-nil chosen ∙ e))))
+      ∙ +ℤ_idr (coefficient (numerators old) other);
+}
+  where
+    finds : Finds new (numerators old ++ (chosen, number) ∷ [])
+    finds = Finds-next old new (numerators old) chosen number (coefficient-whole old old_is old_w) (subst (λ (x : List ℕ). HasMoreAt equal old x (whole number) new) l more)
+
+    told : (other : List ℕ) → coefficient (numerators new) other ≡ coefficient (numerators old) other +ℤ (cond (same chosen other) number (pos 0) +ℤ pos 0)
+    told other = Same-from_look_ups new (numerators old ++ (chosen, number) ∷ []) new_is finds other ∙ coefficient_plus (numerators old) ((chosen, number) ∷ []) other
+
+    counted : (rest : List ℕ) → IsContent 0 left rest → coefficient (numerators new) (chosen ++ rest) ≡ pair (numerators terms) (λ shape. kostka shape rest)
+    counted (a ∷ rest) c = absurd (let p = c.0.0 in let few = c.0.1 in omega arith)
+    counted [] c =
+        told (chosen ++ [])
+        ∙ ap₂ (λ z b. z +ℤ (cond b number (pos 0) +ℤ pos 0)) (none []) (same_from chosen (chosen ++ []) (sym (append-nil chosen)))
+        ∙ +ℤ_idl (number +ℤ pos 0) ∙ +ℤ_idr number
+        ∙ number-nothing terms nothing number is w n f
+
+-- where no way leads to the empty shape
+pub counts-none : (terms : Terms (List ℕ)) (chosen nothing : List ℕ) (left : ℕ) (number : ℤ) (old : WholeTerms) → IsTable terms → AreWhole terms → nothing ≡ []
+    → whole number ≡ found terms nothing → whole number ≡ whole (pos 0) → HasNoneBehind chosen old → CountsContents (numerators terms) chosen 0 left old old
+counts-none terms chosen nothing left number old is w n f z none = record {
+  counted = counted;
+  others = λ label no. refl;
+}
+  where
+    counted : (rest : List ℕ) → IsContent 0 left rest → coefficient old (chosen ++ rest) ≡ pair (numerators terms) (λ shape. kostka shape rest)
+    counted (a ∷ rest) c = absurd (let p = c.0.0 in let few = c.0.1 in omega arith)
+    counted [] c = none [] ∙ sym (same_whole number (pos 0) z) ∙ number-nothing terms nothing number is w n f
+
+-- which is never refused
+pub fresh-fits : (chosen label : List ℕ) (number : ℤ) (old : Terms (List ℕ)) → IsTable old → AreWhole old → label ≡ chosen → HasNoneBehind chosen (numerators old)
+    → IsRefused (FitsSigned w128) whole (λ (x y : ℤ). checked_i128 (x +ℤ y)) (found old label) (whole number) → ⊥
+fresh-fits chosen label number old is w l none r =
+    not_refused (pos 0) number refl
+    (subst (λ (x : Fraction). IsRefused (FitsSigned w128) whole (λ (x y : ℤ). checked_i128 (x +ℤ y)) x (whole number))
+    (ap (found old) l ∙ coefficient-whole old is w chosen ∙ ap whole (ap (coefficient (numerators old)) (sym (append-nil chosen)) ∙ none [])) r)
+
+-- ---- all contents
+
+-- no part is greater than what is left
+pub counts-all : (terms : WholeTerms) (chosen : List ℕ) (most largest left : ℕ) (old new : WholeTerms) → most ≡ min largest left → CountsContents terms chosen most left old new
+    → CountsContents terms chosen largest left old new
+counts-all terms chosen most largest left old new e counts = record {
+  counted = λ rest c. counts.counted rest (less rest c);
+  others = λ label no. counts.others label (λ rest c. no rest (content-more most largest left rest (omega arith) c));
+}
+  where
+    less : (rest : List ℕ) → IsContent largest left rest → IsContent most left rest
+    less [] c = c
+    less (a ∷ rest) c = ((c.0.0, let l = c.0.1 in let few = c.0.2 in omega arith, c.0.2), c.1)
+
+pub no_terms : (terms : Terms (List ℕ)) → length terms ≡ 0 → numerators terms ≡ []
+no_terms [] e = refl
+no_terms (t ∷ terms) e = absurd (omega arith)
+
+-- a partition of at most d cells, and one of more
+at_most : (d : ℕ) (W old list : WholeTerms) (κ : List ℕ) → old ≡ [] → CountsContents W [] d d old list → IsPartition κ → size κ ≤ d
+    → coefficient list κ ≡ pair W (λ shape. kostka shape κ)
+at_most d W old list κ none counts is low = counts.counted κ (partition-content d d κ is low (first_few κ d low is.falls))
+
+past : (d : ℕ) (W old list : WholeTerms) (κ : List ℕ) → old ≡ [] → CountsContents W [] d d old list → d < size κ → coefficient list κ ≡ pos 0
+past d W old list κ none counts high =
+    counts.others κ (λ rest c eq. absurd (let few = (content-falls d d rest c).2 in let same_size = ap size eq in omega arith))
+    ∙ ap (λ (l : WholeTerms). coefficient l κ) none
+
+pub list-counted : (shape : List ℕ) (d : ℕ) (terms old list : WholeTerms) → IsPartition shape → d ≡ size shape → old ≡ [] → Same terms ((shape, pos 1) ∷ [])
+    → CountsContents terms [] d d old list → IsList list (schur shape)
+list-counted shape d terms old list p is_d none e counts = list-schur shape list p (λ κ is. at κ is (cases_lt d (size κ)))
+  where
+    at : (κ : List ℕ) → IsPartition κ → (d < size κ) ⊎ (size κ ≤ d) → coefficient list κ ≡ kostka shape κ
+    at κ is (inr low) = at_most d terms old list κ none counts is low ∙ ways-alone shape terms e κ
+    at κ is (inl high) = past d terms old list κ none counts high ∙ sym (kostka-other_size shape κ p (λ same_size. omega arith))
+
+-- the same of a list of shapes
+pub lists-counted : (d : ℕ) (terms : Terms (List ℕ)) (old list : WholeTerms) → IsTable terms → AreWithin d terms → old ≡ [] → CountsContents (numerators terms) [] d d old list
+    → IsList list (λ n. combined (λ label. schur label n) (numerators terms))
+lists-counted d terms old list is within none counts =
+    list-schurs (numerators terms) list partitions (λ κ is. at κ is (cases_lt d (size κ)))
+  where
+    among : (t : List ℕ × ℤ) → Among t (numerators terms) → IsPartition t.0 × (size t.0 ≤ d)
+    among t m =
+        let u = Among_from_map (λ (u : List ℕ × Fraction). (u.0, u.1.0)) t terms m in
+        subst (λ (label : List ℕ). IsPartition label × (size label ≤ d)) (sym (ap (λ (v : List ℕ × ℤ). v.0) u.2)) (label-partition terms is u.0 u.1, within u.0 u.1)
+
+    partitions : (t : List ℕ × ℤ) → Among t (numerators terms) → IsPartition t.0
+    partitions t m = (among t m).0
+
+    at : (κ : List ℕ) → IsPartition κ → (d < size κ) ⊎ (size κ ≤ d) → coefficient list κ ≡ pair (numerators terms) (λ shape. kostka shape κ)
+    at κ is (inr low) = at_most d (numerators terms) old list κ none counts is low
+    at κ is (inl high) =
+        past d (numerators terms) old list κ none counts high
+        ∙ sym
+        (total_none (λ (t : List ℕ × ℤ). t.1 *ℤ kostka t.0 κ) (numerators terms)
+        (λ t m.
+        let small = (among t m).1 in
+        ap (λ z. t.1 *ℤ z) (kostka-other_size t.0 κ (among t m).0 (λ same_size. omega arith)) ∙ *ℤ-zero t.1))

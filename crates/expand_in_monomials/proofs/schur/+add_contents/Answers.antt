@@ -1,0 +1,67 @@
+use Rattle.std.proofs.Common.{◌≡◌, ◌≤◌, ◌++◌, ◌∷◌, [], ◌+◌, ◌-◌, subst, ap, ◌∙◌, arith, Err, append-nil}
+use Rattle.sym_model.specs.WholeTerms.{numerators}
+use Rattle.partitions.specs.Limits.{IsWithinLimits}
+use Rattle.sparse_polys.proofs.Steps.{error_is}
+use Rattle.expand_in_monomials.specs.Contents.{CountsContents}
+use Rattle.expand_in_monomials.proofs.StripTables.{leads-next, large-lead}
+use Rattle.expand_in_monomials.proofs.ContentCounts.{counts-missed, counts-step, counts-all, limits-longer, fresh-longer, no_terms}
+use Rattle.expand_in_monomials.proofs.schur.+add_contents.Goals as goal
+
+pub add_content-requires-clause-limits : goal.add_content-requires-clause-limits
+add_content-requires-clause-limits t c = subst IsWithinLimits (append-nil c.args.chosen.now) (c.requires.limits [] tt)
+
+pub loop-part-init : goal.loop-part-init
+loop-part-init t c = c.in_ok-add_content.ensures.counted c.args.left
+
+pub returns-in_err-next-clause-large : goal.returns-in_err-next-clause-large
+returns-in_err-next-clause-large t c = λ large start content leads.
+    large-lead start content c.loop-part.part (numerators c.args.terms.now) leads
+    (c.in_err-next.ensures.large (ap Err (error_is _ _ _ c.from_residual-in_err-next.ensures.1 large)))
+
+pub loop-part-preserved-then-is_empty : goal.loop-part-preserved-then-is_empty
+loop-part-preserved-then-is_empty t c =
+    let part = c.loop-part.part in
+    let same : part ≡ part + 1 - 1 = omega arith in
+    let none = c.is_empty.ensures.0 c.if-is_empty.true in
+    subst (λ k. CountsContents (numerators c.args.terms.now) c.args.chosen.now k c.args.left (numerators c.args.list.now) (numerators c.loop-part.list)) same
+    (counts-missed (numerators c.args.terms.now) (numerators c.in_ok-next.next) c.args.chosen.now part c.args.left (numerators c.args.list.now) (numerators c.loop-part.list)
+    c.loop-part.auto.part (no_terms c.in_ok-next.next none) c.in_ok-next.ensures.value c.requires.fresh c.loop-part.invariant)
+
+pub add_contents-requires : goal.add_contents-requires
+add_contents-requires t c =
+    let part = c.loop-part.part in
+    let longer = c.deref.ensures.value ∙ c.in_ok-longer.ensures in
+    let from = c.loop-part.auto.part in
+    let within = c.loop-part-test.true in
+    let most = c.min-part-end.ensures in
+    let low = c.requires.low in (
+      omega arith,
+      (
+        limits-longer c.args.chosen.now c.deref.result.now part c.args.largest c.args.left longer from (omega arith) (omega arith) c.requires.limits,
+        (
+          omega arith,
+          fresh-longer (numerators c.args.terms.now) c.args.chosen.now c.deref.result.now part c.args.left (numerators c.args.list.now) (numerators c.loop-part.list)
+              longer from c.requires.fresh c.loop-part.invariant,
+        ),
+      ),
+    )
+
+pub returns-in_err-add_contents-clause-large : goal.returns-in_err-add_contents-clause-large
+returns-in_err-add_contents-clause-large t c = λ large start content leads.
+    c.in_err-add_contents.ensures.large (ap Err (error_is _ _ _ c.from_residual-in_err-add_contents.ensures.1 large)) start (content ++ c.loop-part.part ∷ [])
+    (leads-next start content c.loop-part.part (numerators c.args.terms.now) c.in_ok-next.next leads c.in_ok-next.ensures.table c.in_ok-next.ensures.value)
+
+pub loop-part-preserved : goal.loop-part-preserved
+loop-part-preserved t c =
+    let part = c.loop-part.part in
+    let same : part ≡ part + 1 - 1 = omega arith in
+    let low : part ≤ c.args.left = omega (arith, c.loop-part-test.true, c.min-part-end.ensures) in
+    subst (λ k. CountsContents (numerators c.args.terms.now) c.args.chosen.now k c.args.left (numerators c.args.list.now) (numerators c.add_contents.new.list)) same
+    (counts-step (numerators c.args.terms.now) (numerators c.in_ok-next.next) c.args.chosen.now c.deref.result.now part c.args.left
+    (numerators c.args.list.now) (numerators c.loop-part.list) (numerators c.add_contents.new.list)
+    (c.deref.ensures.value ∙ c.in_ok-longer.ensures) c.loop-part.auto.part low c.in_ok-next.ensures.value c.loop-part.invariant c.in_ok-add_contents.ensures.counted)
+
+pub returns-clause-counted : goal.returns-clause-counted
+returns-clause-counted t c =
+    counts-all (numerators c.args.terms.now) c.args.chosen.now (c.loop-part.part - 1) c.args.largest c.args.left (numerators c.args.list.now) (numerators c.loop-part.list)
+    (omega (arith, c.loop-part-test.false, c.min-part-end.ensures, c.loop-part.auto.part-end)) c.loop-part.invariant

@@ -1,0 +1,4 @@
+pub mod Clearing
+pub mod Strips
+pub mod Contents
+pub mod TargetLaws

@@ -1,0 +1,13 @@
+//! Expressions with their fractions cleared, as lists of terms in m: no fraction is met on the way.
+ghost use Rattle.std.specs.Prelude.{◌<◌, ◌^◌};
+
+use whole_lists::Whole;
+
+/// A list of terms in m that is an expression times its denominator.
+#[derive(Drop)]
+pub(crate) struct Cleared {
+    pub(crate) terms: Whole,
+    pub(crate) den: u128,
+    ghost positive: { 0 < den },
+    ghost small: { den < 2 ^ 127 },
+}

@@ -1,0 +1,77 @@
+//! The target m: numbers, atoms, negations, sums and products as cleared lists.
+ghost use Rattle.std.specs.Prelude.{ℕ};
+ghost use Rattle.expand_in_monomials.specs.Clearing.{ClearsTo, IsHeavy};
+ghost use Rattle.expand_in_monomials.specs.TargetLaws.{clears-difference, heavy-whole};
+
+use crate::atoms::atom;
+use crate::cleared::Cleared;
+use calc_base::{Basis, SumFault};
+use coeff_rings::Int;
+use expression_evaluation::Target;
+use partitions::Partition;
+use sparse_polys::times_whole_in_m;
+use std::alloc::Global;
+use whole_lists::{is_whole, single, sum_of};
+use whole_numbers::{common_denominator, denominator_product};
+
+/// The target m.
+#[derive(Clone, Copy)]
+pub(crate) struct Monomials;
+
+impl Target for Monomials {
+    type Value = Cleared;
+
+    ghost limit = { 20 };
+
+    ghost stands = { λ _. ClearsTo };
+
+    ghost heavy = { λ _. IsHeavy };
+
+    fn quotient(&self, alloc: Global, num: i128, den: u128) -> Result<Cleared, SumFault> {
+        let terms = single(alloc, &[], num)?;
+        Ok(Cleared { terms, den })
+    }
+
+    fn atom(&self, alloc: Global, basis: Basis, label: &Partition) -> Result<Cleared, SumFault> {
+        atom(alloc, basis, label)
+    }
+
+    fn negated(&self, _: Global, inner: Cleared) -> Result<Cleared, SumFault> {
+        let Cleared { terms, den } = inner;
+        is_whole(&terms);
+        let terms = terms.scale(Int::new(-1))?;
+        is_whole(&terms);
+        Ok(Cleared { terms, den })
+    }
+
+    /// Over the least common denominator.
+    fn added(&self, _: Global, left: Cleared, right: Cleared) -> Result<Cleared, SumFault> {
+        let Some(common) = common_denominator(left.den, right.den) else {
+            return Err(SumFault::Large);
+        };
+        let terms = sum_of(left.terms, common.from_left, right.terms, common.from_right)?;
+        Ok(Cleared {
+            terms,
+            den: common.den,
+        })
+    }
+
+    fn multiplied(
+        &self,
+        alloc: Global,
+        left: Cleared,
+        right: Cleared,
+    ) -> Result<Cleared, SumFault> {
+        let Some(den) = denominator_product(left.den, right.den) else {
+            return Err(SumFault::Large);
+        };
+        is_whole(&left.terms);
+        is_whole(&right.terms);
+        let terms = times_whole_in_m(alloc, &left.terms, &right.terms)?;
+        Ok(Cleared { terms, den })
+    }
+
+    ghost differs = { λ _. clears-difference };
+
+    ghost grows = { λ _. heavy-whole };
+}

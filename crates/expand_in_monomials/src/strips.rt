@@ -1,0 +1,61 @@
+//! Horizontal strips taken off a shape.
+ghost use Rattle.std.specs.Prelude.{◌≡◌, ◌≤◌, ◌++◌, map, IfOk, OnOk};
+ghost use Rattle.sym_model.specs.Partition.{IsPartition, part, without_last_zeros};
+ghost use Rattle.partitions.specs.Limits.{IsWithinLimits};
+ghost use Rattle.schur_laws.specs.Kostka.{strips_off};
+ghost use Rattle.expand_in_monomials.specs.Strips.{AreRows};
+
+use calc_base::NoMemory;
+use partitions::Partition;
+use std::alloc::Global;
+
+/// The length of the first row; 0 where there is none.
+fn first_row(rows: &[u16]) -> u16
+    ensures { result ≡ part rows.now 1 }
+{
+    rows.first().copied().unwrap_or(0)
+}
+
+/// Adds to the list what is left of the rows when a horizontal strip of k cells is taken off, each below the rows of `above`,
+/// which stay as they are. The first row has so many cells.
+fn add_strips(
+    alloc: Global,
+    k: u16,
+    rows: &[u16],
+    above: &mut Vec<u16>,
+    shapes: &mut Vec<Partition>,
+) -> Result<(), NoMemory>
+    requires shape { IsPartition rows.now }
+    requires rows { AreRows (above.old.items ++ rows.now) }
+    requires few { k ≤ part rows.now 1 }
+    ensures same { OnOk result (above.new.items ≡ above.old.items) }
+    ensures shapes { OnOk result (shapes.new.items
+        ≡ shapes.old.items ++ map (λ rest. without_last_zeros (above.old.items ++ rest)) (strips_off k rows.now)) }
+{
+    let [row, below @ ..] = rows else {
+        shapes.push(Partition::from_valid_numbers(alloc, above)?)?;
+        return Ok(());
+    };
+    // From the rows below no more cells can be taken than their first one has.
+    let next = first_row(below);
+    for cells in k.saturating_sub(next)..k.min(*row - next) + 1 {
+        above.push(*row - cells)?;
+        add_strips(alloc, k - cells, below, above, shapes)?;
+        above.pop();
+    }
+    Ok(())
+}
+
+/// What is left of the shape when a horizontal strip of k cells is taken off, each once.
+pub(crate) fn strips_off(alloc: Global, k: u16, rows: &[u16]) -> Result<Vec<Partition>, NoMemory>
+    requires { IsWithinLimits rows.now }
+    ensures { IfOk result (λ shapes. shapes.items ≡ strips_off k rows.now) }
+{
+    let mut shapes = Vec::new(alloc);
+    if k > first_row(rows) {
+        return Ok(shapes);
+    }
+    let mut above = Vec::with_capacity(alloc, rows.len())?;
+    add_strips(alloc, k, rows, &mut above, &mut shapes)?;
+    Ok(shapes)
+}

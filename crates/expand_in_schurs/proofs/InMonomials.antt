@@ -1,0 +1,100 @@
+-- A list in Schur polynomials, with its fractions cleared, that goes into m.
+--     common-next            a common denominator of one term more
+--     within-whole           the labels of the cleared list
+--     expansion-in_monomials what its list in m stands for, divided again
+use Rattle.std.proofs.Common.{◌≡◌, ◌⊎◌, ℕ, ◌<◌, ◌≤◌, List, [], ◌∷◌, ◌++◌, sym, ◌∙◌, ap, subst, inl, inr, arith, ℤ, pos, ◌*ℤ◌}
+use Rattle.std.specs.Prelude.{nat_abs}
+use Rattle.std.specs.Int.{◌∣◌}
+use Rattle.std.proofs.lemmas.Bool.{and_parts}
+use Rattle.std.proofs.lemmas.Nat.Gcd.{dvd_trans}
+use Rattle.sym_model.specs.Sum.{Among}
+use Rattle.sym_model.specs.Canonical.{is_reduced}
+use Rattle.sym_model.specs.LabelLimits.{is_label}
+use Rattle.sym_model.specs.Partition.{size}
+use Rattle.sym_model.specs.Polynomial.{Poly, Same, coefficient, pair, scale}
+use Rattle.sym_model.specs.Schur.{schur}
+use Rattle.sym_model.specs.Expansion.{monomials, schurs, Fraction, Terms, denominators, value, IsExpansionOf}
+use Rattle.sym_model.specs.Expression.{lcm}
+use Rattle.sym_model.specs.WholeTerms.{WholeTerms, combined, numerators}
+use Rattle.sym_model.proofs.CanonicalLists.{each_term-among}
+use Rattle.sym_model.proofs.Orders.{is_reduced-tells}
+use Rattle.sym_model.proofs.Polynomials.{pair_scale, pair_determined, same_from_pair}
+use Rattle.sym_model.proofs.Sums.{Among_from_append}
+use Rattle.sym_model.proofs.WholeTerms.{pair-combined}
+use Rattle.sparse_polys.specs.MonomialProducts.{IsCommonDenominator}
+use Rattle.monomial_laws.specs.ExpressionTerms.{IsList, over}
+use Rattle.monomial_laws.proofs.DividedTerms.{labels_of, among_or_not, over-missing, expansion_divided}
+use Rattle.monomial_laws.proofs.WeightBounds.{lcm-left, lcm-right, lcm-positive}
+use Rattle.whole_lists.specs.LabelSizes.{AreWithin}
+use Rattle.whole_lists.specs.Tables.{IsTable}
+use Rattle.whole_lists.proofs.Quotients.{Quotients, IsDivided-quotients}
+use Rattle.whole_lists.proofs.WholeLists.{coefficient-numerators, found-among}
+use Rattle.expand_in_schurs.specs.SchurLists.{sum_at}
+use Rattle.expand_in_schurs.proofs.Expansions.{expansion-tells, through}
+use native.Mathlib.Nat.{dvd-mul_left}
+
+-- ---- a common denominator
+
+pub common-none : (done : Terms (List ℕ)) → done ≡ [] → IsCommonDenominator 1 done
+common-none done e = record { positive = omega arith; multiple = λ t m. absurd (subst (λ (l : Terms (List ℕ)). Among t l) e m) }
+
+pub common-next : (q r : ℕ) (done : Terms (List ℕ)) (k : List ℕ) (c : Fraction) → 0 < c.1 → r ≡ lcm q c.1 → IsCommonDenominator q done → IsCommonDenominator r (done ++ (k, c) ∷ [])
+common-next q r done k c some e is = record {
+  positive = subst (λ n. 0 < n) (sym e) (lcm-positive q c.1 is.positive some);
+  multiple = λ t m. subst (λ n. t.1.1 ∣ n) (sym e) (by t (Among_from_append t done ((k, c) ∷ []) m));
+}
+  where
+    left : q ∣ lcm q c.1
+    left = subst (λ n. q ∣ n) (lcm-left q c.1 is.positive) (dvd-mul_left q _)
+
+    right : c.1 ∣ lcm q c.1
+    right = subst (λ n. c.1 ∣ n) (lcm-right q c.1) (dvd-mul_left c.1 _)
+
+    by : (t : List ℕ × Fraction) → Among t done ⊎ Among t ((k, c) ∷ []) → t.1.1 ∣ lcm q c.1
+    by t (inl m) = dvd_trans t.1.1 (is.multiple t m) left
+    by t (inr (inl i)) = subst (λ (u : List ℕ × Fraction). u.1.1 ∣ lcm q c.1) (sym i) right
+    by t (inr (inr n)) = absurd n
+
+-- ---- the cleared list
+
+pub within-whole : (d q : ℕ) (list terms : Terms (List ℕ)) → IsTable terms → AreWithin d list → Same (numerators terms) (over q list) → AreWithin d terms
+within-whole d q list terms is within same t m = by (among_or_not t.0 list)
+  where
+    by : ((u : List ℕ × Fraction) × Among u list × (u.0 ≡ t.0)) ⊎ (Among t.0 (labels_of list) → ⊥) → size t.0 ≤ d
+    by (inl u) = subst (λ l. size l ≤ d) u.2 (within u.0 u.1)
+    by (inr none) =
+        absurd
+        (let tests = and_parts (is_reduced t.1) (is_label t.0) (each_term-among _ terms is.proper t m) in
+        let numerator : coefficient (numerators terms) t.0 ≡ t.1.0 =
+        coefficient-numerators terms is.distinct t.0 ∙ ap (λ (x : Fraction). x.0) (found-among terms is.distinct t m) in
+        let zero = ap nat_abs (sym numerator ∙ same t.0 ∙ over-missing q list t.0 none) in
+        let some = (is_reduced-tells t.1 tests.0).nonzero in
+        omega arith)
+
+-- ---- what the list in m stands for
+
+pub expansion-in_monomials : (list answer : Terms (List ℕ)) (W A : WholeTerms) (q : ℕ) → IsCommonDenominator q list → Same W (over q list)
+    → IsList A (λ n. combined (λ label. schur label n) W) → IsTable answer → Quotients q answer A
+    → (n : ℕ) (f : Poly) (d : ℕ) → IsExpansionOf schurs list n f d → IsExpansionOf monomials answer n f d
+expansion-in_monomials list answer W A q common same made table quotients n f d h = record {
+  positive = told.positive;
+  equal =
+      same_from_pair (scale (pos d) (value monomials answer n)) (scale (pos (denominators answer)) f)
+      (λ φ.
+      pair_scale (pos d) (value monomials answer n) φ
+      ∙ through q (denominators answer) d (pair (value monomials answer n) φ) (pair (g n) φ) (pair f φ) common.positive
+      (sym (pair_scale (pos q) (value monomials answer n) φ)
+      ∙ pair_determined (scale (pos q) (value monomials answer n)) (scale (pos (denominators answer)) (g n)) φ told.equal
+      ∙ pair_scale (pos (denominators answer)) (g n) φ)
+      (ap (λ z. pos d *ℤ z) (summed φ) ∙ expansion-tells list n f d q common h φ)
+      ∙ sym (pair_scale (pos (denominators answer)) f φ));
+}
+  where
+    g : ℕ → Poly
+    g k = combined (λ label. schur label k) W
+
+    told : IsExpansionOf monomials answer n (g n) q
+    told = expansion_divided q A answer g (IsDivided-quotients q A answer common.positive table quotients) made n
+
+    summed : (φ : List ℕ → ℤ) → pair (g n) φ ≡ sum_at q list n φ
+    summed φ = pair-combined (λ label. schur label n) W φ ∙ pair_determined W (over q list) (λ label. pair (schur label n) φ) same

@@ -1,0 +1,154 @@
+-- Products of lists of Schur polynomials, pair by pair.
+use Rattle.std.proofs.Common.{◌≡◌, ℕ, ◌*◌, ◌<◌, List, [], ◌∷◌, ◌++◌, length, sym, ◌∙◌, ap, subst, refl, arith, ℤ, pos, ◌+ℤ◌, ◌*ℤ◌}
+use Rattle.std.proofs.lemmas.Int.{ints}
+use Rattle.std.proofs.lemmas.List.{map-append}
+use Rattle.std.specs.Int.{◌∣◌}
+use Rattle.coeff_rings.specs.Fractions.{InLowestTerms, scaled, whole, fraction_product}
+use Rattle.coeff_rings.specs.Proved.Fractions.{InLowestTerms-whole}
+use Rattle.coeff_rings.specs.Proved.Cleared.{product-cleared}
+use Rattle.sym_model.specs.Polynomial.{Poly, pair, one, scale, join, times}
+use Rattle.sym_model.specs.Schur.{schur}
+use Rattle.sym_model.specs.Expansion.{schurs, Fraction, Terms, denominators, cleared, value, IsExpansionOf}
+use Rattle.sym_model.specs.WholeTerms.{WholeTerms, AreWhole, numerators}
+use Rattle.sym_model.proofs.Ring.{ring, product-one, product_assoc}
+use Rattle.sym_model.proofs.Polynomials.{pair_ext, pair_exchange, pair_plus, pair_scale, pair_times, pair_determined, times_respects}
+use Rattle.sym_model.proofs.PolynomialLaws.{times-scale, scale-times, one-times, times-one}
+use Rattle.sym_model.proofs.WholeTerms.{pair-combined, value_by-whole, denominators_of_whole}
+use Rattle.sparse_polys.specs.Combination.{terms_of}
+use Rattle.monomial_laws.specs.ExpressionTerms.{over}
+use Rattle.sparse_polys.proofs.Expansions.{common-denominators}
+use Rattle.whole_lists.specs.Tables.{IsTable}
+use Rattle.expand_in_schurs.specs.SchurLists.{Adds, product_at, row_at, products_at}
+use Rattle.expand_in_schurs.proofs.Expansions.{pair_cleared, expansion-from}
+use Rattle.expand_in_schurs.proofs.Tables.{common_of}
+use Rattle.expand_in_schurs.proofs.OneTerms.{schur-nothing}
+use Rattle.monomial_laws.proofs.SchurMajorants.{In-schur}
+use lib.IntN.{+ℤ_idl, +ℤ_idr}
+use native.Mathlib.Nat.{mul-pos, dvd-mul_left}
+
+-- ---- one term after another
+
+over-append : (q : ℕ) (first second : Terms (List ℕ)) → over q (first ++ second) ≡ over q first ++ over q second
+over-append q first second = map-append (λ (t : List ℕ × Fraction). (t.0, scaled q t.1)) first second
+
+pair_next : (q : ℕ) (terms : Terms (List ℕ)) (k : List ℕ) (c : Fraction) (w : List ℕ → ℤ) → pair (over q (terms ++ (k, c) ∷ [])) w ≡ pair (over q terms) w +ℤ scaled q c *ℤ w k
+pair_next q terms k c w =
+    ap (λ (l : WholeTerms). pair l w) (over-append q terms ((k, c) ∷ []))
+    ∙ pair_plus (over q terms) ((k, scaled q c) ∷ []) w
+    ∙ ap (λ z. pair (over q terms) w +ℤ z) (+ℤ_idr (scaled q c *ℤ w k))
+
+pub terms_next : {R : Type 0} (value : R → Fraction) (done : List (List ℕ × R)) (k : List ℕ) (v : R) → terms_of value (done ++ (k, v) ∷ []) ≡ terms_of value done ++ (k, value v) ∷ []
+terms_next {R = R} value done k v = map-append (λ (p : List ℕ × R). (p.0, value p.1)) done ((k, v) ∷ [])
+
+pub row_next : (left : List ℕ) (e : ℕ) (done : Terms (List ℕ)) (k : List ℕ) (v : Fraction) (z : ℤ) (n : ℕ) (φ : List ℕ → ℤ)
+    → z *ℤ row_at left e done n φ +ℤ (z *ℤ scaled e v) *ℤ product_at left k n φ ≡ z *ℤ row_at left e (done ++ (k, v) ∷ []) n φ
+row_next left e done k v z n φ =
+    distribute z (row_at left e done n φ) (scaled e v) (product_at left k n φ)
+    ∙ ap (λ x. z *ℤ x) (sym (pair_next e done k v (λ label. product_at left label n φ)))
+  where
+    distribute : (z x s w : ℤ) → z *ℤ x +ℤ (z *ℤ s) *ℤ w ≡ z *ℤ (x +ℤ s *ℤ w)
+    distribute z x s w = simp ring
+
+pub products_next : (d : ℕ) (done : Terms (List ℕ)) (k : List ℕ) (v : Fraction) (e : ℕ) (right : Terms (List ℕ)) (n : ℕ) (φ : List ℕ → ℤ)
+    → products_at d done e right n φ +ℤ scaled d v *ℤ row_at k e right n φ ≡ products_at d (done ++ (k, v) ∷ []) e right n φ
+products_next d done k v e right n φ = sym (pair_next d done k v (λ label. row_at label e right n φ))
+
+-- ---- the product of two Schur polynomials, as a list with whole coefficients
+
+pub listed_product : (terms : Terms (List ℕ)) (n : ℕ) (f : Poly) → AreWhole terms → IsExpansionOf schurs terms n f 1
+    → (φ : List ℕ → ℤ) → pair (numerators terms) (λ label. pair (schur label n) φ) ≡ pair f φ
+listed_product terms n f w h φ =
+    let one = denominators_of_whole terms w in
+    let told = pair_determined (scale (pos 1) (value schurs terms n)) (scale (pos (denominators terms)) f) φ h.equal in
+    let left = pair_scale (pos 1) (value schurs terms n) φ in
+    let right = pair_scale (pos (denominators terms)) f φ in
+    let unit = ap (λ (m : ℕ). pos m *ℤ pair f φ) one in
+    let listed : pair (value schurs terms n) φ ≡ pair (numerators terms) (λ label. pair (schur label n) φ) =
+    ap (λ g. pair g φ) (value_by-whole (λ label. schur label n) terms w) ∙ pair-combined (λ label. schur label n) (numerators terms) φ in
+    omega (arith, ints)
+
+-- ---- all pairs
+
+module _ (D E : ℕ) (left right : Terms (List ℕ)) (n : ℕ) (φ : List ℕ → ℤ) where
+  row-times : (l : List ℕ) → pair (schur l n) (λ α. pair (cleared (λ label. schur label n) E right) (λ β. φ (join α β))) ≡ row_at l E right n φ
+  row-times l =
+      pair_exchange (schur l n) (cleared (λ label. schur label n) E right) (λ α β. φ (join α β))
+      ∙ pair_cleared E right n (λ β. pair (schur l n) (λ α. φ (join α β)))
+      ∙ pair_ext (over E right) (λ r. pair (schur r n) (λ β. pair (schur l n) (λ α. φ (join α β)))) (λ r. product_at l r n φ)
+      (λ r. pair_exchange (schur r n) (schur l n) (λ β α. φ (join α β)) ∙ sym (pair_times (schur l n) (schur r n) φ))
+
+  pub pair_products : pair (times (cleared (λ label. schur label n) D left) (cleared (λ label. schur label n) E right)) φ ≡ products_at D left E right n φ
+  pair_products =
+      pair_times (cleared (λ label. schur label n) D left) (cleared (λ label. schur label n) E right) φ
+      ∙ pair_cleared D left n (λ α. pair (cleared (λ label. schur label n) E right) (λ β. φ (join α β)))
+      ∙ pair_ext (over D left) (λ l. pair (schur l n) (λ α. pair (cleared (λ label. schur label n) E right) (λ β. φ (join α β)))) (λ l. row_at l E right n φ) row-times
+
+-- factors with numbers in front
+both_scaled : (a b : ℤ) (f g : Poly) (φ : List ℕ → ℤ) → pair (times (scale a f) (scale b g)) φ ≡ a *ℤ (b *ℤ pair (times f g) φ)
+both_scaled a b f g φ =
+    sym (pair_determined (scale a (times f (scale b g))) (times (scale a f) (scale b g)) φ (scale-times a f (scale b g)))
+    ∙ pair_scale a (times f (scale b g)) φ
+    ∙ ap (λ z. a *ℤ z) (pair_determined (times f (scale b g)) (scale b (times f g)) φ (times-scale b f g) ∙ pair_scale b (times f g) φ)
+
+pub product-list : (left right both : Terms (List ℕ)) → IsTable left → IsTable right → IsTable both
+    → Adds (denominators left * denominators right) [] (λ n φ. products_at (denominators left) left (denominators right) right n φ) both
+    → (n : ℕ) (f g : Poly) (p q : ℕ) → IsExpansionOf schurs left n f p → IsExpansionOf schurs right n g q → IsExpansionOf schurs both n (times f g) (p * q)
+product-list left right both is also it adds n f g p q h k =
+    let D = denominators left in
+    let E = denominators right in
+    let a = common-denominators left is in
+    let b = common-denominators right also in
+    let V = value schurs left n in
+    let W = value schurs right n in
+    expansion-from both n (times f g) (p * q) (denominators left * denominators right) it
+    (common_of (denominators left * denominators right) both (mul-pos a.positive b.positive) it adds.cleared)
+    (λ φ.
+    ap (λ z. pos (p * q) *ℤ z)
+    (adds.sums n φ ∙ +ℤ_idl (products_at (denominators left) left (denominators right) right n φ) ∙ sym (pair_products (denominators left) (denominators right) left right n φ))
+    ∙ product_assoc (pos p) (pos q) (pair (times V W) φ)
+    ∙ sym (both_scaled (pos p) (pos q) V W φ)
+    ∙ pair_determined (times (scale (pos p) V) (scale (pos q) W)) (times (scale (pos D) f) (scale (pos E) g)) φ
+    (times_respects (scale (pos p) V) (scale (pos D) f) (scale (pos q) W) (scale (pos E) g) h.equal k.equal)
+    ∙ both_scaled (pos D) (pos E) f g φ
+    ∙ sym (product_assoc (pos D) (pos E) (pair (times f g) φ)))
+
+-- ---- a number times a whole coefficient
+
+pub counted : (q : ℕ) (c p : Fraction) (v : ℤ) → InLowestTerms c → p ≡ fraction_product c (whole v) → 0 < q → c.1 ∣ q → (p.1 ∣ q) × (scaled q p ≡ scaled q c *ℤ v)
+counted q c p v lc e some cd =
+    let one : 1 ∣ 1 = dvd-mul_left 1 1 in
+    let u = product-cleared q 1 c (whole v) lc (InLowestTerms-whole v) some (omega arith) cd one in
+    let k : q * 1 ≡ q = omega arith in (
+      subst (λ (r : Fraction). r.1 ∣ q) (sym e) (subst (λ m. (fraction_product c (whole v)).1 ∣ m) k u.0),
+      ap (scaled q) e ∙ ap (λ m. scaled m (fraction_product c (whole v))) (sym k) ∙ u.1 ∙ ap (λ z. scaled q c *ℤ z) (product-one v),
+    )
+
+pub listed_next : (done : WholeTerms) (k : List ℕ) (v z s : ℤ) → s ≡ z *ℤ v → (n : ℕ) (φ : List ℕ → ℤ)
+    → z *ℤ pair done (λ label. pair (schur label n) φ) +ℤ s *ℤ pair (schur k n) φ ≡ z *ℤ pair (done ++ (k, v) ∷ []) (λ label. pair (schur label n) φ)
+listed_next done k v z s e n φ =
+    ap (λ x. z *ℤ pair done (λ label. pair (schur label n) φ) +ℤ x *ℤ pair (schur k n) φ) e
+    ∙ distribute z (pair done (λ label. pair (schur label n) φ)) v (pair (schur k n) φ)
+    ∙ ap (λ x. z *ℤ x)
+    (sym (pair_plus done ((k, v) ∷ []) (λ label. pair (schur label n) φ)
+    ∙ ap (λ x. pair done (λ label. pair (schur label n) φ) +ℤ x) (+ℤ_idr (v *ℤ pair (schur k n) φ))))
+  where
+    distribute : (z x s w : ℤ) → z *ℤ x +ℤ (z *ℤ s) *ℤ w ≡ z *ℤ (x +ℤ s *ℤ w)
+    distribute z x s w = simp ring
+
+-- ---- the Schur polynomial of the empty partition is 1
+
+no_rows : (parts : List ℕ) → length parts ≡ 0 → [] ≡ parts
+no_rows [] h = refl
+no_rows (k ∷ parts) h = absurd (omega arith)
+
+pub nothing_left : (left right : List ℕ) → length left ≡ 0 → (n : ℕ) (φ : List ℕ → ℤ) → pair (schur right n) φ ≡ product_at left right n φ
+nothing_left left right h n φ =
+    sym (pair_determined (times (one n) (schur right n)) (schur right n) φ (one-times n (schur right n) (In-schur right n)))
+    ∙ ap (λ f. pair (times f (schur right n)) φ) (sym (schur-nothing n))
+    ∙ ap (λ (l : List ℕ). pair (times (schur l n) (schur right n)) φ) (no_rows left h)
+
+pub nothing_right : (left right : List ℕ) → length right ≡ 0 → (n : ℕ) (φ : List ℕ → ℤ) → pair (schur left n) φ ≡ product_at left right n φ
+nothing_right left right h n φ =
+    sym (pair_determined (times (schur left n) (one n)) (schur left n) φ (times-one n (schur left n) (In-schur left n)))
+    ∙ ap (λ f. pair (times (schur left n) f) φ) (sym (schur-nothing n))
+    ∙ ap (λ (l : List ℕ). pair (times (schur left n) (schur l n)) φ) (no_rows right h)

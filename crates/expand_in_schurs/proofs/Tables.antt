@@ -1,0 +1,150 @@
+-- Tables in Schur polynomials by what their look-ups find.
+--     cleared_at            a common denominator clears each look-up
+--     sum_at-found          the sum over the terms is told by the look-ups
+--     Adds-term             one term more
+--     Adds-then, -none      one after another
+--     sum_at-sum, -multiple the sum of two tables, and a multiple of one
+use Rattle.std.proofs.Common.{◌≡◌, ◌⊎◌, ℕ, ◌*◌, ◌<◌, Bool, true, false, cond, List, [], ◌∷◌, ◌++◌, sym, ◌∙◌, ap, ap₂, subst, refl, inl, inr, arith, ℤ, pos, ◌+ℤ◌, ◌*ℤ◌}
+use Rattle.std.specs.Prelude.{nat_eq, Some}
+use Rattle.std.specs.Int.{◌∣◌}
+use Rattle.std.specs.Map.{lookup}
+use Rattle.std.specs.Option.{unwrap_or}
+use Rattle.std.specs.Cmp.Lexicographic.{pointwise}
+use Rattle.std.proofs.lemmas.Int.{ints}
+use Rattle.coeff_rings.specs.Fractions.{InLowestTerms, scaled, fraction_sum}
+use Rattle.coeff_rings.specs.Proved.Cleared.{sum-cleared, product-cleared}
+use Rattle.sym_model.specs.Sum.{Among}
+use Rattle.sym_model.specs.Polynomial.{coefficient, pair, plus, scale}
+use Rattle.sym_model.specs.Schur.{schur}
+use Rattle.sym_model.specs.Expansion.{Fraction, Terms}
+use Rattle.sym_model.specs.WholeTerms.{WholeTerms}
+use Rattle.sym_model.proofs.Exponents.{same_from, same_apart, same_or_not}
+use Rattle.sym_model.proofs.Polynomials.{coefficient_plus, coefficient_scale, pair_determined, pair_plus, pair_scale}
+use Rattle.sparse_polys.specs.Combination.{HasMoreAt, IsMultipleOf, IsSumOf}
+use Rattle.monomial_laws.specs.ExpressionTerms.{over}
+use Rattle.sparse_polys.specs.MonomialProducts.{coefficient_at, AreCleared, IsCommonDenominator}
+use Rattle.sparse_polys.proofs.Accumulating.{lowest_at}
+use Rattle.sparse_polys.proofs.Expansions.{coefficient-over, divides_terms}
+use Rattle.whole_lists.proofs.WholeLists.{equal_from, equal_apart}
+use Rattle.whole_lists.specs.Tables.{IsTable}
+use Rattle.expand_in_schurs.specs.SchurLists.{Adds, sum_at}
+use native.Mathlib.Nat.{mul-pos, dvd-mul_left}
+use lib.IntN.{+ℤ_idr, *ℤ_comm}
+
+pub cleared_at : (q : ℕ) (terms : Terms (List ℕ)) → ((t : List ℕ × Fraction) → Among t terms → t.1.1 ∣ q) → AreCleared q terms
+cleared_at q [] h ν = subst (λ n. 1 ∣ n) (let e : q * 1 ≡ q = omega arith in e) (dvd-mul_left 1 q)
+cleared_at q (t ∷ terms) h ν = by (pointwise nat_eq ν t.0) (cleared_at q terms (λ u m. h u (inr m)) ν)
+  where
+    by : (b : Bool) → (coefficient_at terms ν).1 ∣ q → (unwrap_or (cond b (Some t.1) (lookup (pointwise nat_eq ν) terms)) (pos 0, 1)).1 ∣ q
+    by true r = h t (inl refl)
+    by false r = r
+
+-- and what clears each look-up of a table is a common denominator
+pub common_of : (q : ℕ) (terms : Terms (List ℕ)) → 0 < q → IsTable terms → AreCleared q terms → IsCommonDenominator q terms
+common_of q terms some is h = record { positive = some; multiple = divides_terms q terms is (λ ν p. h ν) }
+
+pub sum_at-found : (q : ℕ) (terms : Terms (List ℕ)) (W : WholeTerms) → IsTable terms → ((ν : List ℕ) → scaled q (coefficient_at terms ν) ≡ coefficient W ν)
+    → (n : ℕ) (φ : List ℕ → ℤ) → sum_at q terms n φ ≡ pair W (λ label. pair (schur label n) φ)
+sum_at-found q terms W is h n φ = pair_determined (over q terms) W (λ label. pair (schur label n) φ) (λ ν. coefficient-over q terms is ν ∙ h ν)
+
+-- ---- one term more
+
+more_at : (q : ℕ) (old new : Terms (List ℕ)) (label : List ℕ) (c : Fraction) → IsTable old → InLowestTerms c → 0 < q → c.1 ∣ q → AreCleared q old
+    → HasMoreAt (pointwise nat_eq) old label c new
+    → (ν : List ℕ) → ((coefficient_at new ν).1 ∣ q) × (scaled q (coefficient_at new ν) ≡ coefficient (over q old ++ (label, scaled q c) ∷ []) ν)
+more_at q old new label c is lc some cd cleared more ν = by (same_or_not label ν)
+  where
+    before : coefficient (over q old) ν ≡ scaled q (coefficient_at old ν)
+    before = coefficient-over q old is ν
+
+    by : (label ≡ ν) ⊎ (label ≡ ν → ⊥) → ((coefficient_at new ν).1 ∣ q) × (scaled q (coefficient_at new ν) ≡ coefficient (over q old ++ (label, scaled q c) ∷ []) ν)
+    by (inl e) =
+        let found : coefficient_at new ν ≡ fraction_sum (coefficient_at old ν) c =
+        more ν ∙ ap (λ b. cond b (fraction_sum (coefficient_at old label) c) (coefficient_at old ν)) (equal_from label ν e) ∙ ap (λ l. fraction_sum (coefficient_at old l) c) e in
+        let u = sum-cleared q (coefficient_at old ν) c (lowest_at old is ν) lc some (cleared ν) cd in (
+          subst (λ (r : Fraction). r.1 ∣ q) (sym found) u.0,
+          ap (scaled q) found ∙ u.1
+              ∙ sym (coefficient_plus (over q old) ((label, scaled q c) ∷ []) ν
+              ∙ ap₂ ◌+ℤ◌ before (ap (λ b. cond b (scaled q c) (pos 0) +ℤ pos 0) (same_from label ν e) ∙ +ℤ_idr (scaled q c))),
+        )
+    by (inr d) =
+        let found : coefficient_at new ν ≡ coefficient_at old ν =
+        more ν ∙ ap (λ b. cond b (fraction_sum (coefficient_at old label) c) (coefficient_at old ν)) (equal_apart label ν d) in (
+          subst (λ (r : Fraction). r.1 ∣ q) (sym found) (cleared ν),
+          ap (scaled q) found
+              ∙ sym (coefficient_plus (over q old) ((label, scaled q c) ∷ []) ν
+              ∙ ap₂ ◌+ℤ◌ before (ap (λ b. cond b (scaled q c) (pos 0) +ℤ pos 0) (same_apart label ν d))
+              ∙ +ℤ_idr (scaled q (coefficient_at old ν))),
+        )
+
+pub Adds-term : (q : ℕ) (old new : Terms (List ℕ)) (label : List ℕ) (c : Fraction) → IsTable old → IsTable new → InLowestTerms c → 0 < q → c.1 ∣ q → AreCleared q old
+    → HasMoreAt (pointwise nat_eq) old label c new → Adds q old (λ n φ. scaled q c *ℤ pair (schur label n) φ) new
+Adds-term q old new label c is also lc some cd cleared more = record {
+  cleared = λ ν. (more_at q old new label c is lc some cd cleared more ν).0;
+  sums =
+      λ n φ.
+      sum_at-found q new (over q old ++ (label, scaled q c) ∷ []) also (λ ν. (more_at q old new label c is lc some cd cleared more ν).1) n φ
+      ∙ pair_plus (over q old) ((label, scaled q c) ∷ []) (λ label. pair (schur label n) φ)
+      ∙ ap (λ z. sum_at q old n φ +ℤ z) (+ℤ_idr (scaled q c *ℤ pair (schur label n) φ));
+}
+
+-- ---- one after another
+
+pub Adds-then : (q : ℕ) (first second third : Terms (List ℕ)) (a b s : ℕ → (List ℕ → ℤ) → ℤ) → ((n : ℕ) (φ : List ℕ → ℤ) → a n φ +ℤ b n φ ≡ s n φ)
+    → Adds q first a second → Adds q second b third → Adds q first s third
+Adds-then q first second third a b s e x y = record {
+  cleared = y.cleared;
+  sums =
+      λ n φ.
+      let i = x.sums n φ in
+      let j = y.sums n φ in
+      let k = e n φ in
+      omega (arith, ints);
+}
+
+pub Adds-none : (q : ℕ) (old : Terms (List ℕ)) (a : ℕ → (List ℕ → ℤ) → ℤ) → ((n : ℕ) (φ : List ℕ → ℤ) → a n φ ≡ pos 0) → AreCleared q old → Adds q old a old
+Adds-none q old a e cleared = record { cleared = cleared; sums = λ n φ. let i = e n φ in omega (arith, ints) }
+
+pub Adds-same : (q : ℕ) (old new : Terms (List ℕ)) (a b : ℕ → (List ℕ → ℤ) → ℤ) → ((n : ℕ) (φ : List ℕ → ℤ) → a n φ ≡ b n φ) → Adds q old a new → Adds q old b new
+Adds-same q old new a b e x = record { cleared = x.cleared; sums = λ n φ. x.sums n φ ∙ ap (λ z. sum_at q old n φ +ℤ z) (e n φ) }
+
+-- ---- sums and multiples
+
+module _ (q : ℕ) (first second both : Terms (List ℕ)) (is : IsTable first) (also : IsTable second) (it : IsTable both)
+    (c : IsCommonDenominator q first) (d : IsCommonDenominator q second) (sums : IsSumOf (pointwise nat_eq) first second both) where
+  sum_found : (ν : List ℕ) → ((coefficient_at both ν).1 ∣ q) × (scaled q (coefficient_at both ν) ≡ scaled q (coefficient_at first ν) +ℤ scaled q (coefficient_at second ν))
+  sum_found ν =
+      let u = sum-cleared q (coefficient_at first ν) (coefficient_at second ν) (lowest_at first is ν) (lowest_at second also ν) c.positive
+      (cleared_at q first c.multiple ν) (cleared_at q second d.multiple ν) in
+      (subst (λ (r : Fraction). r.1 ∣ q) (sym (sums ν)) u.0, ap (scaled q) (sums ν) ∙ u.1)
+
+  pub common-sum : IsCommonDenominator q both
+  common-sum = common_of q both c.positive it (λ ν. (sum_found ν).0)
+
+  pub sum_at-sum : (n : ℕ) (φ : List ℕ → ℤ) → sum_at q both n φ ≡ sum_at q first n φ +ℤ sum_at q second n φ
+  sum_at-sum n φ =
+      sum_at-found q both (plus (over q first) (over q second)) it
+      (λ ν.
+      (sum_found ν).1
+      ∙ sym (coefficient_plus (over q first) (over q second) ν ∙ ap₂ ◌+ℤ◌ (coefficient-over q first is ν) (coefficient-over q second also ν)))
+      n φ
+      ∙ pair_plus (over q first) (over q second) (λ label. pair (schur label n) φ)
+
+module _ (q e : ℕ) (c : Fraction) (list multiple : Terms (List ℕ)) (is : IsTable list) (it : IsTable multiple) (lc : InLowestTerms c) (some : 0 < e) (cd : c.1 ∣ e)
+    (common : IsCommonDenominator q list) (products : IsMultipleOf (pointwise nat_eq) list c multiple) where
+  multiple_found : (ν : List ℕ) → ((coefficient_at multiple ν).1 ∣ (q * e)) × (scaled (q * e) (coefficient_at multiple ν) ≡ scaled q (coefficient_at list ν) *ℤ scaled e c)
+  multiple_found ν =
+      let u = product-cleared q e (coefficient_at list ν) c (lowest_at list is ν) lc common.positive some (cleared_at q list common.multiple ν) cd in
+      (subst (λ (r : Fraction). r.1 ∣ (q * e)) (sym (products ν)) u.0, ap (scaled (q * e)) (products ν) ∙ u.1)
+
+  pub common-multiple : IsCommonDenominator (q * e) multiple
+  common-multiple = common_of (q * e) multiple (mul-pos common.positive some) it (λ ν. (multiple_found ν).0)
+
+  pub sum_at-multiple : (n : ℕ) (φ : List ℕ → ℤ) → sum_at (q * e) multiple n φ ≡ scaled e c *ℤ sum_at q list n φ
+  sum_at-multiple n φ =
+      sum_at-found (q * e) multiple (scale (scaled e c) (over q list)) it
+      (λ ν.
+      (multiple_found ν).1 ∙ *ℤ_comm (scaled q (coefficient_at list ν)) (scaled e c)
+      ∙ sym (coefficient_scale (scaled e c) (over q list) ν ∙ ap (λ z. scaled e c *ℤ z) (coefficient-over q list is ν)))
+      n φ
+      ∙ pair_scale (scaled e c) (over q list) (λ label. pair (schur label n) φ)

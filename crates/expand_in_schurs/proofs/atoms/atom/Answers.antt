@@ -1,0 +1,16 @@
+use Rattle.expand_in_schurs.proofs.atoms.atom.Goals as goal
+
+pub returns-in-M : goal.returns-in-M
+returns-in-M c = rw c.in-M.is c.from_monomial.ensures
+
+pub returns-in-E : goal.returns-in-E
+returns-in-E c = rw c.in-E.is c.from_parts.ensures
+
+pub returns-in-H : goal.returns-in-H
+returns-in-H c = rw c.in-H.is c.from_parts-in-H.ensures
+
+pub returns-in-P : goal.returns-in-P
+returns-in-P c = rw c.in-P.is c.from_parts-in-P.ensures
+
+pub returns-in-S : goal.returns-in-S
+returns-in-S c = rw c.in-S.is c.from_schur.ensures

@@ -1,0 +1,12 @@
+use Rattle.std.proofs.Common.{sym, ap}
+use Rattle.sym_model.specs.Expression.{atom}
+use Rattle.expression_reading.specs.Trees.{basis_of}
+use Rattle.expression_evaluation.proofs.Making.{done, failed}
+use Rattle.expand_in_schurs.specs.Operands.{IsOperand, MayBeLarge}
+use Rattle.expand_in_schurs.proofs.operations.SchursTarget.atom.Goals as goal
+
+pub returns-in_err-label : goal.returns-in_err-label
+returns-in_err-label c = failed IsOperand MayBeLarge _ _ _ c.from_residual.ensures.0 c.from_residual.ensures.1 (λ large. tt)
+
+pub returns : goal.returns
+returns c = done IsOperand MayBeLarge _ _ (ap (atom (basis_of c.args.basis)) (sym c.in_ok-label.ensures.ok))

@@ -1,0 +1,18 @@
+use Rattle.std.proofs.Common.{◌≡◌, ◌<◌, ℕ, ◌++◌, ◌*ℤ◌}
+use Rattle.std.specs.Int.{◌∣◌}
+use Rattle.std.specs.Vec.Iter.{into_iter_items}
+use Rattle.coeff_rings.specs.Fractions.{scaled}
+use Rattle.sym_model.specs.Polynomial.{pair}
+use Rattle.sym_model.specs.Schur.{schur}
+use Rattle.sparse_polys.specs.MonomialProducts.{AreCleared}
+use Rattle.expand_in_schurs.specs.SchurLists.{Adds}
+use Rattle.expand_in_schurs.proofs.products.add_pair.Given as goal
+
+-- the terms so far are added, and they and the rest are all
+abbrev pub invariant-loop-shape : goal.invariant-loop-shape
+invariant-loop-shape l = record {
+  sums :
+      (q : ℕ) → 0 < q → l.c.1 ∣ q → AreCleared q l.fn.sum
+      → Adds q l.fn.sum (λ n φ. scaled q l.c *ℤ pair l.yielded (λ label. pair (schur label n) φ)) l.sum;
+  so_far : l.yielded ++ into_iter_items l.shape-iterator ≡ into_iter_items l.initial.shape-iterator;
+}

@@ -1,0 +1,3 @@
+pub mod SchurLists
+pub mod Operands
+pub mod TargetLaws

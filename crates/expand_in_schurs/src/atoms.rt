@@ -1,0 +1,92 @@
+//! Numbers and atoms as lists of terms in Schur polynomials.
+ghost use Rattle.std.specs.Prelude.{◌<◌, ◌≤◌, ◌^◌, ◌≤ℤ◌, ℕ, pos, nat_abs, IfOk};
+ghost use Rattle.sym_model.specs.Bases.{monomial, product_over};
+ghost use Rattle.sym_model.specs.Expansion.{schurs, basis_polynomial, IsExpansionOf};
+ghost use Rattle.sym_model.specs.Expression.{fraction};
+ghost use Rattle.sym_model.specs.Partition.{size};
+ghost use Rattle.sym_model.specs.Polynomial.{one, scale};
+ghost use Rattle.sym_model.specs.Schur.{schur};
+ghost use Rattle.partitions.specs.Limits.{IsWithinLimits};
+ghost use Rattle.expression_reading.specs.Trees.{basis_of};
+ghost use Rattle.whole_lists.specs.Families.{polynomial_of};
+ghost use Rattle.expand_in_schurs.specs.SchurLists.{IsOneTerm, StandsFor};
+
+use crate::strips::times_parts;
+use calc_base::{Basis, SumFault, Weight};
+use change_from_monomials::to_basis;
+use coeff_rings::{Frac, Int, Scalar};
+use partitions::Partition;
+use sparse_polys::Lin;
+use std::alloc::Global;
+use whole_lists::Family;
+use whole_numbers::quotient_of;
+
+/// The list of one term, and of none where the coefficient is 0.
+fn single(alloc: Global, parts: &[u16], c: Frac) -> Result<Lin<Partition, Frac>, SumFault>
+    requires { IsWithinLimits parts.now }
+    ensures { IfOk result (IsOneTerm parts.now c) }
+{
+    let mut list = Lin::new(alloc);
+    list.add_term(Partition::from_valid_parts(alloc, parts)?, c)?;
+    Ok(list)
+}
+
+/// A number over another.
+pub(crate) fn quotient(
+    alloc: Global,
+    num: i128,
+    den: u128,
+) -> Result<Lin<Partition, Frac>, SumFault>
+    requires sign { pos 0 ≤ℤ num }
+    requires den { (0 < den) × (den < 2 ^ 127) }
+    ensures { IfOk result (StandsFor (fraction (nat_abs num) den)) }
+{
+    single(alloc, &[], quotient_of(Int::new(num), den))
+}
+
+/// A monomial polynomial, by the change of basis.
+fn from_monomial(alloc: Global, label: &Partition) -> Result<Lin<Partition, Frac>, SumFault>
+    requires { size label.now ≤ 20 }
+    ensures { IfOk result (λ list. (n : ℕ) → IsExpansionOf schurs list n (monomial label.now n) 1) }
+{
+    let list = single(alloc, label.parts(), Frac::one())?;
+    to_basis(alloc, &list, Weight { num: 1, den: 1 }, Basis::S)
+}
+
+/// A Schur polynomial.
+fn from_schur(alloc: Global, label: &Partition) -> Result<Lin<Partition, Frac>, SumFault>
+    ensures { IfOk result (λ list. (n : ℕ) → IsExpansionOf schurs list n (schur label.now n) 1) }
+{
+    single(alloc, label.parts(), Frac::one())
+}
+
+/// The product of e_k, h_k or p_k over the parts k of a partition.
+fn from_parts(
+    alloc: Global,
+    family: Family,
+    label: &Partition,
+) -> Result<Lin<Partition, Frac>, SumFault>
+    requires { size label.now ≤ 20 }
+    ensures { IfOk result (λ list. (n : ℕ) → IsExpansionOf schurs list n (product_over (polynomial_of family) label.now n) 1) }
+{
+    let one = single(alloc, &[], Frac::one())?;
+    times_parts(alloc, family, one, label.parts())
+}
+
+/// A partition in a basis.
+pub(crate) fn atom(
+    alloc: Global,
+    basis: Basis,
+    label: &Partition,
+) -> Result<Lin<Partition, Frac>, SumFault>
+    requires { size label.now ≤ 20 }
+    ensures { IfOk result (λ list. (n : ℕ) → IsExpansionOf schurs list n (basis_polynomial (basis_of basis) label.now n) 1) }
+{
+    match basis {
+        Basis::M => from_monomial(alloc, label),
+        Basis::E => from_parts(alloc, Family::Elementary, label),
+        Basis::H => from_parts(alloc, Family::Complete, label),
+        Basis::P => from_parts(alloc, Family::PowerSum, label),
+        Basis::S => from_schur(alloc, label),
+    }
+}

@@ -1,0 +1,106 @@
+//! The expansion of an expression in m, by way of Schur polynomials where that is faster.
+ghost use Rattle.std.specs.Prelude.{ℕ, ◌<◌, ◌^◌, ◌≤◌, IfOk, IfSome, IsErrOf};
+ghost use Rattle.sym_model.specs.Expansion.{monomials, schurs, IsExpansionOf};
+ghost use Rattle.sym_model.specs.Expression.{cleared_value, denominator};
+ghost use Rattle.sym_model.specs.Polynomial.{Poly};
+ghost use Rattle.sym_model.specs.Weight.{weight};
+ghost use Rattle.sparse_polys.specs.MonomialProducts.{IsCommonDenominator};
+ghost use Rattle.expression_reading.specs.Trees.{tree_of};
+
+use crate::operations::converted;
+use calc_base::{Basis, NoMemory, SumFault};
+use change_from_monomials::{denominator_of, greatest_size, whole_terms};
+use coeff_rings::Frac;
+use expand_in_monomials::{schurs_to_monomials, to_monomial};
+use expression_evaluation::postorder;
+use expression_reading::{Expr, Formula};
+use partitions::Partition;
+use sparse_polys::Lin;
+use std::alloc::Global;
+use whole_lists::{divided, is_whole};
+use whole_numbers::common_denominator;
+
+/// The most cells of a label that goes into m.
+const MAX_CELLS: u16 = 512;
+
+/// A common denominator of the coefficients, the least; none where it is 2^127 or more.
+fn denominator_of_all(list: &Lin<Partition, Frac>) -> Option<u128>
+    ensures { IfSome result (λ den. (den < 2 ^ 127) × IsCommonDenominator den list.now) }
+{
+    let mut den = 1;
+    for (_, c) in list.iter() {
+        let Some(common) = common_denominator(den, denominator_of(*c)) else {
+            return None;
+        };
+        den = common.den;
+    }
+    Some(den)
+}
+
+/// The list, read as an expansion in s, as an expansion in m: its fractions are cleared first, and each coefficient is divided at the
+/// end. It is refused as `Large` where a number on the way is: the caller then goes another way.
+fn in_monomials(
+    alloc: Global,
+    list: &Lin<Partition, Frac>,
+) -> Result<Lin<Partition, Frac>, SumFault>
+    ensures { IfOk result (λ answer. (n : ℕ) (f : Poly) (q : ℕ)
+        → IsExpansionOf schurs list.now n f q → IsExpansionOf monomials answer n f q) }
+{
+    let cells = greatest_size(list);
+    if cells > MAX_CELLS {
+        return Err(SumFault::Large);
+    }
+    let Some(den) = denominator_of_all(list) else {
+        return Err(SumFault::Large);
+    };
+    let terms = whole_terms(alloc, list, den)?;
+    is_whole(&terms);
+    let answer = schurs_to_monomials(alloc, &terms, cells)?;
+    divided(alloc, &answer, den)
+}
+
+/// The expansion by way of Schur polynomials. It is refused as `Large` where a number on the way is.
+fn by_schurs(alloc: Global, formula: &Formula) -> Result<Lin<Partition, Frac>, SumFault>
+    ensures { let e = tree_of formula.now.tree in
+        IfOk result (λ list. (n : ℕ) → IsExpansionOf monomials list n (cleared_value e n) (denominator e)) }
+{
+    let list = converted(alloc, formula.tree())?;
+    in_monomials(alloc, &list)
+}
+
+/// Whether each atom is in e, h or s, and not all in e. Then the way by Schur polynomials is the faster one; either way gives the
+/// same expansion.
+fn goes_by_schurs(alloc: Global, tree: &Expr) -> Result<bool, NoMemory> {
+    let mut found = false;
+    for node in postorder(alloc, tree)? {
+        if let Expr::Atom { basis, .. } = node {
+            if *basis == Basis::M || *basis == Basis::P {
+                return Ok(false);
+            }
+            found = found || *basis != Basis::E;
+        }
+    }
+    Ok(found)
+}
+
+/// The expansion of a formula in m, in every number of variables: by way of Schur polynomials where that is faster, and else by
+/// `to_monomial`.
+///
+/// It is refused as `Large` only where the weight for the target m is 2^127 or more.
+pub fn to_monomial_by_schurs(
+    alloc: Global,
+    formula: &Formula,
+) -> Result<Lin<Partition, Frac>, SumFault>
+    ensures value { let e = tree_of formula.now.tree in
+        IfOk result (λ list. (n : ℕ) → IsExpansionOf monomials list n (cleared_value e n) (denominator e)) }
+    ensures large { IsErrOf result SumFault.Large → 2 ^ 127 ≤ weight monomials (tree_of formula.now.tree) }
+{
+    if !goes_by_schurs(alloc, formula.tree())? {
+        return to_monomial(alloc, formula);
+    }
+    match by_schurs(alloc, formula) {
+        Ok(list) => Ok(list),
+        Err(SumFault::NoMemory) => Err(SumFault::NoMemory),
+        Err(SumFault::Large) => to_monomial(alloc, formula),
+    }
+}

@@ -1,0 +1,116 @@
+//! The target s: numbers, atoms, negations, sums and products as lists of terms in Schur polynomials.
+ghost use Rattle.std.specs.Prelude.{ℕ, ◌≤◌, IsTrue, IfOk};
+ghost use Rattle.sym_model.specs.Expression.{Tree, degree, product};
+ghost use Rattle.expression_reading.specs.Trees.{tree_of, has_no_signs};
+ghost use Rattle.expand_in_schurs.specs.SchurLists.{StandsFor};
+ghost use Rattle.expand_in_schurs.specs.Operands.{IsOperand, MayBeLarge};
+ghost use Rattle.expand_in_schurs.specs.TargetLaws.{operand-difference};
+
+use crate::atoms::{atom, quotient};
+use crate::operand::Operand;
+use crate::products::product;
+use crate::strips::{factors_of, times_parts};
+use calc_base::{Basis, SumFault};
+use change_from_monomials::is_table;
+use coeff_rings::{Frac, Ring};
+use expression_evaluation::{Target, evaluate};
+use expression_reading::Expr;
+use partitions::Partition;
+use sparse_polys::Lin;
+use std::alloc::Global;
+
+/// The target s. It refuses as `Large` where a number on the way is.
+#[derive(Clone, Copy)]
+pub(crate) struct Schurs;
+
+impl Target for Schurs {
+    type Value = Operand;
+
+    ghost limit = { 20 };
+
+    ghost stands = { λ _. IsOperand };
+
+    ghost heavy = { λ _. MayBeLarge };
+
+    fn quotient(&self, alloc: Global, num: i128, den: u128) -> Result<Operand, SumFault> {
+        let list = quotient(alloc, num, den)?;
+        Ok(Operand::Expanded { list })
+    }
+
+    fn atom(&self, _: Global, basis: Basis, label: &Partition) -> Result<Operand, SumFault> {
+        let label = label.copy()?;
+        Ok(Operand::Atom { basis, label })
+    }
+
+    fn negated(&self, alloc: Global, inner: Operand) -> Result<Operand, SumFault> {
+        let terms = list_of(alloc, inner)?;
+        is_table(&terms);
+        let list = terms.scale(Frac::from_whole(-1))?;
+        Ok(Operand::Expanded { list })
+    }
+
+    fn added(&self, alloc: Global, left: Operand, right: Operand) -> Result<Operand, SumFault> {
+        let first = list_of(alloc, left)?;
+        let second = list_of(alloc, right)?;
+        is_table(&first);
+        is_table(&second);
+        let list = first.add_all(&second)?;
+        Ok(Operand::Expanded { list })
+    }
+
+    fn multiplied(
+        &self,
+        alloc: Global,
+        left: Operand,
+        right: Operand,
+    ) -> Result<Operand, SumFault> {
+        let list = product_of(alloc, left, right)?;
+        Ok(Operand::Expanded { list })
+    }
+
+    ghost differs = { λ _. operand-difference };
+
+    ghost grows = { λ _ e f _ _. tt };
+}
+
+/// The list of an operand.
+fn list_of(alloc: Global, operand: Operand) -> Result<Lin<Partition, Frac>, SumFault>
+    requires { (e : Tree) × IsOperand e operand × (degree e ≤ 20) }
+    ensures { (e : Tree) → IsOperand e operand → IfOk result (StandsFor e) }
+{
+    match operand {
+        Operand::Atom { basis, label } => atom(alloc, basis, &label),
+        Operand::Expanded { list } => Ok(list),
+    }
+}
+
+/// The product of two operands. Where one is in e, h or p, the other is multiplied by it part by part.
+fn product_of(
+    alloc: Global,
+    left: Operand,
+    right: Operand,
+) -> Result<Lin<Partition, Frac>, SumFault>
+    requires left { (e : Tree) × IsOperand e left × (degree e ≤ 20) }
+    requires right { (e : Tree) × IsOperand e right × (degree e ≤ 20) }
+    ensures { (e f : Tree) → IsOperand e left → IsOperand f right → IfOk result (StandsFor (product e f)) }
+{
+    if let Some((family, label)) = factors_of(&right) {
+        return times_parts(alloc, family, list_of(alloc, left)?, label.parts());
+    }
+    if let Some((family, label)) = factors_of(&left) {
+        return times_parts(alloc, family, list_of(alloc, right)?, label.parts());
+    }
+    let first = list_of(alloc, left)?;
+    let second = list_of(alloc, right)?;
+    product(alloc, &first, &second)
+}
+
+/// The expression in Schur polynomials. It is refused as `Large` where a number on the way is: the caller then goes another way.
+pub(crate) fn converted(alloc: Global, tree: &Expr) -> Result<Lin<Partition, Frac>, SumFault>
+    requires plain { IsTrue (has_no_signs tree.now) }
+    requires low { degree (tree_of tree.now) ≤ 20 }
+    ensures { IfOk result (StandsFor (tree_of tree.now)) }
+{
+    let value = evaluate(alloc, &Schurs, tree)?;
+    list_of(alloc, value)
+}

@@ -1,0 +1,4 @@
+pub mod Evaluations
+pub mod Parts
+pub mod Making
+pub mod Laws

@@ -1,0 +1,10 @@
+pub mod TreeFacts
+pub mod WeightFacts
+pub mod GrowthFacts
+pub mod FirstOffences
+pub mod ScanFacts
+pub mod ScanRuns
+pub mod BuildFacts
+pub mod BuildRuns
+pub mod JudgeFacts
+pub mod SignJudging

@@ -1,0 +1,31 @@
+-- The plain offences and marks that those of the reader stand for (this project's own).
+use Rattle.std.specs.Prelude.{cond, Option, Some, None}
+use Rattle.sym_model.specs.ExpressionOffence.{OffenceKind as PlainKind, literal, range, shape, Mark as PlainMark, value, denominator, entry, opening, is_offence, WordOffence as PlainOffence}
+use Rattle.expression_reading.specs.declared.offence.Kind.{Kind}
+use Rattle.expression_reading.specs.declared.offence.Kind.TheVariants.{Literal, Range, Shape}
+use Rattle.expression_reading.specs.declared.offence.Mark.{Mark}
+use Rattle.expression_reading.specs.declared.offence.Mark.TheVariants.{Value, Denominator, Entry, Opening}
+use Rattle.expression_reading.specs.declared.offence.Offence.{Offence}
+
+-- the plain kind
+abbrev pub kind_in : Kind → PlainKind
+kind_in Literal = literal
+kind_in Range = range
+kind_in Shape = shape
+
+-- the plain offence
+abbrev pub offence_in : Offence → PlainOffence
+offence_in o = (o.byte, kind_in o.kind)
+
+-- the plain mark
+abbrev pub mark_in : Mark → PlainMark
+mark_in (Value n) = value n
+mark_in (Denominator n) = denominator n
+mark_in (Entry before n) = entry before.count before.last n
+mark_in (Opening depth) = opening depth
+
+-- the first kind of offence at a mark, if there is one
+abbrev pub first_kind : PlainMark → Option PlainKind
+first_kind m =
+    cond (is_offence m literal) (Some literal)
+    (cond (is_offence m range) (Some range) (cond (is_offence m shape) (Some shape) None))

@@ -1,0 +1,137 @@
+-- What one byte changes of what the reader keeps of a word (this project's own).
+use Rattle.std.specs.Prelude.{◌≡◌, ℕ, zero, suc, ◌+◌, ◌-◌, ◌*◌, ◌^◌, ◌==◌, ◌≤◌, ◌<◌, nat_lt, min, Bool, true, false, ◌||◌, ◌&&◌, cond, Option, Some, None, option_map, List, [], ◌∷◌, ◌⊎◌, Result, Ok, Err}
+use Rattle.sym_model.specs.Sum.{each}
+use Rattle.sym_model.specs.Phrase.{Phrase, SpellsPhrase, BeginsExpression}
+use Rattle.sym_model.specs.ExpressionOffence.{marks, offences_at, first_of, Mark as PlainMark, entry, WordOffence as PlainOffence, earlier}
+use Rattle.sym_model.specs.LongestPrefix.{IsLongestPrefix}
+use Rattle.expression_laws.specs.LeftToRight.{Symbol, digit, plus_sign, minus_sign, star, slash, opens, closes, opens_list, closes_list, comma, letter_of}
+use Rattle.expression_reading.specs.declared.offence.Mark.{Mark}
+use Rattle.expression_reading.specs.declared.offence.Mark.TheVariants.{Value, Denominator as Zeroable, Entry as Listed, Opening}
+use Rattle.expression_reading.specs.Offences.{offence_in, mark_in, first_kind}
+use Rattle.expression_reading.specs.declared.scan.Scan.{Scan}
+use Rattle.expression_reading.specs.declared.scan.Mode.{Mode}
+use Rattle.expression_reading.specs.declared.scan.Mode.TheVariants.{Start, Operand, Number, Slash, Denominator, Letter, List as Listing, Entry, Whole}
+
+-- the value of a number, or 2^127 where it is past that
+abbrev pub capped : ℕ → ℕ
+capped n = min n (2 ^ 127)
+
+-- a digit of the symbol is one
+abbrev pub IsSoundDigit : Symbol → Type 0
+IsSoundDigit (digit byte) = 48 ≤ byte
+IsSoundDigit _ = Unit {0}
+
+-- one number more can be counted
+abbrev pub HasRoom : Mode → Type 0
+HasRoom (Entry before start value) = before.count + 1 < 2 ^ 64
+HasRoom _ = Unit {0}
+
+-- the mode after a whole factor
+abbrev pub mode_after_factor : Symbol → Option Mode
+mode_after_factor plus_sign = Some Operand
+mode_after_factor minus_sign = Some Operand
+mode_after_factor star = Some Operand
+mode_after_factor closes = Some Whole
+mode_after_factor _ = None
+
+-- the mode where a factor is awaited
+abbrev pub mode_before_factor : ℕ → Symbol → Option Mode
+mode_before_factor at (digit byte) = Some (Number at (byte - 48))
+mode_before_factor at (letter_of basis) = Some Letter
+mode_before_factor at opens = Some Start
+mode_before_factor at _ = None
+
+-- the mode after a symbol at a byte, or none where the symbol is at fault
+abbrev pub mode_after : Mode → ℕ → Symbol → Option Mode
+mode_after Start at minus_sign = Some Operand
+mode_after Start at s = mode_before_factor at s
+mode_after Operand at s = mode_before_factor at s
+mode_after (Number start value) at (digit byte) = Some (Number start (capped (10 * value + (byte - 48))))
+mode_after (Number start value) at slash = Some Slash
+mode_after (Number start value) at s = mode_after_factor s
+mode_after Slash at (digit byte) = Some (Denominator at (byte - 48))
+mode_after Slash at s = None
+mode_after (Denominator start value) at (digit byte) = Some (Denominator start (capped (10 * value + (byte - 48))))
+mode_after (Denominator start value) at s = mode_after_factor s
+mode_after Letter at opens_list = Some (Listing (record { count = 0; last = None }))
+mode_after Letter at s = None
+mode_after (Listing before) at (digit byte) = Some (Entry before at (byte - 48))
+mode_after (Listing before) at closes_list = cond (before.count == 0) (Some Whole) None
+mode_after (Listing before) at s = None
+mode_after (Entry before start value) at (digit byte) = Some (Entry before start (capped (10 * value + (byte - 48))))
+mode_after (Entry before start value) at comma = Some (Listing (record { count = before.count + 1; last = Some value }))
+mode_after (Entry before start value) at closes_list = Some Whole
+mode_after (Entry before start value) at s = None
+mode_after Whole at s = mode_after_factor s
+
+-- how many parentheses are open after a symbol, or none where one is closed that is not open
+abbrev pub depth_after : ℕ → Symbol → Option ℕ
+depth_after depth opens = Some (depth + 1)
+depth_after zero closes = None
+depth_after (suc depth) closes = Some depth
+depth_after depth _ = Some depth
+
+-- where a number that the mode holds begins, and what it is
+abbrev pub number_mark : Mode → Option (ℕ × Mark)
+number_mark (Number start n) = Some (start, Value n)
+number_mark (Denominator start n) = Some (start, Zeroable n)
+number_mark (Entry before start n) = Some (start, Listed before n)
+number_mark _ = None
+
+-- the mark that a symbol completes: a number that ends before it, or a parenthesis
+abbrev pub mark_before : Mode → ℕ → ℕ → Symbol → Option (ℕ × Mark)
+mark_before mode depth at (digit byte) = None
+mark_before mode depth at opens = Some (at, Opening (depth + 1))
+mark_before mode depth at _ = number_mark mode
+
+-- whether a mark is a number of an atom that is past every degree
+abbrev pub is_high : PlainMark → Bool
+is_high (entry count before n) = nat_lt 20 n
+is_high _ = false
+
+-- before the first byte
+abbrev pub scan_start : Scan
+scan_start = record { mode = Start; depth = 0; first = None; is_high = false }
+
+-- the first offence at a mark, if there is one
+abbrev pub first_at : ℕ × PlainMark → Option PlainOffence
+first_at m = option_map (λ kind. (m.0, kind)) (first_kind m.1)
+
+-- what a mark, if there is one, adds to what was found before
+abbrev pub Sees : Scan → Option (ℕ × Mark) → Scan → Type 0
+Sees before None after = (after.first ≡ before.first) × (after.is_high ≡ before.is_high)
+Sees before (Some m) after =
+    (option_map offence_in after.first ≡ earlier (option_map offence_in before.first) (first_at (m.0, mark_in m.1)))
+    × (after.is_high ≡ (before.is_high || is_high (mark_in m.1)))
+
+-- what a symbol at a byte makes of what was kept, or nothing where it is at fault
+abbrev pub StepsTo : Scan → ℕ → Symbol → Option Scan → Type 0
+StepsTo before at s None = (mode_after before.mode at s ≡ None) ⊎ (depth_after before.depth s ≡ None)
+StepsTo before at s (Some after) =
+    (mode_after before.mode at s ≡ Some after.mode) × (depth_after before.depth s ≡ Some after.depth)
+    × Sees before (mark_before before.mode before.depth at s) after
+
+-- whether a mode has a whole factor
+abbrev pub has_factor : Mode → Bool
+has_factor (Number start n) = true
+has_factor (Denominator start n) = true
+has_factor Whole = true
+has_factor _ = false
+
+-- whether the bytes so far are an expression
+abbrev pub is_whole : Scan → Bool
+is_whole s = has_factor s.mode && (s.depth == 0)
+
+-- whether some mark is a number of an atom that is past every degree
+abbrev pub any_high : List (ℕ × PlainMark) → Bool
+any_high [] = false
+any_high (m ∷ ms) = is_high m.1 || any_high ms
+
+-- the offences of an expression and whether an atom has a number past every degree, or where a word goes wrong
+abbrev pub IsScanned : List ℕ → Result Scan ℕ → Type 0
+IsScanned word (Ok scan) =
+    (phrase : Phrase) × SpellsPhrase word phrase
+    × (option_map offence_in scan.first ≡ first_of (each offences_at (marks 0 0 phrase)))
+    × (scan.is_high ≡ any_high (marks 0 0 phrase))
+IsScanned word (Err byte) =
+    ((phrase : Phrase) → SpellsPhrase word phrase → ⊥) × IsLongestPrefix BeginsExpression word byte

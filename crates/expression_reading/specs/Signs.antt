@@ -1,0 +1,12 @@
+-- What an expression that has a minus or a fraction is refused as (this project's own).
+use Rattle.std.specs.Prelude.{ℕ, nat_lt, cond}
+use Rattle.expression_reading.specs.declared.reading.ExpressionFault.{ExpressionFault}
+use Rattle.expression_reading.specs.declared.reading.ExpressionFault.TheVariants.{Syntax, Literal, Range, Shape, NoMemory}
+
+-- the refusal where it is no later than a minus or a fraction at the byte, and else that
+abbrev pub refused_by_sign : ℕ → ExpressionFault → ExpressionFault
+refused_by_sign sign (Syntax byte) = Syntax byte
+refused_by_sign sign (Literal byte) = cond (nat_lt sign byte) (Shape sign) (Literal byte)
+refused_by_sign sign (Range byte) = cond (nat_lt sign byte) (Shape sign) (Range byte)
+refused_by_sign sign (Shape byte) = cond (nat_lt sign byte) (Shape sign) (Shape byte)
+refused_by_sign sign NoMemory = NoMemory

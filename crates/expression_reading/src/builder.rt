@@ -1,0 +1,578 @@
+//! The tree of a word that is known to be an expression, built from left to right with no recursion.
+ghost use Rattle.std.specs.Prelude.{◌≡◌, ℕ, ◌+◌, ◌*◌, ◌^◌, ◌<◌, ◌≤◌, IfOk, None, [], ◌∷◌, ◌++◌, option_map, true};
+ghost use Rattle.expression_laws.specs.LeftToRight.{join_factor, join_term, join, at, awaited, closed, in_number, in_entry, opens, closes, minus_sign, other, outermost, start, found, after_factor, before_factor, in_list_step, star, step};
+ghost use Rattle.expression_reading.specs.ScanSteps.{IsSoundDigit};
+ghost use Rattle.expression_reading.specs.Symbols.{symbol_in};
+ghost use Rattle.expression_reading.specs.Trees.{basis_of};
+ghost use Rattle.expression_reading.specs.Building.{builds, built_of, terms_in, factors_in, part_in, opened_in, state_of, state_in, AreEntries, IsFine, IsBuildable};
+ghost use Rattle.sym_model.specs.Phrase.{Phrase, SpellsPhrase, tree};
+
+use crate::Expr;
+use crate::scan::extended;
+use crate::symbol::{Symbol, symbol_of};
+use calc_base::{Basis, NoMemory};
+use partitions::Partition;
+use std::alloc::Global;
+
+/// What stands before a term: nothing, a minus at the front, or an expression and its operator.
+#[derive(Drop)]
+pub(crate) enum LeadingTerms {
+    NoTerm,
+    Negating,
+    Adding(Box<Expr>),
+    Subtracting(Box<Expr>),
+}
+
+/// What stands before a factor: nothing, or a term and a star.
+#[derive(Drop)]
+pub(crate) enum LeadingFactors {
+    NoFactor,
+    Multiplying(Box<Expr>),
+}
+
+/// The term that a factor ends.
+fn term_of(alloc: Global, before: LeadingFactors, factor: Expr) -> Result<Expr, NoMemory>
+    ensures { IfOk result (λ e. built_of e ≡ join_factor builds (factors_in before) (built_of factor)) }
+{
+    match before {
+        LeadingFactors::NoFactor => Ok(factor),
+        LeadingFactors::Multiplying(left) => Ok(Expr::Product {
+            left,
+            right: Box::new(alloc, factor)?,
+        }),
+    }
+}
+
+/// The expression that a term ends.
+fn expression_of(alloc: Global, before: LeadingTerms, term: Expr) -> Result<Expr, NoMemory>
+    ensures { IfOk result (λ e. built_of e ≡ join_term builds (terms_in before) (built_of term)) }
+{
+    match before {
+        LeadingTerms::NoTerm => Ok(term),
+        LeadingTerms::Negating => Ok(Expr::Negation {
+            inner: Box::new(alloc, term)?,
+        }),
+        LeadingTerms::Adding(left) => Ok(Expr::Sum {
+            left,
+            right: Box::new(alloc, term)?,
+        }),
+        LeadingTerms::Subtracting(left) => Ok(Expr::Difference {
+            left,
+            right: Box::new(alloc, term)?,
+        }),
+    }
+}
+
+/// The expression that a factor ends.
+fn joined(
+    alloc: Global,
+    terms: LeadingTerms,
+    factors: LeadingFactors,
+    factor: Expr,
+) -> Result<Expr, NoMemory>
+    ensures { IfOk result (λ e. built_of e ≡ join builds (terms_in terms) (factors_in factors) (built_of factor)) }
+{
+    expression_of(alloc, terms, term_of(alloc, factors, factor)?)
+}
+
+/// What is there of a factor, and of an atom's list the numbers before a comma.
+#[derive(Drop)]
+pub(crate) enum Part {
+    Awaited,
+    Number(u128),
+    Slash(u128),
+    Denominator(u128, u128),
+    Letter(Basis),
+    List(Basis, Vec<u16>),
+    Entry(Basis, Vec<u16>, u128),
+    Closed(Expr),
+}
+
+/// What stands before a factor, back to the last open parenthesis.
+#[derive(Drop)]
+pub(crate) struct Frame {
+    pub(crate) terms: LeadingTerms,
+    pub(crate) factors: LeadingFactors,
+}
+
+/// What has been built: the part of a factor, what stands before it, and the same for each parenthesis that is open.
+#[derive(Drop)]
+pub(crate) struct Builder {
+    pub(crate) part: Part,
+    pub(crate) frame: Frame,
+    pub(crate) opened: Vec<Frame>,
+}
+
+/// Lets go of what has been built where a symbol is at fault. By a call, so that the proof of a function that refuses a symbol
+/// does not go through all that has been built.
+fn refused(frame: Frame, opened: Vec<Frame>) -> Option<Builder>
+    ensures { result ≡ None }
+{
+    drop(frame);
+    drop(opened);
+    None
+}
+
+/// Lets go of what has been built where memory was refused.
+fn let_go(frame: Frame, opened: Vec<Frame>) -> NoMemory {
+    drop(frame);
+    drop(opened);
+    NoMemory
+}
+
+/// A number as an expression.
+fn number(value: u128) -> Expr
+    requires { value < 2 ^ 127 }
+    ensures { built_of result ≡ builds.numeral_of value }
+{
+    Expr::Number { num: value as i128 }
+}
+
+/// A fraction as an expression.
+fn fraction(num: u128, den: u128) -> Expr
+    requires num { num < 2 ^ 127 }
+    requires den { den < 2 ^ 127 }
+    ensures { built_of result ≡ builds.ratio_of num den }
+{
+    Expr::Fraction {
+        num: num as i128,
+        den: den as i128,
+    }
+}
+
+/// An atom as an expression.
+fn atom(alloc: Global, basis: Basis, numbers: &[u16]) -> Result<Expr, NoMemory>
+    requires { AreEntries numbers.now }
+    ensures { IfOk result (λ e. built_of e ≡ builds.label_of (basis_of basis) numbers.now) }
+{
+    let label = Partition::from_valid_numbers(alloc, numbers)?;
+    Ok(Expr::Atom { basis, label })
+}
+
+impl Builder {
+    /// Where a factor is awaited.
+    fn awaiting(frame: Frame, opened: Vec<Frame>) -> Builder
+        ensures { state_of result
+            ≡ at awaited (terms_in frame.terms) (factors_in frame.factors) (opened_in opened.items) }
+    {
+        Builder {
+            part: Part::Awaited,
+            frame,
+            opened,
+        }
+    }
+}
+
+/// The term that a factor ends, in a box.
+fn boxed_term(alloc: Global, before: LeadingFactors, factor: Expr) -> Result<Box<Expr>, NoMemory>
+    ensures { IfOk result (λ e. built_of e.value ≡ join_factor builds (factors_in before) (built_of factor)) }
+{
+    let term = term_of(alloc, before, factor)?;
+    Ok(Box::new(alloc, term)?)
+}
+
+/// The expression that a factor ends, in a box.
+fn boxed(alloc: Global, frame: Frame, factor: Expr) -> Result<Box<Expr>, NoMemory>
+    ensures { IfOk result (λ e. built_of e.value ≡ join builds (terms_in frame.terms) (factors_in frame.factors) (built_of factor)) }
+{
+    let Frame { terms, factors } = frame;
+    let whole = joined(alloc, terms, factors, factor)?;
+    Ok(Box::new(alloc, whole)?)
+}
+
+/// After a star that follows a factor.
+fn multiplying(
+    alloc: Global,
+    factor: Expr,
+    frame: Frame,
+    opened: Vec<Frame>,
+) -> Result<Option<Builder>, NoMemory>
+    ensures { IfOk result (λ b. state_in b
+        ≡ after_factor builds (built_of factor) (terms_in frame.terms) (factors_in frame.factors) (opened_in opened.items) star) }
+{
+    let Frame { terms, factors } = frame;
+    match boxed_term(alloc, factors, factor) {
+        Ok(term) => {
+            let frame = Frame {
+                terms,
+                factors: LeadingFactors::Multiplying(term),
+            };
+            Ok(Some(Builder::awaiting(frame, opened)))
+        }
+        Err(fault) => {
+            drop(terms);
+            drop(opened);
+            Err(fault)
+        }
+    }
+}
+
+/// After a parenthesis that closes behind a factor; none where no parenthesis is open.
+fn closing(
+    alloc: Global,
+    factor: Expr,
+    frame: Frame,
+    mut opened: Vec<Frame>,
+) -> Result<Option<Builder>, NoMemory>
+    ensures { IfOk result (λ b. state_in b
+        ≡ after_factor builds (built_of factor) (terms_in frame.terms) (factors_in frame.factors) (opened_in opened.items) closes) }
+{
+    match opened.pop() {
+        None => {
+            drop(factor);
+            Ok(refused(frame, opened))
+        }
+        Some(outer) => {
+            let Frame { terms, factors } = frame;
+            match joined(alloc, terms, factors, factor) {
+                Ok(whole) => Ok(Some(Builder {
+                    part: Part::Closed(whole),
+                    frame: outer,
+                    opened,
+                })),
+                Err(_) => Err(let_go(outer, opened)),
+            }
+        }
+    }
+}
+
+/// After a byte that follows a whole factor; none where it is at fault.
+fn after_factor(
+    alloc: Global,
+    factor: Expr,
+    frame: Frame,
+    opened: Vec<Frame>,
+    symbol: Symbol,
+) -> Result<Option<Builder>, NoMemory>
+    ensures { IfOk result (λ b. state_in b
+        ≡ after_factor builds (built_of factor) (terms_in frame.terms) (factors_in frame.factors) (opened_in opened.items) (symbol_in symbol)) }
+{
+    match symbol {
+        Symbol::Star => multiplying(alloc, factor, frame, opened),
+        Symbol::Plus => match boxed(alloc, frame, factor) {
+            Ok(sum) => {
+                let frame = Frame {
+                    terms: LeadingTerms::Adding(sum),
+                    factors: LeadingFactors::NoFactor,
+                };
+                Ok(Some(Builder::awaiting(frame, opened)))
+            }
+            Err(fault) => {
+                drop(opened);
+                Err(fault)
+            }
+        },
+        Symbol::Minus => match boxed(alloc, frame, factor) {
+            Ok(sum) => {
+                let frame = Frame {
+                    terms: LeadingTerms::Subtracting(sum),
+                    factors: LeadingFactors::NoFactor,
+                };
+                Ok(Some(Builder::awaiting(frame, opened)))
+            }
+            Err(fault) => {
+                drop(opened);
+                Err(fault)
+            }
+        },
+        Symbol::Close => closing(alloc, factor, frame, opened),
+        _ => {
+            drop(factor);
+            Ok(refused(frame, opened))
+        }
+    }
+}
+
+/// After a parenthesis that opens.
+fn opening(frame: Frame, mut opened: Vec<Frame>) -> Result<Option<Builder>, NoMemory>
+    ensures { IfOk result (λ b. state_in b
+        ≡ before_factor builds (terms_in frame.terms) (factors_in frame.factors) (opened_in opened.items) opens) }
+{
+    opened.push(frame)?;
+    let frame = Frame {
+        terms: LeadingTerms::NoTerm,
+        factors: LeadingFactors::NoFactor,
+    };
+    Ok(Some(Builder::awaiting(frame, opened)))
+}
+
+/// After a minus where a factor is awaited; none where something stands before it.
+fn negating(frame: Frame, opened: Vec<Frame>) -> Option<Builder>
+    ensures { state_in result
+        ≡ before_factor builds (terms_in frame.terms) (factors_in frame.factors) (opened_in opened.items) minus_sign }
+{
+    match &frame {
+        Frame {
+            terms: LeadingTerms::NoTerm,
+            factors: LeadingFactors::NoFactor,
+        } => {
+            drop(frame);
+            let frame = Frame {
+                terms: LeadingTerms::Negating,
+                factors: LeadingFactors::NoFactor,
+            };
+            Some(Builder::awaiting(frame, opened))
+        }
+        _ => refused(frame, opened),
+    }
+}
+
+/// After a byte where a factor is awaited; none where it is at fault.
+fn before_factor(
+    frame: Frame,
+    opened: Vec<Frame>,
+    symbol: Symbol,
+) -> Result<Option<Builder>, NoMemory>
+    requires { IsSoundDigit (symbol_in symbol) }
+    ensures { IfOk result (λ b. state_in b
+        ≡ before_factor builds (terms_in frame.terms) (factors_in frame.factors) (opened_in opened.items) (symbol_in symbol)) }
+{
+    match symbol {
+        Symbol::Digit(byte) => Ok(Some(Builder {
+            part: Part::Number(u128::from(byte - b'0')),
+            frame,
+            opened,
+        })),
+        Symbol::Letter(basis) => Ok(Some(Builder {
+            part: Part::Letter(basis),
+            frame,
+            opened,
+        })),
+        Symbol::Open => opening(frame, opened),
+        Symbol::Minus => Ok(negating(frame, opened)),
+        _ => Ok(refused(frame, opened)),
+    }
+}
+
+/// After a byte in an atom's list where a number may begin; none where it is at fault.
+fn in_list(
+    alloc: Global,
+    basis: Basis,
+    numbers: Vec<u16>,
+    frame: Frame,
+    opened: Vec<Frame>,
+    symbol: Symbol,
+) -> Result<Option<Builder>, NoMemory>
+    requires { IsSoundDigit (symbol_in symbol) }
+    ensures { IfOk result (λ b. state_in b
+        ≡ in_list_step builds (basis_of basis) numbers.items (terms_in frame.terms) (factors_in frame.factors) (opened_in opened.items) (symbol_in symbol)) }
+{
+    match symbol {
+        Symbol::Digit(byte) => Ok(Some(Builder {
+            part: Part::Entry(basis, numbers, u128::from(byte - b'0')),
+            frame,
+            opened,
+        })),
+        Symbol::CloseList => {
+            if !numbers.is_empty() {
+                return Ok(refused(frame, opened));
+            }
+            match atom(alloc, basis, &[]) {
+                Ok(factor) => Ok(Some(Builder {
+                    part: Part::Closed(factor),
+                    frame,
+                    opened,
+                })),
+                Err(_) => Err(let_go(frame, opened)),
+            }
+        }
+        _ => Ok(refused(frame, opened)),
+    }
+}
+
+/// The numbers with one more at their end.
+fn with_number(mut numbers: Vec<u16>, value: u16) -> Result<Vec<u16>, NoMemory>
+    ensures { IfOk result (λ all. all.items ≡ numbers.items ++ value ∷ []) }
+{
+    numbers.push(value)?;
+    Ok(numbers)
+}
+
+/// The atom whose list ends with a number.
+fn ended_atom(alloc: Global, basis: Basis, numbers: Vec<u16>, value: u16) -> Result<Expr, NoMemory>
+    requires { AreEntries (numbers.items ++ value ∷ []) }
+    ensures { IfOk result (λ e. built_of e ≡ builds.label_of (basis_of basis) (numbers.items ++ value ∷ [])) }
+{
+    let numbers = with_number(numbers, value)?;
+    atom(alloc, basis, &numbers)
+}
+
+/// After a byte that follows a number of an atom's list; none where it is at fault.
+fn in_entry(
+    alloc: Global,
+    basis: Basis,
+    numbers: Vec<u16>,
+    value: u128,
+    frame: Frame,
+    opened: Vec<Frame>,
+    symbol: Symbol,
+) -> Result<Option<Builder>, NoMemory>
+    requires { IsFine (in_entry (basis_of basis) numbers.items value) (symbol_in symbol) }
+    ensures { IfOk result (λ b. state_in b
+        ≡ step builds (at (in_entry (basis_of basis) numbers.items value) (terms_in frame.terms) (factors_in frame.factors) (opened_in opened.items)) (symbol_in symbol)) }
+{
+    match symbol {
+        Symbol::Digit(byte) => Ok(Some(Builder {
+            part: Part::Entry(basis, numbers, extended(value, byte)),
+            frame,
+            opened,
+        })),
+        Symbol::Comma => match with_number(numbers, value as u16) {
+            Ok(numbers) => Ok(Some(Builder {
+                part: Part::List(basis, numbers),
+                frame,
+                opened,
+            })),
+            Err(_) => Err(let_go(frame, opened)),
+        },
+        Symbol::CloseList => match ended_atom(alloc, basis, numbers, value as u16) {
+            Ok(factor) => Ok(Some(Builder {
+                part: Part::Closed(factor),
+                frame,
+                opened,
+            })),
+            Err(_) => Err(let_go(frame, opened)),
+        },
+        _ => Ok(refused(frame, opened)),
+    }
+}
+
+impl Builder {
+    /// Before the first byte.
+    fn start(alloc: Global) -> Builder
+        ensures { state_of result ≡ start }
+    {
+        let frame = Frame {
+            terms: LeadingTerms::NoTerm,
+            factors: LeadingFactors::NoFactor,
+        };
+        Builder::awaiting(frame, Vec::new(alloc))
+    }
+
+    /// After a symbol, where a number that ends before it is no offence; none where the symbol is at fault.
+    fn after(self, alloc: Global, symbol: Symbol) -> Result<Option<Builder>, NoMemory>
+        requires digit { IsSoundDigit (symbol_in symbol) }
+        requires fine { IsFine (part_in self.part) (symbol_in symbol) }
+        ensures { IfOk result (λ b. state_in b ≡ step builds (state_of self) (symbol_in symbol)) }
+    {
+        let Builder {
+            part,
+            frame,
+            opened,
+        } = self;
+        match part {
+            Part::Awaited => before_factor(frame, opened, symbol),
+            Part::Number(value) => after_number(alloc, value, frame, opened, symbol),
+            Part::Slash(num) => match symbol {
+                Symbol::Digit(byte) => Ok(Some(Builder {
+                    part: Part::Denominator(num, u128::from(byte - b'0')),
+                    frame,
+                    opened,
+                })),
+                _ => Ok(refused(frame, opened)),
+            },
+            Part::Denominator(num, den) => match symbol {
+                Symbol::Digit(byte) => Ok(Some(Builder {
+                    part: Part::Denominator(num, extended(den, byte)),
+                    frame,
+                    opened,
+                })),
+                symbol => after_factor(alloc, fraction(num, den), frame, opened, symbol),
+            },
+            Part::Letter(basis) => match symbol {
+                Symbol::OpenList => Ok(Some(Builder {
+                    part: Part::List(basis, Vec::new(alloc)),
+                    frame,
+                    opened,
+                })),
+                _ => Ok(refused(frame, opened)),
+            },
+            Part::List(basis, numbers) => in_list(alloc, basis, numbers, frame, opened, symbol),
+            Part::Entry(basis, numbers, value) => in_entry(
+                alloc, basis, numbers, value, frame, opened, symbol,
+            ),
+            Part::Closed(factor) => after_factor(alloc, factor, frame, opened, symbol),
+        }
+    }
+
+    /// The expression that has been built, if one is there whole, where a number at its end is no offence.
+    fn finish(self, alloc: Global) -> Result<Option<Expr>, NoMemory>
+        requires { IsFine (part_in self.part) other }
+        ensures { IfOk result (λ e. option_map built_of e ≡ found builds (state_of self)) }
+    {
+        let Builder {
+            part,
+            frame,
+            opened,
+        } = self;
+        if !opened.is_empty() {
+            drop(part);
+            drop(frame);
+            drop(opened);
+            return Ok(None);
+        }
+        drop(opened);
+        let Frame { terms, factors } = frame;
+        match part {
+            Part::Number(value) => Ok(Some(joined(alloc, terms, factors, number(value))?)),
+            Part::Denominator(num, den) => Ok(Some(joined(
+                alloc,
+                terms,
+                factors,
+                fraction(num, den),
+            )?)),
+            Part::Closed(factor) => Ok(Some(joined(alloc, terms, factors, factor)?)),
+            part => {
+                drop(part);
+                drop(terms);
+                drop(factors);
+                Ok(None)
+            }
+        }
+    }
+}
+
+/// After a byte that follows a number; none where it is at fault.
+fn after_number(
+    alloc: Global,
+    value: u128,
+    frame: Frame,
+    opened: Vec<Frame>,
+    symbol: Symbol,
+) -> Result<Option<Builder>, NoMemory>
+    requires { IsFine (in_number value) (symbol_in symbol) }
+    ensures { IfOk result (λ b. state_in b
+        ≡ step builds (at (in_number value) (terms_in frame.terms) (factors_in frame.factors) (opened_in opened.items)) (symbol_in symbol)) }
+{
+    match symbol {
+        Symbol::Digit(byte) => Ok(Some(Builder {
+            part: Part::Number(extended(value, byte)),
+            frame,
+            opened,
+        })),
+        Symbol::Slash => Ok(Some(Builder {
+            part: Part::Slash(value),
+            frame,
+            opened,
+        })),
+        symbol => after_factor(alloc, number(value), frame, opened, symbol),
+    }
+}
+
+/// The tree of a word that is an expression whose numbers are no offence and within the greatest degree.
+pub(crate) fn build(alloc: Global, word: &[u8]) -> Result<Expr, NoMemory>
+    requires { IsBuildable word.now }
+    ensures { IfOk result (λ e. (phrase : Phrase) → SpellsPhrase word.now phrase → built_of e ≡ (tree phrase, true)) }
+{
+    let mut builder = Builder::start(alloc);
+    for byte in word {
+        match builder.after(alloc, symbol_of(*byte))? {
+            None => unreachable!(),
+            Some(next) => builder = next,
+        }
+    }
+    match builder.finish(alloc)? {
+        None => unreachable!(),
+        Some(tree) => Ok(tree),
+    }
+}

@@ -1,0 +1,102 @@
+//! The tree of an expression.
+ghost use Rattle.std.specs.Prelude.{◌<◌, IfSome, ◌≡◌, ◌≤◌, ◌↔◌, IsTrue, min};
+ghost use Rattle.sym_model.specs.Expression.{degree, nesting};
+ghost use Rattle.expression_reading.specs.declared.expr.Expr.{size-Expr};
+ghost use Rattle.expression_reading.specs.Trees.{tree_of, has_no_signs};
+
+use calc_base::Basis;
+use partitions::Partition;
+
+/// An expression: a number, a fraction that need not be in lowest terms, an atom, and what is made of these.
+#[derive(Debug)]
+pub enum Expr {
+    /// A whole number.
+    Number { num: i128 },
+    /// A numerator over a denominator.
+    Fraction { num: i128, den: i128 },
+    /// The symmetric function of a partition in a basis.
+    Atom { basis: Basis, label: Partition },
+    /// An expression with the other sign.
+    Negation { inner: Box<Expr> },
+    /// The sum of two expressions.
+    Sum { left: Box<Expr>, right: Box<Expr> },
+    /// The left expression less the right one.
+    Difference { left: Box<Expr>, right: Box<Expr> },
+    /// The product of two expressions.
+    Product { left: Box<Expr>, right: Box<Expr> },
+}
+
+// Written out: the tree of a sum of many terms is deep on the left, so that side is let go in a loop.
+impl Drop for Expr {
+    #[cycle(letting_go)]
+    fn drop(self) {
+        let mut rest = self;
+        while let Some(left) = rest.into_left() {
+            rest = left;
+        }
+    }
+}
+
+/// A degree above each that a formula may have: degrees are told apart below it.
+const HIGH: u16 = 21;
+
+impl Expr {
+    /// The left side, of which the rest is let go.
+    #[cycle(letting_go)]
+    fn into_left(self) -> Option<Expr>
+        ensures { IfSome result (λ left. size-Expr left < size-Expr self) }
+    {
+        match self {
+            Expr::Number { num: _ } => None,
+            Expr::Fraction { num: _, den: _ } => None,
+            Expr::Atom { basis: _, label } => {
+                drop(label);
+                None
+            }
+            Expr::Negation { inner } => Some(Box::into_inner(inner)),
+            Expr::Sum { left, right }
+            | Expr::Difference { left, right }
+            | Expr::Product { left, right } => {
+                drop(right);
+                Some(Box::into_inner(left))
+            }
+        }
+    }
+
+    /// Whether the nesting is at most `limit` and no number has a sign.
+    pub(crate) fn is_plain_within(&self, limit: u16) -> bool
+        ensures { IsTrue result ↔ ((nesting (tree_of self.now) ≤ limit) × IsTrue (has_no_signs self.now)) }
+    {
+        if limit == 0 {
+            return false;
+        }
+        match self {
+            Expr::Number { num } => *num >= 0,
+            Expr::Fraction { num, den } => *num >= 0 && *den > 0,
+            Expr::Atom { .. } => true,
+            Expr::Negation { inner } => inner.is_plain_within(limit - 1),
+            Expr::Sum { left, right }
+            | Expr::Difference { left, right }
+            | Expr::Product { left, right } => {
+                left.is_plain_within(limit - 1) && right.is_plain_within(limit - 1)
+            }
+        }
+    }
+
+    /// The degree, or `HIGH` where it is greater.
+    pub(crate) fn capped_degree(&self) -> u16
+        ensures { result ≡ min 21 (degree (tree_of self.now)) }
+    {
+        match self {
+            Expr::Number { .. } | Expr::Fraction { .. } => 0,
+            Expr::Atom { label, .. } => label.size().min(HIGH),
+            Expr::Negation { inner } => inner.capped_degree(),
+            Expr::Sum { left, right } | Expr::Difference { left, right } => {
+                left.capped_degree().max(right.capped_degree())
+            }
+            Expr::Product { left, right } => (left.capped_degree() + right.capped_degree()).min(
+                HIGH,
+            ),
+        }
+    }
+}

@@ -1,0 +1,81 @@
+//! Expressions within the bounds that every conversion of them keeps.
+ghost use Rattle.std.specs.Prelude.{◌≡◌, ◌^◌, ◌<◌, ◌≤◌, ◌↔◌, IsTrue, MatchResult};
+ghost use Rattle.sym_model.specs.Expression.{degree, denominator};
+ghost use Rattle.sym_model.specs.ExpressionOffence.{degree_limit};
+ghost use Rattle.sym_model.specs.Weight.{numerator, weight};
+ghost use Rattle.expression_reading.specs.Trees.{basis_of, tree_of, IsFormula};
+ghost use Rattle.expression_reading.specs.Weights.{IsWeighed};
+
+use crate::Expr;
+use crate::weigh::checked_weight;
+use calc_base::{Basis, Weight};
+
+/// The greatest nesting, and the greatest degree, of a formula.
+const MAX_NESTING: u16 = 4096;
+
+pub(crate) const MAX_DEGREE: u16 = 20;
+
+/// The greatest degree of an expression that is expanded into the target: 20 for m and s, 15 for p, h and e.
+pub fn degree_limit(target: Basis) -> u16
+    ensures { result ≡ degree_limit (basis_of target) }
+{
+    match target {
+        Basis::M | Basis::S => MAX_DEGREE,
+        Basis::P | Basis::H | Basis::E => 15,
+    }
+}
+
+/// An expression whose nesting is at most 4,096, whose degree is at most 20, whose numbers and numerators are at least 0
+/// and whose denominators are positive.
+#[derive(Debug, Drop)]
+pub struct Formula {
+    tree: Expr,
+    ghost within: { IsFormula tree },
+}
+
+impl Formula {
+    /// The formula of this tree. The tree comes back exactly where it is not within the bounds. No memory is taken.
+    pub fn from_tree(tree: Expr) -> Result<Formula, Expr>
+        ensures { MatchResult result (λ f. (f.tree ≡ tree) × IsFormula tree) (λ e. (e ≡ tree) × ¬ IsFormula tree) }
+    {
+        if tree.is_plain_within(MAX_NESTING) && tree.capped_degree() <= MAX_DEGREE {
+            Ok(Formula { tree })
+        } else {
+            Err(tree)
+        }
+    }
+
+    /// The tree.
+    pub fn tree(&self) -> &Expr
+        ensures tree { result.now ≡ self.now.tree }
+        ensures within { IsFormula self.now.tree }
+    {
+        &self.tree
+    }
+
+    /// The degree: 0 of numbers, the size of an atom's label, the greater one of a sum or a difference, the sum of those
+    /// of a product.
+    pub fn degree(&self) -> u16
+        ensures { result ≡ degree (tree_of self.now.tree) }
+    {
+        self.tree.capped_degree()
+    }
+
+    /// The two numbers of the weight; none exactly where one of them is 2^127 or more. No memory is taken.
+    pub fn weight(&self) -> Option<Weight>
+        ensures { IsWeighed result (numerator (tree_of self.now.tree)) (denominator (tree_of self.now.tree)) }
+    {
+        self.tree.weigh()
+    }
+
+    /// Whether the weight for the target is below the limit, which is at most 2^127. No memory is taken.
+    pub fn weight_below(&self, target: Basis, limit: u128) -> bool
+        requires { limit ≤ 2 ^ 127 }
+        ensures { IsTrue result ↔ (weight (basis_of target) (tree_of self.now.tree) < limit) }
+    {
+        match checked_weight(&self.tree, self.degree(), target) {
+            None => false,
+            Some(weight) => weight < limit,
+        }
+    }
+}

@@ -1,0 +1,87 @@
+//! What a word can offend by, and which offence comes first.
+ghost use Rattle.std.specs.Prelude.{◌≡◌, option_map};
+ghost use Rattle.expression_reading.specs.Offences.{kind_in, offence_in, mark_in, first_kind};
+ghost use Rattle.sym_model.specs.ExpressionOffence.{earlier, comes_first};
+
+/// The kinds of offence, in their order at one place.
+#[derive(Clone, Copy)]
+pub(crate) enum Kind {
+    Literal,
+    Range,
+    Shape,
+}
+
+#[derive(Clone, Copy)]
+pub(crate) struct Offence {
+    pub(crate) byte: u64,
+    pub(crate) kind: Kind,
+}
+
+/// The numbers of an atom's list that stand before a place in it: how many, and the last of them.
+#[derive(Clone, Copy)]
+pub(crate) struct Before {
+    pub(crate) count: u64,
+    pub(crate) last: Option<u128>,
+}
+
+/// What a byte begins, where it can offend.
+#[derive(Clone, Copy)]
+pub(crate) enum Mark {
+    Value { value: u128 },
+    Denominator { value: u128 },
+    Entry { before: Before, value: u128 },
+    Opening { depth: u64 },
+}
+
+/// Numbers are below this.
+pub(crate) const WIDE: u128 = 1 << 127;
+
+/// The first kind of offence at a mark, if there is one.
+pub(crate) fn kind_at(mark: Mark) -> Option<Kind>
+    ensures { option_map kind_in result ≡ first_kind (mark_in mark) }
+{
+    match mark {
+        Mark::Value { value } => (value >= WIDE).then_some(Kind::Literal),
+        Mark::Denominator { value } => {
+            if value >= WIDE {
+                Some(Kind::Literal)
+            } else {
+                (value == 0).then_some(Kind::Shape)
+            }
+        }
+        Mark::Entry { before, value } => {
+            if value >= WIDE {
+                Some(Kind::Literal)
+            } else if before.count == 64 {
+                Some(Kind::Range)
+            } else {
+                before
+                    .last
+                    .is_some_and(|last| last < value)
+                    .then_some(Kind::Shape)
+            }
+        }
+        Mark::Opening { depth } => (depth == 65).then_some(Kind::Range),
+    }
+}
+
+impl Offence {
+    /// Whether this one comes first, or both are one.
+    fn comes_first(self, other: Offence) -> bool
+        ensures { result ≡ comes_first (offence_in self) (offence_in other) }
+    {
+        self.byte < other.byte || (self.byte == other.byte && self.kind as u8 <= other.kind as u8)
+    }
+}
+
+/// The first of two offences, if there is one.
+pub(crate) fn earlier(first: Option<Offence>, second: Option<Offence>) -> Option<Offence>
+    ensures { option_map offence_in result
+        ≡ earlier (option_map offence_in first) (option_map offence_in second) }
+{
+    match (first, second) {
+        (None, found) => found,
+        (found, None) => found,
+        (Some(a), Some(b)) => Some(if a.comes_first(b) { a } else { b }),
+    }
+}

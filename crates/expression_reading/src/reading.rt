@@ -1,0 +1,138 @@
+//! How a word is read as an expression.
+ghost use Rattle.std.specs.Prelude.{◌≡◌, ◌≤◌, IfOk, MatchOption};
+ghost use Rattle.sym_model.specs.Phrase.{Phrase, SpellsPhrase};
+ghost use Rattle.sym_model.specs.Expression.{degree};
+ghost use Rattle.sym_model.specs.ExpressionOffence.{degree_limit, offences_within};
+ghost use Rattle.expression_reading.specs.Trees.{basis_of, tree_of};
+ghost use Rattle.expression_reading.specs.Offences.{offence_in};
+ghost use Rattle.expression_reading.specs.ScanSteps.{IsScanned};
+ghost use Rattle.expression_reading.specs.Reading.{IsRead, IsReadBy, IsWrongByte, IsFaultOf};
+ghost use Rattle.expression_reading.specs.declared.reading.ExpressionFault.TheVariants.{NoMemory as no_memory};
+
+use crate::Formula;
+use crate::builder::build;
+use crate::formula::degree_limit;
+use crate::offence::{Kind, Offence, earlier};
+use crate::scan::{Scan, scan_word};
+use calc_base::{Basis, NoMemory};
+use std::alloc::Global;
+use thiserror::Error;
+
+/// Why a word is no expression that can be expanded into a target: the byte at which it goes wrong or first offends, or
+/// memory was refused.
+#[derive(Clone, Copy, Debug, PartialEq, Eq, Hash, Error)]
+pub enum ExpressionFault {
+    /// The word is no expression from this byte on.
+    #[error("no expression, at byte {byte}")]
+    Syntax { byte: u64 },
+    /// A number past 2^127 - 1 begins at this byte.
+    #[error("a number too large, at byte {byte}")]
+    Literal { byte: u64 },
+    /// A limit is passed at this byte.
+    #[error("past a limit, at byte {byte}")]
+    Range { byte: u64 },
+    /// A list of parts that rises, or a denominator 0, stands at this byte.
+    #[error("a list out of shape, at byte {byte}")]
+    Shape { byte: u64 },
+    /// Memory was refused.
+    #[error("out of memory")]
+    NoMemory,
+}
+
+impl From<NoMemory> for ExpressionFault {
+    ghost from_gives = { λ _ e. e ≡ no_memory };
+
+    fn from(_: NoMemory) -> Self {
+        ExpressionFault::NoMemory
+    }
+}
+
+/// The most bytes of an expression.
+const MAX_BYTES: u64 = 4096;
+
+/// The refusal of an offence.
+fn fault_of(offence: Offence) -> ExpressionFault
+    ensures { IsFaultOf (offence_in offence) result }
+{
+    let byte = offence.byte;
+    match offence.kind {
+        Kind::Literal => ExpressionFault::Literal { byte },
+        Kind::Range => ExpressionFault::Range { byte },
+        Kind::Shape => ExpressionFault::Shape { byte },
+    }
+}
+
+/// The expression of a word that has been scanned, whose degree is to be at most the limit, or its first offence.
+fn judged(alloc: Global, limit: u16, word: &[u8], scan: Scan) -> Result<Formula, ExpressionFault>
+    requires scanned { IsScanned word.now (Ok scan) }
+    requires low { limit ≤ 20 }
+    ensures { IsReadBy (offences_within limit) word.now result }
+{
+    let len = word.len() as u64;
+    let past = Offence {
+        byte: len,
+        kind: Kind::Range,
+    };
+    let long = (len > MAX_BYTES).then_some(Offence {
+        byte: MAX_BYTES,
+        kind: Kind::Range,
+    });
+    if let Some(first) = earlier(scan.first, long) {
+        return Err(fault_of(first));
+    }
+    if scan.is_high {
+        return Err(fault_of(past));
+    }
+    let tree = build(alloc, word)?;
+    let Ok(formula) = Formula::from_tree(tree) else {
+        return Err(fault_of(past));
+    };
+    if formula.degree() > limit {
+        return Err(fault_of(past));
+    }
+    Ok(formula)
+}
+
+/// The byte at which a word goes wrong that is no expression, which is the length of its longest prefix that begins one; none
+/// where the word is an expression, with offences or without. No memory is taken.
+pub fn wrong_byte(word: &[u8]) -> Option<u64>
+    ensures { MatchOption result ((phrase : Phrase) × SpellsPhrase word.now phrase) (IsWrongByte word.now) }
+{
+    match scan_word(word) {
+        Ok(_) => None,
+        Err(byte) => Some(byte),
+    }
+}
+
+/// Reads a word as an expression whose degree is to be at most the limit.
+pub(crate) fn read_within(
+    alloc: Global,
+    limit: u16,
+    word: &[u8],
+) -> Result<Formula, ExpressionFault>
+    requires { limit ≤ 20 }
+    ensures read { IsReadBy (offences_within limit) word.now result }
+    ensures low { IfOk result (λ f. degree (tree_of f.tree) ≤ limit) }
+{
+    match scan_word(word) {
+        Err(byte) => Err(ExpressionFault::Syntax { byte }),
+        Ok(scan) => judged(alloc, limit, word, scan),
+    }
+}
+
+/// Reads a word as an expression of atoms in m, e, h, p and s that is to be expanded into the target.
+///
+/// A word that is no expression is refused as `Syntax`, at the length of its longest prefix that begins one. Otherwise the
+/// first offence is refused: a number past 2^127 - 1 as `Literal`; as `Range` a parenthesis that opens depth 65, the 65th
+/// number of an atom, byte 4,096 of a longer word, and at the word's end a degree past the limit of the target; as `Shape` a
+/// number of an atom that is greater than the one before it, and a denominator 0.
+pub fn read_expression(
+    alloc: Global,
+    target: Basis,
+    word: &[u8],
+) -> Result<Formula, ExpressionFault>
+    ensures read { IsRead (basis_of target) word.now result }
+    ensures low { IfOk result (λ f. degree (tree_of f.tree) ≤ degree_limit (basis_of target)) }
+{
+    read_within(alloc, degree_limit(target), word)
+}

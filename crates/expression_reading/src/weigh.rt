@@ -1,0 +1,141 @@
+//! The weights of expressions, in numbers of 128 bits.
+ghost use Rattle.std.specs.Prelude.{◌≡◌, ◌+◌, ◌*◌, ◌/◌, ◌^◌, ◌<◌, ◌≤◌, IsTrue, SomeIff, MatchOption, option_map};
+ghost use Rattle.sym_model.specs.Canonical.{gcd};
+ghost use Rattle.sym_model.specs.Expression.{denominator, degree as degree_of};
+ghost use Rattle.sym_model.specs.Weight.{numerator, growth, weight};
+ghost use Rattle.expression_reading.specs.Trees.{basis_of, tree_of, has_no_signs};
+ghost use Rattle.expression_reading.specs.Weights.{IsWeighed};
+
+use crate::Expr;
+use calc_base::{Basis, Weight};
+use whole_numbers::{factorial, gcd};
+
+/// The numbers of a weight are below this.
+const LIMIT: u128 = 1 << 127;
+
+/// The weight with these numbers, if they are below the limit.
+fn weight_of(num: u128, den: u128) -> Option<Weight>
+    ensures { IsWeighed result num den }
+{
+    if num < LIMIT && den < LIMIT {
+        Some(Weight { num, den })
+    } else {
+        None
+    }
+}
+
+/// The weight of a sum or a difference, over the least common denominator. A denominator over the greatest common
+/// divisor of both is the least common multiple over the other one.
+fn sum_weight(a: Weight, b: Weight) -> Option<Weight>
+    requires { 0 < a.den }
+    ensures { let g = gcd a.den b.den in IsWeighed result (a.num * (b.den / g) + b.num * (a.den / g)) (a.den / g * b.den) }
+{
+    let common = gcd(a.den, b.den);
+    let from_a = b.den / common;
+    let from_b = a.den / common;
+    let den = from_b.checked_mul(b.den)?;
+    let a_num = a.num.checked_mul(from_a)?;
+    let b_num = b.num.checked_mul(from_b)?;
+    weight_of(a_num.checked_add(b_num)?, den)
+}
+
+/// The weight of a product.
+fn product_weight(a: Weight, b: Weight) -> Option<Weight>
+    ensures { IsWeighed result (a.num * b.num) (a.den * b.den) }
+{
+    weight_of(a.num.checked_mul(b.num)?, a.den.checked_mul(b.den)?)
+}
+
+/// Puts two numbers in the place of those of a weight, if they are below the limit.
+fn put(weight: &mut Weight, num: u128, den: u128) -> Option<()>
+    ensures { IsWeighed (option_map (λ _. weight.new) result) num den }
+{
+    *weight = weight_of(num, den)?;
+    Some(())
+}
+
+/// Adds a weight to another, over the least common denominator.
+#[inline(never)]
+fn add_to(weight: &mut Weight, first: &Weight) -> Option<()>
+    requires { 0 < first.now.den }
+    ensures { let g = gcd first.now.den weight.old.den in IsWeighed (option_map (λ _. weight.new) result)
+        (first.now.num * (weight.old.den / g) + weight.old.num * (first.now.den / g)) (first.now.den / g * weight.old.den) }
+{
+    *weight = sum_weight(*first, *weight)?;
+    Some(())
+}
+
+/// Multiplies a weight by another.
+#[inline(never)]
+fn multiply_by(weight: &mut Weight, first: &Weight) -> Option<()>
+    ensures { IsWeighed (option_map (λ _. weight.new) result) (first.now.num * weight.old.num) (first.now.den * weight.old.den) }
+{
+    *weight = product_weight(*first, *weight)?;
+    Some(())
+}
+
+impl Expr {
+    /// The two numbers of the weight; none exactly where one of them is 2^127 or more.
+    pub(crate) fn weigh(&self) -> Option<Weight>
+        requires { IsTrue (has_no_signs self.now) }
+        ensures { IsWeighed result (numerator (tree_of self.now)) (denominator (tree_of self.now)) }
+    {
+        let mut weight = Weight { num: 1, den: 1 };
+        self.weigh_into(&mut weight)?;
+        Some(weight)
+    }
+
+    /// Puts the two numbers of the weight in the place of those that are there. A tree may be deep: little is kept for each level.
+    fn weigh_into(&self, weight: &mut Weight) -> Option<()>
+        requires { IsTrue (has_no_signs self.now) }
+        ensures { IsWeighed (option_map (λ _. weight.new) result) (numerator (tree_of self.now)) (denominator (tree_of self.now)) }
+    {
+        match self {
+            Expr::Number { num } => put(weight, (*num as u128).max(1), 1),
+            Expr::Fraction { num, den } => put(weight, (*num as u128).max(1), *den as u128),
+            Expr::Atom { .. } => put(weight, 1, 1),
+            Expr::Negation { inner } => inner.weigh_into(weight),
+            Expr::Sum { left, right } | Expr::Difference { left, right } => {
+                left.weigh_into(weight)?;
+                let first = *weight;
+                right.weigh_into(weight)?;
+                add_to(weight, &first)
+            }
+            Expr::Product { left, right } => {
+                left.weigh_into(weight)?;
+                let first = *weight;
+                right.weigh_into(weight)?;
+                multiply_by(weight, &first)
+            }
+        }
+    }
+}
+
+/// How much a conversion into the target can raise the coefficients at a degree; none where that is 2^128 or more.
+fn growth(target: Basis, d: u16) -> Option<u128>
+    requires { d ≤ 20 }
+    ensures { SomeIff result (growth (basis_of target) d < 2 ^ 128) (growth (basis_of target) d) }
+{
+    let exponent = u32::from(d);
+    match target {
+        Basis::M | Basis::S => u128::from(d).checked_pow(exponent),
+        Basis::P | Basis::H | Basis::E => {
+            let power = (2 * u128::from(d)).checked_pow(exponent)?;
+            factorial(d).checked_mul(power)
+        }
+    }
+}
+
+/// The weight for the target; none only where it is 2^127 or more.
+pub(crate) fn checked_weight(tree: &Expr, degree: u16, target: Basis) -> Option<u128>
+    requires plain { IsTrue (has_no_signs tree.now) }
+    requires low { degree ≤ 20 }
+    requires degree { degree ≡ degree_of (tree_of tree.now) }
+    ensures { MatchOption result
+        (2 ^ 127 ≤ weight (basis_of target) (tree_of tree.now))
+        (λ w. w ≡ weight (basis_of target) (tree_of tree.now)) }
+{
+    let numbers = tree.weigh()?;
+    let growth = growth(target, degree)?;
+    numbers.num.checked_mul(numbers.den)?.checked_mul(growth)
+}

@@ -1,0 +1,70 @@
+-- Lists that are kept under partitions (specs/KeptLists).
+--     entry_found, none_found     what a look-up gives
+--     place-found                 where it finds a partition, that stands
+--     lists-kept                  one more that is right keeps all right
+--     list-found                  the list that is read where a partition stands
+use Rattle.std.proofs.Common.{◌≡◌, ◌⊎◌, ℕ, zero, suc, ◌<◌, Bool, true, false, List, [], ◌∷◌, ◌++◌, length, get_or, refl, sym, ap, ◌∙◌, subst, inl, inr, arith}
+use Rattle.std.specs.Prelude.{Option, Some, None, IfSome, is_some, slice_get, position, nat_eq}
+use Rattle.std.specs.Cmp.Lexicographic.{pointwise}
+use Rattle.std.specs.Map.{keys_of}
+use Rattle.std.proofs.lemmas.List.Quantifiers.{position-Some}
+use Rattle.sym_model.specs.Sum.{Among}
+use Rattle.sym_model.specs.Expansion.{Terms}
+use Rattle.sym_model.proofs.Sums.{Among_from_append}
+use Rattle.whole_lists.proofs.WholeLists.{equal_tells}
+use Rattle.family_lists.specs.KeptLists.{AreListsOf, StandsAt, HasKept}
+
+-- the label at the place where a test finds one
+pub entry_found : {K V : Type 0} (es : List (K × V)) (test : K → Bool) (i : ℕ) → i < length es → position test (keys_of es) ≡ Some i
+    → (p : K × V) × (slice_get es i ≡ Some p) × (test p.0 ≡ true)
+entry_found {K} {V} [] test i l h = absurd (omega arith)
+entry_found {K} {V} (e ∷ es) test i l h = let p = entry (e ∷ es) i l in (p.0, p.1, ap test (sym (p.2 e.0)) ∙ (position-Some test (keys_of (e ∷ es)) i e.0 h).1)
+  where
+    entry : (ds : List (K × V)) (j : ℕ) → j < length ds → (p : K × V) × (slice_get ds j ≡ Some p) × ((d : K) → get_or (keys_of ds) j d ≡ p.0)
+    entry [] j k = absurd (omega arith)
+    entry (d ∷ ds) zero k = (d, refl, λ x. refl)
+    entry (d ∷ ds) (suc j) k = entry ds j (omega arith)
+
+pub none_found : {A : Type 0} (o : Option A) → false ≡ is_some o → o ≡ None
+none_found None h = refl
+none_found (Some x) h = cc
+
+among-slice : {A : Type 0} (xs : List A) (i : ℕ) (x : A) → slice_get xs i ≡ Some x → Among x xs
+among-slice {A} [] i x e = cc
+among-slice {A} (y ∷ xs) zero x e = let h : x ≡ y = cc in inl h
+among-slice {A} (y ∷ xs) (suc i) x e = inr (among-slice xs i x e)
+
+pub slice-last : {A : Type 0} (xs : List A) (x : A) (i : ℕ) → i ≡ length xs → slice_get (xs ++ x ∷ []) i ≡ Some x
+slice-last {A} [] x zero e = refl
+slice-last {A} [] x (suc i) e = absurd (omega arith)
+slice-last {A} (y ∷ xs) x zero e = absurd (omega arith)
+slice-last {A} (y ∷ xs) x (suc i) e = slice-last xs x i (omega arith)
+
+same_some : {A : Type 0} (x y : A) → Some x ≡ Some y → x ≡ y
+same_some {A} x y e = cc
+
+-- where a look-up finds a partition, it stands
+pub place-found : (lists : List (List ℕ × Terms (List ℕ))) (label : List ℕ) (found : Option ℕ) → found ≡ position (pointwise nat_eq label) (keys_of lists)
+    → IfSome found (λ i. i < length lists) → IfSome found (StandsAt lists label)
+place-found lists label None e within = tt
+place-found lists label (Some i) e within =
+    let f = entry_found lists (pointwise nat_eq label) i within (sym e) in
+    (f.0.1, f.1 ∙ ap (λ (x : List ℕ). Some (x, f.0.1)) (sym (equal_tells label f.0.0 f.2)))
+
+-- a list of its partition is kept besides
+pub lists-kept : (IsListOf : List ℕ → Terms (List ℕ) → Type 0) (old new : List (List ℕ × Terms (List ℕ))) (label : List ℕ) (list : Terms (List ℕ))
+    → AreListsOf IsListOf old → IsListOf label list → HasKept label list old new → AreListsOf IsListOf new
+lists-kept IsListOf old new label list are is (inl e) l m = are l (subst (Among l) e m)
+lists-kept IsListOf old new label list are is (inr e) l m = by (Among_from_append l old ((label, list) ∷ []) (subst (Among l) e m))
+  where
+    by : Among l old ⊎ Among l ((label, list) ∷ []) → IsListOf l.0 l.1
+    by (inl i) = are l i
+    by (inr (inl s)) = subst (λ (x : List ℕ × Terms (List ℕ)). IsListOf x.0 x.1) (sym s) is
+    by (inr (inr n)) = absurd n
+
+-- the list that is read where a partition stands
+pub list-found : (IsListOf : List ℕ → Terms (List ℕ) → Type 0) (lists : List (List ℕ × Terms (List ℕ))) (key parts label : List ℕ) (list : Terms (List ℕ)) (at : ℕ) → key ≡ parts
+    → AreListsOf IsListOf lists → StandsAt lists key at → slice_get lists at ≡ Some (label, list) → IsListOf parts list
+list-found IsListOf lists key parts label list at same are stands e =
+    subst (λ (x : List ℕ). IsListOf x list) (ap (λ (x : List ℕ × Terms (List ℕ)). x.0) (same_some (label, list) (key, stands.0) (sym e ∙ stands.1)) ∙ same)
+    (are (label, list) (among-slice lists at (label, list) e))

@@ -1,0 +1,10 @@
+pub mod SignParities
+pub mod Totals
+pub mod TableLists
+pub mod RowSteps
+pub mod PlacedLists
+pub mod PartLists
+pub mod NewtonSteps
+pub mod PowerSteps
+pub mod MergedLists
+pub mod KeptLists

@@ -1,0 +1,73 @@
+-- Partitions in a family, factor by factor.
+use Rattle.std.proofs.Common.{◌≡◌, ℕ, ◌+◌, ◌*◌, ◌^◌, ◌<◌, ◌≤◌, List, [], ◌∷◌, ap, arith, ℤ, pos, ◌*ℤ◌}
+use Rattle.std.specs.Prelude.{nat_abs}
+use Rattle.sym_model.specs.Polynomial.{Poly, Same, In, one, pair, scale, times}
+use Rattle.sym_model.specs.Partition.{IsPartition, columns, size}
+use Rattle.sym_model.specs.Bases.{product_over}
+use Rattle.sym_model.specs.Expansion.{Terms}
+use Rattle.sym_model.specs.Weight.{factorial}
+use Rattle.sym_model.specs.WholeTerms.{numerators, absolute_total}
+use Rattle.whole_lists.specs.Tables.{IsTable}
+use Rattle.basis_change_laws.specs.JoinedLists.{joined, Stands}
+use Rattle.sym_model.proofs.PolynomialLaws.{times-one}
+use Rattle.basis_change_laws.proofs.JoinedLists.{stands-product, stands-same, stands-weaken}
+use Rattle.basis_change_laws.proofs.GrowthBounds.{grown, grown-joined, grown-positive}
+use Rattle.family_lists.proofs.TableLists.{table-stands}
+use native.Mathlib.Nat.{mul-le-mul_left, mul-le-mul_right}
+use lib.IntN.{+ℤ_idr}
+
+pub parts-none : (P F : ℕ → ℕ → Poly) (terms : Terms (List ℕ)) → IsTable terms → Same (numerators terms) (([], pos 1) ∷ []) → Stands P 1 1 0 (product_over F []) (numerators terms)
+parts-none P F terms is h =
+    table-stands terms (([], pos 1) ∷ []) is h P 1 1 0 (product_over F [])
+    (record {
+      value = λ n φ. +ℤ_idr (pos 1 *ℤ pair (one n) φ);
+      few = omega arith;
+      labels = (record { partition = record { falls = tt; positive = tt }; low = omega arith }, tt);
+    })
+
+-- no part is greater than the first one
+pub columns-tail : (k : ℕ) (rest : List ℕ) → IsPartition (k ∷ rest) → columns rest ≤ k
+columns-tail k [] p = omega arith
+columns-tail k (b ∷ rest) p = p.falls.0
+
+pub parts-next : (P F : ℕ → ℕ → Poly) → ((n k : ℕ) → In n (P k n)) → (k c o : ℕ) (rest : List ℕ) (W V terms : Terms (List ℕ)) → c * (o * factorial (size rest)) ≡ factorial (k + size rest)
+    → Stands P o (o * 2 ^ k) k (λ n. F k n) (numerators W) → Stands P (factorial (size rest)) (grown (size rest)) (size rest) (product_over F rest) (numerators V)
+    → IsTable terms → Same (numerators terms) (joined (scale (pos c) (numerators W)) (numerators V))
+    → Stands P (factorial (k + size rest)) (grown (k + size rest)) (k + size rest) (product_over F (k ∷ rest)) (numerators terms)
+parts-next P F places k c o rest W V terms e w v is h =
+    table-stands terms (joined (scale (pos c) (numerators W)) (numerators V)) is h P (factorial (k + size rest)) (grown (k + size rest)) (k + size rest) (product_over F (k ∷ rest))
+    (stands-product P places o (o * 2 ^ k) k (factorial (size rest)) (grown (size rest)) (size rest) (factorial (k + size rest)) (grown (k + size rest)) c
+    (λ n. F k n) (product_over F rest) (numerators W) (numerators V) w v e (grown-joined k (size rest) c o e))
+
+pub parts-large : (P F : ℕ → ℕ → Poly) (k c o : ℕ) (rest : List ℕ) (W V : Terms (List ℕ)) (z : ℤ) → z ≡ pos c → c * (o * factorial (size rest)) ≡ factorial (k + size rest)
+    → Stands P o (o * 2 ^ k) k (λ n. F k n) (numerators W) → Stands P (factorial (size rest)) (grown (size rest)) (size rest) (product_over F rest) (numerators V)
+    → ((m : ℕ) → absolute_total (numerators V) ≤ m → 1 ≤ m → 2 ^ 127 ≤ 0 + nat_abs z * absolute_total (numerators W) * m) → 2 ^ 127 ≤ grown (k + size rest)
+parts-large P F k c o rest W V z zi e w v large =
+    let l = large (grown (size rest)) v.few (grown-positive (size rest)) in
+    let b = grown-joined k (size rest) c o e in
+    let u = ap nat_abs zi in
+    let t = mul-le-mul_left c w.few in
+    let r = mul-le-mul_right (grown (size rest)) t in
+    let n : nat_abs z * absolute_total (numerators W) * grown (size rest) ≡ c * absolute_total (numerators W) * grown (size rest) = ap (λ p. p * absolute_total (numerators W) * grown (size rest)) u in
+    let g = grouped c (o * 2 ^ k) (grown (size rest)) in
+    omega arith
+  where
+    grouped : (x y z : ℕ) → x * y * z ≡ x * (y * z)
+    grouped x y z = omega arith
+
+-- a partition in the target
+pub stands-itself : (P : ℕ → ℕ → Poly) (parts : List ℕ) (q A : ℕ) (terms : Terms (List ℕ)) → IsPartition parts → q ≤ A → IsTable terms → Same (numerators terms) ((parts, pos q) ∷ [])
+    → Stands P q A (size parts) (product_over P parts) (numerators terms)
+stands-itself P parts q A terms p few is h =
+    table-stands terms ((parts, pos q) ∷ []) is h P q A (size parts) (product_over P parts)
+    (record {
+      value = λ n φ. +ℤ_idr (pos q *ℤ pair (product_over P parts n) φ);
+      few = omega arith;
+      labels = (record { partition = p; low = omega arith }, tt);
+    })
+
+-- the polynomial of one number
+pub stands-number : (P : ℕ → ℕ → Poly) → ((n k : ℕ) → In n (P k n)) → (k : ℕ) (terms : Terms (List ℕ)) → 0 < k → IsTable terms → Same (numerators terms) ((k ∷ [], pos 1) ∷ []) → Stands P 1 1 k (λ n. P k n) (numerators terms)
+stands-number P places k terms h is s =
+    stands-same P 1 1 k (λ n. times (P k n) (one n)) (λ n. P k n) (numerators terms) (λ n. times-one n (P k n) (places n k))
+    (stands-weaken P 1 1 1 (k + 0) k (λ n. times (P k n) (one n)) (numerators terms) (stands-itself P (k ∷ []) 1 1 terms (record { falls = tt; positive = (h, tt) }) (omega arith) is s) (omega arith) (omega arith))

@@ -1,0 +1,15 @@
+use Rattle.std.proofs.Common.{◌≡◌, ◌++◌, map}
+use Rattle.std.specs.Map.Iter.{deref_pair}
+use Rattle.sym_model.specs.WholeTerms.{numerators}
+use Rattle.whole_lists.specs.Tables.{IsTable}
+use Rattle.whole_lists.proofs.WholeLists.{Finds}
+use Rattle.basis_change_laws.specs.JoinedLists.{row}
+use Rattle.family_lists.proofs.products.add_row.Given as goal
+
+-- the products so far are added, and they and the rest are all
+abbrev pub invariant-loop-label : goal.invariant-loop-label
+invariant-loop-label l = record {
+  finds : Finds l.sum (numerators l.fn.sum ++ row l.left l.z (map deref_pair l.yielded));
+  table : IsTable l.sum;
+  so_far : map deref_pair l.yielded ++ l.label-iterator ≡ l.initial.label-iterator;
+}

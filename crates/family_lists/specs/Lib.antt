@@ -1,0 +1,3 @@
+pub mod FactorLists
+pub mod Signs
+pub mod KeptLists

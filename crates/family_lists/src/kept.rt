@@ -1,0 +1,52 @@
+//! Lists that are made once: each is kept under a partition.
+ghost use Rattle.std.specs.Prelude.{◌≡◌, ◌<◌, [], ◌∷◌, ◌++◌, length, slice_get, nat_eq, Some, None, IfOk, IfSome, OnOk};
+ghost use Rattle.std.specs.Cmp.Lexicographic.{pointwise};
+ghost use Rattle.indexmap.specs.IndexMap.{get};
+ghost use Rattle.family_lists.specs.KeptLists.{HasKept, StandsAt};
+
+use indexmap::IndexMap;
+use partitions::Partition;
+use std::alloc::AllocError;
+use whole_lists::Whole;
+
+/// Partitions, each with a list.
+pub type Lists = IndexMap<Partition, Whole>;
+
+/// The place of a partition's list.
+pub fn place_of(lists: &Lists, label: &Partition) -> Option<usize>
+    ensures { IfSome result (StandsAt lists.now.entries label.now) }
+{
+    lists.get_index_of(label)
+}
+
+/// The partition at a place, and its list.
+pub fn list_at(lists: &Lists, at: usize) -> (&Partition, &Whole)
+    requires { at < length lists.now.entries }
+    ensures { slice_get lists.now.entries at ≡ Some (result.0.now, result.1.now) }
+{
+    lists.get_index(at).unwrap()
+}
+
+/// Puts a list behind the others.
+fn put(lists: &mut Lists, label: Partition, list: Whole) -> Result<(), AllocError>
+    requires { get (pointwise nat_eq) lists.old label ≡ None }
+    ensures { OnOk result (lists.new.entries ≡ lists.old.entries ++ (label, list) ∷ []) }
+{
+    lists.insert(label, list)?;
+    Ok(())
+}
+
+/// Keeps a list under a partition that has none yet, and gives its place; one that is there stays.
+pub fn keep(lists: &mut Lists, label: Partition, list: Whole) -> Result<usize, AllocError>
+    ensures kept { OnOk result (HasKept label list lists.old.entries lists.new.entries) }
+    ensures place { IfOk result (StandsAt lists.new.entries label) }
+{
+    match lists.get_index_of(&label) {
+        Some(at) => Ok(at),
+        None => {
+            let at = lists.len();
+            put(lists, label, list)?;
+            Ok(at)
+        }
+    }
+}

@@ -1,0 +1,44 @@
+-- Sums of reductions do not depend on which rim hooks are removed first.
+--     any_reductions         those of the classical product
+--     any_step_reductions    those of one factor more
+use Rattle.std.proofs.Common.{ℕ, ◌≤◌, List, sym, ◌∙◌, ap}
+use Rattle.sym_model.specs.Expansion.{Terms}
+use Rattle.sym_model.specs.ReductionSteps.{IsQuantumStep, ReduceEach, reduced_each}
+use Rattle.sym_model.specs.Target.{AreReductions, IsRimHookReduction, Reduction, classical_product}
+use Rattle.sym_model.specs.Target.{reduced_terms}
+use Rattle.sym_model.specs.WholeTerms.{WholeTermsOf, coefficient_by, numerators, same_power}
+use Rattle.product_laws.proofs.GatheredLists.{gathered, coefficient-gathered, collected-gathered}
+use Rattle.product_laws.proofs.QuantumSteps.{power_true, power_self, quantum_step_is}
+use Rattle.product_laws.proofs.RimHookSteps.{classical_only}
+use Rattle.reduction_laws.specs.AnyOrder.{HaveSameSums}
+
+pub any_reductions : (k n : ℕ) (factors : List (List ℕ)) (terms : Terms (ℕ × List ℕ))
+    (reductions : List Reduction) → 1 ≤ n
+    → AreReductions k n (classical_product k factors) reductions
+    → IsRimHookReduction k n (classical_product k factors) terms
+    → HaveSameSums (numerators terms) (reduced_terms (classical_product k factors) reductions)
+any_reductions k n factors terms reductions h a r label =
+    r.sums label
+    ∙ ap (λ (l : List Reduction). coefficient_by same_power
+    (reduced_terms (classical_product k factors) l) label)
+    (classical_only k n factors r.reductions h r.reduce
+    ∙ sym (classical_only k n factors reductions h a))
+
+-- other reductions make a step of their own, and all steps have the same sums
+pub any_step_reductions : (k n : ℕ) (factor : List ℕ) (terms next : WholeTermsOf (ℕ × List ℕ))
+    (reductions : List (List Reduction)) → 1 ≤ n
+    → ReduceEach k n factor terms reductions → IsQuantumStep k n factor terms next
+    → HaveSameSums next (reduced_each k factor terms reductions)
+any_step_reductions k n factor terms next reductions h a s label =
+    let sums = reduced_each k factor terms reductions in
+    let other : IsQuantumStep k n factor terms (gathered same_power power_true power_self sums) =
+    record {
+      reductions = reductions;
+      reduce = a;
+      collected = collected-gathered same_power power_true power_self sums;
+      sums = coefficient-gathered same_power power_true power_self sums;
+    } in
+    quantum_step_is k n factor terms next h s label
+    ∙ sym (quantum_step_is k n factor terms (gathered same_power power_true power_self sums) h other
+    label)
+    ∙ coefficient-gathered same_power power_true power_self sums label

@@ -1,0 +1,3 @@
+pub mod AnyReductions
+pub mod CanonicalTerms
+pub mod TextsInSteps

@@ -1,0 +1,30 @@
+//! Reductions by rim hooks, whichever of them are removed first.
+
+ghost use Rattle.std.specs.Prelude.{◌≡◌, ◌↔◌, ℕ, ◌≤◌, List};
+ghost use Rattle.sym_model.specs.Expansion.{Terms};
+ghost use Rattle.sym_model.specs.ReductionSteps.{AreCollected, IsQuantumStep, ReduceEach};
+ghost use Rattle.sym_model.specs.ReductionSteps.{reduced_each};
+ghost use Rattle.sym_model.specs.Target.{AreReductions, IsRimHookReduction, Reduction};
+ghost use Rattle.sym_model.specs.Target.{classical_product, reduced_terms};
+ghost use Rattle.sym_model.specs.WholeTerms.{WholeTermsOf, numerators, same_power};
+ghost use Rattle.reduction_laws.specs.AnyOrder.{HaveSameSums};
+
+/// Which rim hooks are removed first plays no part in a quantum product: a list is the sum of some
+/// reductions of the classical product exactly if it is that of all of them. So it is for one
+/// factor more in a product that is reduced after each factor.
+///
+/// Example: of (2,2), rim hooks of two cells take away the second column or the second row first,
+/// and then what is left. Both ways end with the empty partition, q^2 and the sign 1 for two rows.
+pub fn removal_order_law()
+    ensures whole { (k n : ℕ) (factors : List (List ℕ)) (terms : Terms (ℕ × List ℕ))
+        (reductions : List Reduction) → 1 ≤ n
+        → AreReductions k n (classical_product k factors) reductions
+        → IsRimHookReduction k n (classical_product k factors) terms
+        ↔ HaveSameSums (numerators terms) (reduced_terms (classical_product k factors) reductions) }
+    ensures step { (k n : ℕ) (factor : List ℕ) (terms next : WholeTermsOf (ℕ × List ℕ))
+        (reductions : List (List Reduction)) → 1 ≤ n
+        → ReduceEach k n factor terms reductions
+        → IsQuantumStep k n factor terms next
+        ↔ (AreCollected same_power next
+        × HaveSameSums next (reduced_each k factor terms reductions)) }
+{}

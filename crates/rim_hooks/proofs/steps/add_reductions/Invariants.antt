@@ -1,0 +1,13 @@
+use Rattle.std.proofs.Common.{◌≡◌, ◌++◌, map}
+use Rattle.coeff_rings.specs.Fractions.{whole}
+use Rattle.linear_combinations.specs.Entries.{IsCombination}
+use Rattle.linear_combinations.specs.Gains.{Gains, replaced, scaled}
+use Rattle.rim_hooks.proofs.steps.add_reductions.Given as goal
+
+-- the reductions of the shapes so far are added
+abbrev pub invariant-loop-shape : goal.invariant-loop-shape
+invariant-loop-shape g l = record {
+  gains : Gains l.fn.sums (scaled l.c (replaced (g.R.Reduction.reduced l.rule l.label) (map (λ item. item.now) l.yielded))) l.sums;
+  table : IsCombination g.L.PartialEq.eq g.L.Label.is_label whole l.sums;
+  so_far : map (λ item. item.now) l.yielded ++ l.shape-iterator.rest.now ≡ l.initial.shape-iterator.rest.now;
+}

@@ -1,0 +1,4 @@
+pub mod LabelSizes
+pub mod Tables
+pub mod Large
+pub mod Families

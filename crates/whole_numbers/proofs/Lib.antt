@@ -1,0 +1,2 @@
+pub mod CommonMultiples
+pub mod LowestTerms

@@ -1,0 +1,18 @@
+//! Whole numbers of 128 bits: greatest common divisors, factorials, common denominators, quotients.
+//!
+//! What is proved:
+//!
+//! `gcd`, `factorial`, `common_denominator` and `denominator_product` are those of the definitions,
+//! the last two without an answer exactly where it is 2^127 or more; `quotient_of` is the fraction
+//! in lowest terms.
+#![tactic(auto)]
+
+mod denominators;
+mod divisors;
+mod products;
+mod quotients;
+
+pub use denominators::{Common, common_denominator, denominator_product};
+pub use divisors::gcd;
+pub use products::factorial;
+pub use quotients::quotient_of;

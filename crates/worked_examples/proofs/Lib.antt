@@ -1,0 +1,2 @@
+mod ComputedReadings
+mod ComputedExamples
