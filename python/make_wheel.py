@@ -18,8 +18,9 @@ HERE = os.path.dirname(os.path.abspath(__file__))
 TOP = os.path.dirname(HERE)
 BUILD = os.path.join(TOP, "build")
 PREBUILT = os.path.join(TOP, "prebuilt")
-PROGRAMS = [f"{TOP}/calc-static", f"{TOP}/calc", f"{TOP}/crates/calc/out/calc"]
+PROGRAMS = [f"{TOP}/calc", f"{TOP}/crates/calc/out/calc"]
 LIBRARIES = [f"{TOP}/libyorqanish.so", f"{BUILD}/libyorqanish.so"]
+LICENCES = ("LICENSE", "NOTICE", "LGPL-2.1")
 # The oldest glibc that a tag of pip names, and the tag's older name.
 OLDEST, OLDEST_TAG = 17, "manylinux_2_17_x86_64.manylinux2014_x86_64"
 
@@ -102,9 +103,11 @@ def contents(program, library, tag):
     files[f"{about}/WHEEL"] = "\n".join(
         ["Wheel-Version: 1.0", "Generator: make_wheel", f"Root-Is-Purelib: {pure}", *(f"Tag: {it}" for it in tags), ""]
     ).encode()
-    licence = next((it for it in (f"{TOP}/LICENSE", f"{HERE}/LICENSE") if os.path.exists(it)), None)
-    if licence:
-        files[f"{about}/LICENSE"] = content_of(licence)
+    # (a program with its C library in it comes with that library's licence, too)
+    for licence in LICENCES if program else LICENCES[:1]:
+        path = next((it for it in (f"{TOP}/{licence}", f"{TOP}/release/{licence}", f"{HERE}/{licence}") if os.path.exists(it)), None)
+        if path:
+            files[f"{about}/{licence}"] = content_of(path)
     record = "".join(f"{name},sha256={digest(it)},{len(it)}\n" for name, it in files.items())
     files[f"{about}/RECORD"] = (record + f"{about}/RECORD,,\n").encode()
     return files

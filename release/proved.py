@@ -1,7 +1,10 @@
 """Compiles the proved crates as `rt ci` left them: for library/build, release/prove and release/prebuilt, and for tests/prebuilt."""
+import base64
 import functools
+import gzip
 import hashlib
 import os
+import re
 import shutil
 import subprocess
 import sys
@@ -94,9 +97,14 @@ def link_program(made, program):
     run(f"{kit()}/bin/rattle-link", *words, *(f"{kit()}/{it}" for it in PROGRAM), stdout=sys.stderr)
 
 
-def link_static(made, program):
-    """Links the object of a program with the system's static C library."""
-    run("gcc", "-static-pie", "-s", "-Wl,--build-id=none", "-o", program, made, *(f"{kit()}/{it}" for it in PROGRAM))
+def join_program(made, whole):
+    """Joins the object of a program and what it takes of the kit to one object, by the kit's own linker: only a C library is missing."""
+    run(f"{kit()}/toolchain/bin/ld.lld", "-r", "--strip-debug", "-o", whole, made, *(f"{kit()}/{it}" for it in PROGRAM))
+
+
+def link_static(whole, program):
+    """Links such an object with the system's static C library."""
+    run("gcc", "-static-pie", "-s", "-Wl,--build-id=none", "-o", program, whole)
 
 
 def link_library(made, library, exports):
@@ -122,15 +130,63 @@ def digest():
     return said_by(f"{TOP}/release/digest")
 
 
+def tools():
+    """A sum of the kit's tools that the bytes of a program or a library depend on, beside its name."""
+    folders = ("toolchain/bin", "toolchain/lib", "c")
+    files = [f"{kit()}/{folder}/{name}" for folder in folders for name in sorted(os.listdir(f"{kit()}/{folder}"))]
+    return sum_of(f"{kit()}/bin/rattle", f"{kit()}/bin/rattle-link", *dict.fromkeys(map(os.path.realpath, files)))
+
+
+def version_of(*command):
+    """The first line that a tool of the system says of its version, if it is there."""
+    if not shutil.which(command[0]):
+        return "none"
+    said = subprocess.run([*command, "--version"], capture_output=True, text=True)
+    return (said.stdout or said.stderr).partition("\n")[0].strip() or "unknown"
+
+
+def files_of_tool(name):
+    """The file of a tool of the system, and those of the libraries that it loads."""
+    path = os.path.realpath(shutil.which(name))
+    listed = subprocess.run(["ldd", path], capture_output=True, text=True).stdout.split() if shutil.which("ldd") else []
+    return [path, *sorted(os.path.realpath(it) for it in listed if it.startswith("/"))]
+
+
+# How all is linked.
+THIS = os.path.abspath(__file__)
+
+
 def static_parts():
-    """A sum of what this machine adds to a static program: its linker, and the files of its C library and compiler."""
+    """A sum of what this machine adds to a static program: its linker, and the files of its C library and compiler. None if one is missing."""
+    if not shutil.which("gcc") or not shutil.which("ld"):
+        return None
     names = "libc.a libgcc.a libgcc_eh.a rcrt1.o crti.o crtbeginS.o crtendS.o crtn.o".split()
     files = [said_by("gcc", f"-print-file-name={name}") for name in names]
-    return sum_of(*files, os.path.realpath(shutil.which("ld")))
+    return sum_of(THIS, *files, *files_of_tool("gcc"), *files_of_tool("ld")) if all(map(os.path.isfile, files)) else None
+
+
+def library_parts():
+    """A sum of what the C library is linked by."""
+    return sum_of(THIS, f"{TOP}/library/exports.map")
+
+
+def module_parts():
+    """A sum of what the module of the page is made from beside the C library's code: the script, the module's memory, and the tool that
+    lowers it. None if that is missing."""
+    return sum_of(f"{TOP}/web/build", f"{TOP}/web/heap.c", *files_of_tool("wasm-opt")) if shutil.which("wasm-opt") else None
 
 
 def page_parts():
-    """A sum of what goes into the page beside the C library: its own sources, and the version of the tool that lowers its module."""
-    names = sorted(set(os.listdir(f"{TOP}/web")) - {"browse.py", "cases.mjs", "__pycache__"})
-    version = said_by("wasm-opt", "--version") if shutil.which("wasm-opt") else "none"
-    return f"{sum_of(*(f'{TOP}/web/{name}' for name in names))} {version}"
+    """A sum of what the page is made from beside its module."""
+    names = sorted(set(os.listdir(f"{TOP}/web")) - {"browse.py", "cases.mjs", "heap.c", "__pycache__"})
+    others = ("calc.1", "docs/DEFINITIONS.md", "VERSION", "CITATION.cff")
+    return sum_of(*(f"{TOP}/web/{name}" for name in names), *(f"{TOP}/{name}" for name in others))
+
+
+def parts_of_page(path):
+    """The text of a page without its module and the commit that it names, and the module. (How the module is packed depends on Python.)"""
+    with open(path, encoding="utf-8") as file:
+        text = file.read()
+    packed = re.search(r"H4sI[A-Za-z0-9+/]+=*", text)[0]
+    commits = r"(?i)(commit (?:<code>)?)(?:[0-9a-f]{40}|unknown)(?:, with changes)?"
+    return re.sub(commits, r"\1", text.replace(packed, "")), gzip.decompress(base64.b64decode(packed))

@@ -4,9 +4,9 @@
   const all = (what, of = document) => [...of.querySelectorAll(what)];
   const textsOf = (what, of) => all(what, of).map((it) => it.textContent);
 
-  /** Whether something is so within a minute. */
+  /** Whether something is so within four minutes. */
   const until = async (test) => {
-    for (const end = performance.now() + 60000; performance.now() < end; await pause()) if (test()) return true;
+    for (const end = performance.now() + 240000; performance.now() < end; await pause()) if (test()) return true;
     return false;
   };
 
@@ -30,7 +30,15 @@
     const names = [];
     return { names, ok: (name, isSo) => isSo || names.push(name) };
   };
-  const isWide = () => document.documentElement.scrollWidth > innerWidth;
+  /** (The window of a telephone becomes wider with the page, so that its own width says nothing.) */
+  const isWide = () => document.documentElement.scrollWidth > WIDTH;
+
+  /** What can have the focus, in turn. */
+  const stops = () => all("a, button, input, summary, pre, .drawn").filter((it) => !it.disabled && it.checkVisibility());
+
+  // The way of the focus: where it has to be in turn, how often it came somewhere, and what was wrong there.
+  const amiss = [];
+  let path, count;
 
   const checks = {
     ready: () => until(() => !at("run").disabled),
@@ -45,7 +53,7 @@
       const found = [];
       for (const line of lines) {
         const it = await answer(line), mark = it.querySelector("mark");
-        found.push([line, it.querySelector(".said").textContent, mark && mark.textContent]);
+        found.push([line, textsOf(".said", it)[0], mark && mark.textContent]);
       }
       return found;
     },
@@ -57,13 +65,18 @@
       return cases.filter(wrong).map(([line]) => line.slice(0, 80));
     },
 
-    statuses: () => [[4, "! Large\n"], [5, ""], [7, ""], [-1, ""]].map(([it, text]) => explained("mult 1 - 1", it, text).sentence),
+    /** What the answers say that ended with these statuses. */
+    statuses: (ended) =>
+      ended.map(([status, text]) => {
+        show({ typed: "mult 1 - 1", line: "mult 1 - 1", changes: [] }, { status, text, time: 1 });
+        return all("article .said")[0].textContent;
+      }),
 
     async typed(lines) {
       const found = [];
       for (const line of lines) {
         const it = await answer(line);
-        found.push([line, it.querySelector("h3").textContent, it.querySelector(".note").textContent, it.className]);
+        found.push([line, ...textsOf("h3, .note", it).slice(0, 2), it.className]);
       }
       run("$ calc");
       return [found, at("state").textContent];
@@ -157,6 +170,17 @@
       return [names, found];
     },
 
+    /** The lines after which the page is wide. */
+    async width(lines) {
+      const wide = [];
+      for (const it of all("details")) it.open = true;
+      for (const line of lines) {
+        await answer(line);
+        if (isWide()) wide.push(line.slice(0, 20));
+      }
+      return wide.join(", ");
+    },
+
     async copies(asked) {
       let copied;
       const clipboard = { writeText: async (text) => void (copied = text) };
@@ -211,21 +235,42 @@
       return [live, unnamed.length, unreached.length, moves, matchMedia("(prefers-reduced-motion: reduce)").matches];
     },
 
-    focus(what) {
-      document.querySelector(what).focus();
-      return all("article").length;
+    // What comes after keys were pressed.
+
+    isFocused: (name) => until(() => [document.activeElement.id, document.activeElement.textContent].includes(name)),
+    isAnswered: (line, text) => until(() => textsOf("article h3")[0] === line && textsOf("article pre")[0] === text),
+    isStopped: (line) => until(() => textsOf("article h3")[0] === line && textsOf("article header span")[0].startsWith("stopped")),
+    holds: (text) => until(() => at("line").value === text),
+    waits: (count) => until(() => !at("stop").disabled && at("waiting").children.length === count && at("queue").hidden === !count),
+    says: (text) => until(() => at("state").textContent === text),
+    isOpen: (what) => until(() => document.querySelector(what).open),
+    focus: (what) => (document.querySelector(what).focus(), true),
+
+    /** How many Tabs lead from the begin of the page to an element. */
+    stopsBefore: (id) => stops().indexOf(at(id)) + 1,
+
+    /** How many Tabs lead from the field through the rest of the page; what has the focus on the way is noted. */
+    async follow() {
+      await checks.says("Ready.");
+      path = stops();
+      path.splice(0, path.indexOf(at("line")) + 1);
+      count = 0;
+      addEventListener("focusin", ({ target }) => {
+        const { outlineStyle, outlineWidth } = getComputedStyle(target);
+        const isSeen = outlineStyle !== "none" && parseFloat(outlineWidth) >= 2;
+        if (target !== path[count] || !isSeen) amiss.push(`${target.localName} ${target.textContent.slice(0, 20)} is number ${count + 1}`);
+        count += 1;
+      });
+      return path.length;
     },
-    focused: () => document.activeElement.id || document.activeElement.localName,
-    answered: (count) => until(() => all("article").length === count),
-    isOpen: (what) => document.querySelector(what).open,
-    close: (what) => void (document.querySelector(what).open = false),
+    followed: async () => (await until(() => count >= path.length), amiss[0] || ""),
 
     async questions() {
       const found = [];
       for (const it of all("#questions [data-line]")) {
         const got = await more(1, () => it.click());
         const question = it.closest("li").querySelector("h3").textContent;
-        found.push([question, it.dataset.line, got.querySelector("pre").textContent, got.querySelector(".meaning").textContent]);
+        found.push([question, it.dataset.line, textsOf("pre", got)[0], textsOf(".meaning", got)[0]]);
       }
       return [found, at("line").value];
     },
@@ -238,6 +283,17 @@
       await pause(200);
       const none = all("article").length - count;
       return [first, none, (await go("#%E0%A4")).className];
+    },
+
+    /** Tries to have something from an address, in each way that a page has. */
+    async knocks(url) {
+      const image = () => new Promise((end) => Object.assign(new Image(), { onload: end, onerror: end, src: url }));
+      const frame = () => document.body.append(element("iframe", { src: url, hidden: "" }), element("link", { rel: "stylesheet", href: url }));
+      const script = `fetch("${url}").catch(() => {}).then(() => postMessage(0)); try { importScripts("${url}"); } catch {}`;
+      const work = () => new Promise((end) => (new Worker(URL.createObjectURL(new Blob([script]))).onmessage = end));
+      const ways = [() => fetch(url).catch(() => {}), image, frame, work, () => navigator.sendBeacon(url, "")];
+      await Promise.race([Promise.all(ways.map(async (way) => way())), pause(5000)]);
+      await pause(200);
     },
 
     firstAnswer: async () => (await until(() => all("article").length > 0)) && performance.getEntriesByName("answer")[0].startTime,

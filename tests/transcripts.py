@@ -1,4 +1,7 @@
 """Transcripts of the program, and runs of it. The head of tests/run says how a transcript is written."""
+import base64
+import functools
+import gzip
 import os
 import re
 import shlex
@@ -57,10 +60,35 @@ def program():
     return os.path.abspath(os.environ.get("CALC") or (built if os.path.exists(built) else os.path.join(TOP, "prebuilt/calc")))
 
 
+@functools.lru_cache(maxsize=None)
+def is_prebuilt_of_sources():
+    """Whether prebuilt/ is there and was made of the sources that are here."""
+    made_of = os.path.join(TOP, "prebuilt/MADE_OF")
+    if not os.path.exists(made_of):
+        return False
+    digest = subprocess.run([os.path.join(TOP, "release/digest")], capture_output=True, text=True).stdout
+    with open(made_of, encoding="ascii") as file:
+        return f"sources {digest}" in file
+
+
 def made(name):
-    """What library/build or web/build made here, or else what prebuilt/ has."""
+    """What library/build or web/build made here since the program was built, or else what prebuilt/ has, if that is of the sources that are
+    here. The path of a file that is not there, where there is neither."""
     here = os.path.join(TOP, "build", name)
-    return here if os.path.exists(here) else os.path.join(TOP, "prebuilt", name)
+    is_new = os.path.exists(here) and os.path.exists(program()) and os.path.getmtime(here) >= os.path.getmtime(program())
+    return here if is_new else os.path.join(TOP, "prebuilt" if is_prebuilt_of_sources() else "prebuilt/none", name)
+
+
+def module_in(room):
+    """The module of the page: that of build/, or else the one in the page of prebuilt/, put into the room; none, where neither is there."""
+    path, page = made("calc.wasm"), made("calc.html")
+    if not os.path.exists(path) and os.path.exists(page):
+        with open(page, encoding="utf-8") as file:
+            packed = re.search(r"H4sI[A-Za-z0-9+/]+=*", file.read())
+        path = f"{room}/calc.wasm"
+        with open(path, "wb") as file:
+            file.write(gzip.decompress(base64.b64decode(packed[0])))
+    return path if os.path.exists(path) else None
 
 
 def commands():

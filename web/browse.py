@@ -15,7 +15,7 @@ import subprocess
 import tempfile
 import urllib.request
 
-SECONDS = 300
+SECONDS = 600
 
 # Waits for the module, types each line, waits for its answer, and gives the texts.
 TYPES = """(async () => {
@@ -31,6 +31,9 @@ TYPES = """(async () => {
   }
   return JSON.stringify(texts);
 })()"""
+
+# The keys with a name, by the code that Chromium is given and the character that stands for them in WebDriver.
+KEYS = {"Enter": (13, "\ue007"), "Tab": (9, "\ue004"), "Escape": (27, "\ue00c"), "ArrowUp": (38, "\ue013"), "ArrowDown": (40, "\ue015")}
 
 # What Firefox is told in its profile; Chromium is told the same over its protocol.
 PREFERENCES = 'user_pref("layout.css.prefers-color-scheme.content-override", {scheme});\nuser_pref("ui.prefersReducedMotion", {still});\n'
@@ -91,7 +94,7 @@ class Page:
 
     def __init__(self, browser, path, width=1280, height=900, dark=False, still=False, fragment=""):
         self.browser, self.width, self.height, self.dark, self.still = browser, width, height, dark, still
-        self.url = f"file://{os.path.abspath(path)}{fragment}"
+        self.path, self.url = path, f"file://{os.path.abspath(path)}{fragment}"
         self.profile = tempfile.mkdtemp()
 
     def __enter__(self):
@@ -144,7 +147,11 @@ class Page:
         ask = self.channel.ask
         ask("session.new", capabilities={})
         ask("session.subscribe", events=["network.beforeRequestSent"])
-        self.context = ask("browsingContext.getTree")["contexts"][0]["context"]
+        # (the first tab has the focus in its field for addresses, where no key reaches the page)
+        first = ask("browsingContext.getTree")["contexts"][0]["context"]
+        self.context = ask("browsingContext.create", type="tab")["context"]
+        ask("browsingContext.close", context=first)
+        ask("browsingContext.activate", context=self.context)
         viewport = {"width": self.width, "height": self.height}
         ask("browsingContext.setViewport", context=self.context, viewport=viewport)
         ask("browsingContext.navigate", context=self.context, url=self.url, wait="complete")
@@ -164,19 +171,19 @@ class Page:
         """The texts of these lines, typed one after another."""
         return json.loads(self.run(TYPES % json.dumps(lines)))
 
-    def press(self, key):
-        """Presses a key: a character, or Enter, Tab or Escape."""
+    def press(self, *keys):
+        """Presses keys one after another, each a character or a name."""
         if self.browser == "chromium":
-            code = {"Enter": 13, "Tab": 9, "Escape": 27}.get(key)
-            words = {"key": key, "code": key, "windowsVirtualKeyCode": code} if code else {"key": key}
-            text = {"Enter": {"text": "\r"}, "Tab": {}, "Escape": {}}.get(key, {"text": key})
-            self.channel.ask("Input.dispatchKeyEvent", type="keyDown", **words, **text)
-            self.channel.ask("Input.dispatchKeyEvent", type="keyUp", **words)
+            for key in keys:
+                words = {"key": key, "code": key, "windowsVirtualKeyCode": KEYS[key][0]} if key in KEYS else {"key": key}
+                text = {"text": "\r"} if key == "Enter" else {} if key in KEYS else {"text": key}
+                self.channel.ask("Input.dispatchKeyEvent", type="keyDown", **words, **text)
+                self.channel.ask("Input.dispatchKeyEvent", type="keyUp", **words)
         else:
-            value = {"Enter": "\ue007", "Tab": "\ue004", "Escape": "\ue00c"}.get(key, key)
-            pressed = [{"type": "keyDown", "value": value}, {"type": "keyUp", "value": value}]
-            keys = {"type": "key", "id": "keys", "actions": pressed}
-            self.channel.ask("input.performActions", context=self.context, actions=[keys])
+            values = [KEYS[key][1] if key in KEYS else key for key in keys]
+            pressed = [{"type": way, "value": value} for value in values for way in ("keyDown", "keyUp")]
+            actions = [{"type": "key", "id": "keys", "actions": pressed}]
+            self.channel.ask("input.performActions", context=self.context, actions=actions)
 
     def requests(self):
         """The addresses that the page has asked for."""

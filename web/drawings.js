@@ -56,27 +56,32 @@ function figure(drawing, caption) {
   return element("figure", {}, drawing, ...(caption === undefined ? [] : [element("figcaption", {}, caption)]));
 }
 
+/** Two drawings of one term. */
+function pair(first, second) {
+  return element("div", { class: "pair" }, first, element("span", {}, "⊗"), second);
+}
+
 /** The table of a growth grid. */
 function gridTable(rows) {
   const line = (row) => element("tr", {}, ...row.map((label) => element("td", {}, diagram(label))));
   return element("table", { class: "grid", "aria-label": "growth grid" }, ...rows.map(line));
 }
 
-/** The figures of an answer, one list for each term or tableau, made as they are taken. */
+/** The figures of an answer, one for each term or tableau, made as they are taken. */
 function* figuresOf(answer) {
   if (answer.kind === "tableaux") {
     for (const [i, rows] of answer.tableaux.entries()) {
       const name = answer.names && answer.names[i];
       const drawing = tableauPicture(rows, answer.inner, name ? `tableau ${name}` : "tableau");
-      yield { cells: rows.flat().length, figures: [figure(drawing, name)] };
+      yield { cells: rows.flat().length, figure: figure(drawing, name) };
     }
     return;
   }
   const size = (label) => label.reduce((sum, part) => sum + part, 0);
   for (const term of answer.terms) {
-    const caption = term.second ? `${term.c}, first` : term.q ? `${term.c} q^${term.q}` : term.c;
-    const second = term.second ? [figure(diagram(term.second), "second")] : [];
-    yield { cells: size(term.first) + size(term.second || []), figures: [figure(diagram(term.first), caption), ...second] };
+    const caption = term.q ? `${term.c} q^${term.q}` : term.c;
+    const drawing = term.second ? pair(diagram(term.first), diagram(term.second)) : diagram(term.first);
+    yield { cells: size(term.first) + size(term.second || []), figure: figure(drawing, caption) };
   }
 }
 
@@ -90,9 +95,9 @@ function drawn(answer, text) {
   }
   const count = answer.names ? 2 : sizeOf(answer, text);
   let some = 0, cells = 0;
-  for (const { cells: more, figures } of figuresOf(answer)) {
+  for (const { cells: more, figure: it } of figuresOf(answer)) {
     if (some === MOST_DRAWN || (some > 0 && cells + more > MOST_CELLS)) break;
-    box.append(...figures);
+    box.append(it);
     some += 1;
     cells += more;
   }

@@ -79,8 +79,9 @@ function stop() {
   update();
 }
 
-/** Runs the commands of a text as they were typed, after those that wait. */
+/** Runs the commands of a text as they were typed, after those that wait; none, if the module did not start. */
 function ask(text) {
+  if (document.body.classList.contains("failed")) return;
   const jobs = linesOf(text).map((typed) => ({ typed, ...readTyped(typed) })).filter((job) => job.line);
   if (jobs.length === 0) return say("Nothing to run: type a command, such as mult 2 1 - 2 1.");
   for (const job of jobs) {
@@ -92,15 +93,24 @@ function ask(text) {
   return next();
 }
 
-/** Shows what runs and what waits. */
+/** Shows what runs and what waits. If the button with the focus is gone then, the field has it. */
 function update() {
+  const focused = document.activeElement;
   at("stop").disabled = !running;
   at("queue").hidden = waiting.length === 0;
   at("count").textContent = `${waiting.length} ${waiting.length === 1 ? "command waits" : "commands wait"}.`;
-  at("waiting").replaceChildren(...waiting.slice(0, 100).map(waitingItem));
+  showWaiting();
+  if (focused.disabled || !focused.isConnected || focused.closest("[hidden]")) toField();
   clearInterval(clock);
   tick();
   if (running) clock = setInterval(tick, 100);
+}
+
+/** The items of what waits. Those that are there stay as they are, so that none of their buttons loses the focus. */
+function showWaiting() {
+  const items = waiting.slice(0, 100).map((job) => (job.item = job.item || waitingItem(job)));
+  for (const old of [...at("waiting").children]) if (!items.includes(old)) old.remove();
+  at("waiting").append(...items.filter((it) => !it.isConnected));
 }
 
 function waitingItem(job) {
@@ -116,10 +126,7 @@ function waitingItem(job) {
 function tick() {
   const passed = running ? performance.now() - running.began : 0;
   at("progress").hidden = passed < 250;
-  if (running) {
-    at("running").textContent = named(running.line);
-    at("elapsed").textContent = `${(passed / 1000).toFixed(1)} s`;
-  }
+  if (running) at("elapsed").textContent = `${(passed / 1000).toFixed(1)} s`;
 }
 
 // ---- answers
@@ -217,10 +224,10 @@ function changesOf({ typed, changes }) {
 
 /** What the page adds to the text of an answer, in words: what was refused, what it means. */
 function notesOf(line, isDone, told, error) {
-  const note = (name, text) => element("p", { class: name }, text), notes = [];
+  const note = (name, ...parts) => element("p", { class: name }, ...parts), notes = [];
   if (told) notes.push(note("said", told.sentence + (error ? ` (${error})` : "")));
   if (isDone && line === "batch") notes.push(note("note", "Here batch has no input. Type commands with ; between them."));
-  return isDone ? [...notes, ...meaningsOf(line).map((it) => note("meaning", it))] : notes;
+  return isDone ? [...notes, ...meaningsOf(line).map((it) => note("meaning", ...it))] : notes;
 }
 
 /** Shows an answer above the others. */
@@ -253,11 +260,11 @@ function toolsOf(line, text, answer) {
   return tools;
 }
 
-/** What the questions to begin with say of the answer to a line. */
+/** What the questions to begin with say of the answer to a line, each as its parts. */
 function meaningsOf(line) {
   const buttons = [...document.querySelectorAll("#questions [data-line]")];
   const asking = buttons.filter((it) => it.dataset.line === line);
-  return asking.map((it) => it.closest("li").querySelector(".meant").textContent);
+  return asking.map((it) => it.closest("li").querySelector(".meant").cloneNode(true).childNodes);
 }
 
 // ---- what is typed and clicked
@@ -266,6 +273,11 @@ document.forms[0].onsubmit = (event) => {
   event.preventDefault();
   ask(at("line").value);
 };
+
+/** Gives the field the focus, if that brings no keyboard onto the screen. */
+function toField() {
+  if (!matchMedia("(pointer: coarse)").matches) at("line").focus({ preventScroll: true });
+}
 
 at("stop").onclick = stop;
 at("clear").onclick = () => {
@@ -303,7 +315,7 @@ document.addEventListener("click", (event) => {
   ask(line);
   const isStill = matchMedia("(prefers-reduced-motion: reduce)").matches;
   window.scrollTo({ top: 0, behavior: isStill ? "auto" : "smooth" });
-  if (!matchMedia("(pointer: coarse)").matches) at("line").focus({ preventScroll: true });
+  toField();
 });
 
 /** Runs the commands of the page's address, if it has some; the sections have addresses, too. */

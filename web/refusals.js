@@ -60,7 +60,9 @@ function explained(line, status, text) {
   const kind = found[1], k = Number(found[2]), byte = Number(found[3]);
   const said = kind === "Syntax" ? syntaxSentence(words, k, byte) : offenceSentence(words, kind, k, byte);
   if (k >= words.length) return { sentence: said, at: line.length, length: 0 };
-  return { sentence: said, at: placed[k].at + byte, length: markLength(words, kind, k, byte) };
+  // (where a word ends too early, the blanks after it are what is wrong)
+  const begins = placed[k].at + byte, follows = k + 1 < words.length ? placed[k + 1].at : line.length;
+  return { sentence: said, at: begins, length: markLength(words, kind, k, byte) || follows - begins };
 }
 
 function statusSentence(status) {
@@ -79,6 +81,7 @@ function syntaxSentence(words, k, byte) {
   const word = named(words[k] || "");
   if (k === 0) {
     const other = commandLike(words[0]);
+    if (words[0].includes("[") && readExpression(words[0]).isWhole) return sentence("no basis", { word });
     return other ? sentence("meant", { word, other }) : sentence("no command", { word });
   }
   const { places, next, mayEnd } = walk(words.slice(0, k));

@@ -2,6 +2,7 @@
 from __future__ import annotations
 
 import os
+import random
 import time
 from collections import deque
 from concurrent.futures import Executor, Future, ThreadPoolExecutor
@@ -131,19 +132,35 @@ class Slot:
         return [*(self.done.outcomes if self.done else ()), *(outcome for it in self.rest for outcome in it.outcomes())]
 
 
-def in_turn(hands: List[List[Outcome]]) -> Iterator[Outcome]:
-    """The outcomes of lines that were dealt out one by one, in the order of the lines."""
-    return (hand[i] for i in range(len(hands[0])) for hand in hands if i < len(hand))
+class Deal:
+    """Lines that are dealt out one by one, like cards, each hand a piece: heavy lines are often neighbours, and those of one window are not
+    shared. With which hand each round begins is drawn, so that no hand has all heavy lines if, say, each fourth is heavy."""
+
+    def __init__(self, lines: List[str], count: int, draw: random.Random) -> None:
+        starts = (draw.randrange(count) for _ in range(0, len(lines), count))
+        self._whose = [(start + i) % count for start in starts for i in range(count)][: len(lines)]
+        hands: List[List[str]] = [[] for _ in range(count)]
+        for line, whose in zip(lines, self._whose):
+            hands[whose].append(line)
+        self.slots = [Slot(it) for it in hands]
+
+    def is_whole(self) -> bool:
+        return all(it.is_whole() for it in self.slots)
+
+    def outcomes(self) -> Iterator[Outcome]:
+        """The outcomes in the order of the lines."""
+        hands = [iter(it.outcomes()) for it in self.slots]
+        return (next(hands[whose]) for whose in self._whose)
 
 
 class Spread:
-    """Lines that are handed out in pieces, whose outcomes come in the order of the lines.
-
-    `dealt` pieces at a time are dealt line by line, like cards: heavy lines are often neighbours, and those of one window are not shared."""
+    """Lines that are handed out in pieces, `dealt` of them at a time, whose outcomes come in the order of the lines."""
 
     def __init__(self, submit: "Callable[[List[str]], Future[Done]]", lines: Iterator[str], at_a_time: int, dealt: int) -> None:
         self._submit, self._lines, self._at_a_time, self._dealt = submit, lines, at_a_time, dealt
-        self._deals: Deque[List[Slot]] = deque()
+        self._deals: Deque[Deal] = deque()
+        # (the same draws each time, so that what is slow once can be seen again)
+        self._draw = random.Random(0)
         self._cut: Deque[Slot] = deque()
         self._running: Set[Slot] = set()
         self._finished: "SimpleQueue[Slot]" = SimpleQueue()
@@ -156,8 +173,8 @@ class Spread:
             count = self._dealt if self._size >= 2 else 1
             lines = list(islice(self._lines, int(self._size) * count))
             if lines:
-                self._deals.append([Slot(lines[i::count]) for i in range(min(count, len(lines)))])
-                self._cut.extend(self._deals[-1])
+                self._deals.append(Deal(lines, min(count, len(lines)), self._draw))
+                self._cut.extend(self._deals[-1].slots)
         return self._cut.popleft() if self._cut else None
 
     def _hand_out(self) -> None:
@@ -184,8 +201,8 @@ class Spread:
         try:
             while True:
                 self._hand_out()
-                while self._deals and all(it.is_whole() for it in self._deals[0]):
-                    yield from in_turn([it.outcomes() for it in self._deals.popleft()])
+                while self._deals and self._deals[0].is_whole():
+                    yield from self._deals.popleft().outcomes()
                     self._hand_out()
                 if not self._running:
                     return

@@ -8,6 +8,26 @@ from typing import Iterator, List, Optional, Sequence, Tuple
 from ._ways import ANSWER, NO_MEMORY, NO_TEXT, PATIENCE, QUESTION, NoCalculator, no_memory
 
 
+# The room for a first text; where a longer text has been, so much is kept at most for the next.
+ROOM, MOST_KEPT = 1 << 16, 1 << 24
+
+
+class Buffer:
+    """Where the library leaves its texts, one after the other. The addresses are numbers, which ctypes passes on the fastest."""
+
+    def __init__(self, room: int) -> None:
+        self.room, held, self.length = room, ctypes.create_string_buffer(room), ctypes.c_size_t()
+        self.bytes = memoryview(held).cast("B")
+        self.place = ctypes.addressof(held), room, ctypes.addressof(self.length)
+
+
+class Buffers(threading.local):
+    """A buffer for each thread."""
+
+    def __init__(self) -> None:
+        self.buffer = Buffer(ROOM)
+
+
 class Library:
     """The C library. Calls from several threads do not disturb each other, and run at the same time."""
 
@@ -20,9 +40,9 @@ class Library:
         except AttributeError:
             raise NoCalculator(f"{path} is not the library of calc: it has no calc_run") from None
         size = ctypes.c_size_t
-        self._run.argtypes = [ctypes.c_char_p, size, ctypes.c_char_p, size, ctypes.c_char_p, size, ctypes.POINTER(size)]
+        self._run.argtypes = [ctypes.c_char_p, size, ctypes.c_char_p, size, ctypes.c_void_p, size, ctypes.c_void_p]
         self._run.restype = ctypes.c_uint8
-        self._own = threading.local()
+        self._own = Buffers()
         self._meet()
 
     def _meet(self) -> None:
@@ -36,17 +56,16 @@ class Library:
 
     def run(self, line: bytes, given: bytes = b"") -> "Tuple[int, bytes]":
         """The status of the line's command, and its text. The text is asked for once more if it is longer than the buffer."""
-        own = self._own
-        if not hasattr(own, "buffer"):
-            own.buffer, own.needed = ctypes.create_string_buffer(1 << 16), ctypes.c_size_t()
-        status = self._run(line, len(line), given, len(given), own.buffer, len(own.buffer), ctypes.byref(own.needed))
-        while own.needed.value > len(own.buffer):
-            own.buffer = ctypes.create_string_buffer(own.needed.value)
-            status = self._run(line, len(line), given, len(given), own.buffer, len(own.buffer), ctypes.byref(own.needed))
-        text = ctypes.string_at(own.buffer, own.needed.value)
-        if len(own.buffer) > 1 << 24:
-            del own.buffer
-        return status, text
+        buffer = self._own.buffer
+        status = self._run(line, len(line), given, len(given), *buffer.place)
+        length = buffer.length.value
+        while length > buffer.room:
+            buffer = Buffer(length)
+            status = self._run(line, len(line), given, len(given), *buffer.place)
+            length = buffer.length.value
+            if length <= MOST_KEPT:
+                self._own.buffer = buffer
+        return status, buffer.bytes[:length].tobytes()
 
     def _text(self, line: bytes, given: bytes = b"") -> str:
         status, text = self.run(line, given)

@@ -56,10 +56,12 @@ def sent(line: str) -> Optional[bytes]:
     """
     if not isinstance(line, str):
         raise TypeError(f"a line is a string, and {line!r} is not")
-    data = (line[:-1] if line.endswith("\n") else line).encode("utf-8", "surrogatepass")
+    data = line.encode("utf-8", "surrogatepass")
     if b"\n" in data:
-        data = data.replace(b"\n", b"\x01")
-        return b"\x01" + data if is_passed_over(data) else data
+        data = data[:-1] if data.endswith(b"\n") else data
+        if b"\n" in data:
+            data = data.replace(b"\n", b"\x01")
+            return b"\x01" + data if is_passed_over(data) else data
     return None if is_passed_over(data) else data
 
 

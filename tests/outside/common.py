@@ -9,7 +9,7 @@ import tempfile
 from collections import Counter
 from fractions import Fraction
 
-SECONDS = 120
+SECONDS = 600
 
 
 def printed(*words, given=""):

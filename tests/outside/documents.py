@@ -1,10 +1,12 @@
 #!/usr/bin/env python3
-"""Runs the Python and the shell of docs/FROM_OTHER_PROGRAMS.md with the built program: `documents.py PROGRAM`.
+"""Runs the Python and the shell of docs/FROM_OTHER_PROGRAMS.md, and the commands of its tables, with the built program: `documents.py
+PROGRAM`. (Its examples of the package are run by tests/python_package, and those of the C library by tests/release.)
 
 The lines that share a file of commands out over processors are run over light and over heavy lines, and write what one batch of the file
 writes, with its status."""
 import os
 import re
+import shlex
 import subprocess
 import sys
 import tempfile
@@ -33,6 +35,15 @@ def is_shared(program, pieces, text, wanted):
     return right
 
 
+def is_answered(program, typed):
+    """Whether a command of the tables has an answer."""
+    done = subprocess.run([program, *shlex.split(typed)], capture_output=True, text=True)
+    right = done.returncode == 0 and done.stdout and not done.stderr
+    if not right:
+        print(f"calc {typed}: status {done.returncode}, {done.stdout}{done.stderr}")
+    return right
+
+
 def main():
     program = os.path.abspath(sys.argv[1])
     path = os.path.join(os.path.dirname(os.path.abspath(__file__)), "..", "..", "docs", "FROM_OTHER_PROGRAMS.md")
@@ -43,7 +54,8 @@ def main():
         exec(compile(piece.replace('"./calc"', repr(program)), "FROM_OTHER_PROGRAMS.md", "exec"), {})
     shared, *runs = [it for it in pieces_of(text, "sh") if "in_pieces" in it]
     tried = [is_shared(program, [shared, run], lines, status) for run, lines, status in zip(runs, (LIGHT, HEAVY), (0, 1))]
-    return not (python and len(runs) == 2 and all(tried))
+    answered = [is_answered(program, typed) for typed in re.findall(r"^\| `calc (.*?)` \|", text, re.MULTILINE)]
+    return not (python and len(runs) == 2 and all(tried) and len(answered) > 20 and all(answered))
 
 
 if __name__ == "__main__":

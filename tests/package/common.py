@@ -1,6 +1,7 @@
 """What the tests of the Python package share. Each test is a function `test_..` of a file of this folder without parameters, which
 tests/python_package calls in a process of its own, so that one that hangs stops no other."""
 import os
+import signal
 import subprocess
 import sys
 import time
@@ -72,6 +73,8 @@ def comes(is_so):
 
 def main(tests):
     """Runs the test that the command line names."""
+    # (what a shell starts in the background ignores Ctrl-C)
+    signal.signal(signal.SIGINT, signal.default_int_handler)
     try:
         tests[sys.argv[1]]()
     except Skipped as why:

@@ -6,6 +6,7 @@ import subprocess
 import sys
 import threading
 import time
+from contextlib import contextmanager
 from itertools import islice
 
 from common import LIBRARY, PROGRAM, Skipped, comes, main, raises, same, within
@@ -36,6 +37,16 @@ def running():
     return {pid: it[3] for pid, it in found.items() if it and (it[0], it[2]) == mine}
 
 
+@contextmanager
+def ended(seconds):
+    """The processes that run are ended in the body, and not by themselves at the end of their commands."""
+    before = set(running())
+    with within(seconds):
+        yield
+    left = before & set(running())
+    assert before and not left, (before, left)
+
+
 def once_busy(action):
     """Does something in a thread of its own as soon as a process of the program has computed for 0.3 s from now on."""
     before = running()
@@ -62,7 +73,7 @@ def works_on(calc=CALC):
 
 def test_a_time_limit_ends_a_command():
     for _ in range(3):
-        with within(1.5), raises(TimeoutError, "0.5 s", "mult 13"):
+        with ended(1.5), raises(TimeoutError, "0.5 s", "mult 13"):
             CALC.mult(LONG, LONG, timeout=0.5)
         works_on()
     comes(lambda: len(running()) == 1)
@@ -75,7 +86,7 @@ def test_a_time_limit_ends_a_command():
 def test_ctrl_c_ends_a_command():
     for _ in range(3):
         once_busy(interrupt)
-        with within(1.5), raises(KeyboardInterrupt):
+        with ended(1.5), raises(KeyboardInterrupt):
             CALC.mult(LONG, LONG)
         works_on()
     comes(lambda: len(running()) == 1)
@@ -139,12 +150,12 @@ def test_closing_ends_what_other_threads_run():
 
 def test_threads_work_at_the_same_time():
     """A command that takes long holds up no other thread."""
-    calc, ended, is_busy = Calculator(program=PROGRAM), [], threading.Event()
+    calc, done, is_busy = Calculator(program=PROGRAM), [], threading.Event()
 
     def long():
         with raises(NoCalculator, "closed"):
             calc.mult(LONG, LONG)
-        ended.append(True)
+        done.append(True)
 
     thread = threading.Thread(target=long)
     once_busy(is_busy.set)
@@ -152,10 +163,10 @@ def test_threads_work_at_the_same_time():
     is_busy.wait()
     with within(1):
         works_on(calc)
-    same(ended, [])
+    same(done, [])
     calc.close()
     thread.join()
-    same(ended, [True])
+    same(done, [True])
 
 
 STAIRS = tuple(range(30, 0, -1)), tuple(range(29, 0, -1))
